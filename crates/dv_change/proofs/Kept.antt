@@ -37,6 +37,12 @@ module _ {T : Type 0} (left : T → Positioned) (others : T → List Positioned)
   work-taken [] out rows (Named i) change taken = refl
   work-taken (t ∷ ts) out rows input change taken = ap (work_in input change (forms_of left others makes sound (t ∷ ts))) taken.0.1
 
+  -- and what they make of a change
+  pub pass-taken : (ts : List T) (out rows : Positioned) (input : Input) (change : Change) → HasTaken left others makes sound ts out rows → pass_in input change (forms_of left others makes sound ts) (first_left left others makes sound ts) ≡ pass_in input change (forms_of left others makes sound ts) rows
+  pass-taken [] out rows Left change taken = refl
+  pass-taken [] out rows (Named i) change taken = refl
+  pass-taken (t ∷ ts) out rows input change taken = ap (pass_in input change (forms_of left others makes sound (t ∷ ts))) taken.0.1
+
   through-none : ((t : T) (named : List Positioned) → makes t named [] ≡ []) → (ts : List T) → through_forms (forms_of left others makes sound ts) [] ≡ []
   through-none empty [] = refl
   through-none empty (t ∷ ts) = ap (through_forms (forms_of left others makes sound ts)) (empty t (others t)) ∙ through-none empty ts

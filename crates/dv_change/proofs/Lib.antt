@@ -4,3 +4,6 @@ pub mod Coming
 pub mod Kept
 pub mod Beginning
 pub mod Lawful
+pub mod PartsAgain
+pub mod Behind
+pub mod Alone

@@ -1,5 +1,9 @@
 pub mod Positions
 pub mod PositionLaws
+pub mod PartCodes
+pub mod Places
+pub mod PlaceLaws
+pub mod Lents
 pub mod Changes
 pub mod Beginning
 pub mod Difference

@@ -28,7 +28,7 @@ number a = 0
 abbrev in_steps : Part → Part → Ordering
 in_steps = then_cmp (on kind nat_cmp) (then_cmp (on rising key_order) (then_cmp (on falling (flip_args key_order)) (on number nat_cmp)))
 
-then-equal : (o : Ordering) → ordering_then o Equal ≡ o
+pub then-equal : (o : Ordering) → ordering_then o Equal ≡ o
 then-equal Less = refl
 then-equal Equal = refl
 then-equal Greater = refl

@@ -19,7 +19,7 @@ use dv_value::NoMemory;
 use std::alloc::Global;
 use std::marker::Model;
 
-/// Turns one behind the other, each of which takes in what the one before it hands on.
+/// Operators one after the other. Each takes in the changes that the one before it returns.
 #[derive(Drop)]
 pub struct Chain<T: Turn + Drop> {
     alloc: Global,
@@ -44,9 +44,9 @@ impl<T: Turn + Drop> Chain<T> {
         Chain { alloc, turns }
     }
 
-    /// Takes in a change of an input, and puts what comes out of the last turn behind what is in `out`. The lists that turns
-    /// look into are counted from 0 through all of them. Fails where memory is wanting; then it is spent and may only be
-    /// dropped, `out` may have grown at its end, and `ticks` may have risen.
+    /// Takes in a change of an input, and appends the changes that the last operator returns to `out`. The lists that operators
+    /// look into are counted from 0 through all of them. Fails with `NoMemory` when memory runs out; then it is spent and may only
+    /// be dropped, `out` may have grown at its end, and `ticks` may have risen.
     pub fn change(
         &mut self,
         input: Input,
@@ -75,8 +75,8 @@ impl<T: Turn + Drop> Chain<T> {
         )
     }
 
-    /// Takes in rows where it has taken in nothing, as the changes leave them that put them in. Gives changes that lead to what
-    /// the last turn makes; counts nothing. Fails where memory is wanting; then it is spent and may only be dropped.
+    /// Takes in its first rows, by the changes that put them in. Returns changes that lead to what the last operator makes; counts
+    /// nothing. Fails with `NoMemory` when memory runs out; then it is spent and may only be dropped.
     pub fn fill(&mut self, changes: Vec<Change>) -> Result<Vec<Change>, NoMemory>
         requires { IsLinked T.left T.others T.makes T.sound self.old [] }
         ensures forms { OnOk result (forms_of T.left T.others T.makes T.sound self.new ≡ forms_of T.left T.others T.makes T.sound self.old) }

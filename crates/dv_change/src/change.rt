@@ -9,14 +9,14 @@ use dv_value::{Document, NoMemory};
 /// What changed in a list of rows at positions.
 #[derive(Debug, Drop)]
 pub enum Change {
-    /// The row stands at the position from now on, in the place of the one that stood there, if any did.
+    /// From now on the row is at the position, in place of the one that was there, if any.
     Put {
         /// The position.
         pos: Pos,
         /// The row.
         row: Document,
     },
-    /// No row stands at the position any more.
+    /// There is no row at the position any more.
     Gone {
         /// The position.
         pos: Pos,
@@ -24,7 +24,7 @@ pub enum Change {
 }
 
 impl Change {
-    /// A copy of its own, whose row shares its memory. Fails where memory is wanting.
+    /// A copy of its own, whose row shares its memory. Fails with `NoMemory` when memory runs out.
     pub fn try_clone(&self) -> Result<Self, NoMemory>
         ensures { IfOk result (λ copy. copy ≡ self.now) }
     {

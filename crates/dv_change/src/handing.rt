@@ -13,9 +13,9 @@ use crate::ticks::Ticks;
 use dv_order::same_documents;
 use dv_value::{Document, NoMemory};
 
-/// Hands on what leads from the old rows to the new ones: each position that goes, and then each row that comes or isn't the
-/// same, behind what is in `out`. Counts 1 for the change that it is owed for, and 1 for each that is handed on. Fails where
-/// memory is wanting; then `out` may have grown at its end.
+/// Appends the changes that lead from the old rows to the new ones to `out`: each position that goes, and then each row that comes
+/// or isn't the same. Counts 1 for the change that caused this, and 1 for each change that is returned. Fails with `NoMemory` when
+/// memory runs out; then `out` may have grown at its end.
 pub fn hand_on(
     old: &Ordered<Document>,
     new: &Ordered<Document>,

@@ -15,7 +15,7 @@ ghost use Rattle.dv_change.specs.Raised.{raised};
 ghost use Rattle.dv_change.specs.Work.{pass_in, work_in};
 ghost use Rattle.dv_order.specs.Key.{KeyTree};
 
-/// Positions that stand beside each other are one, where their keys are those of values, or the one that no value has.
+/// Positions that are equal in the order are identical, if their keys are those of values, or the one that no value has.
 #[tactic(auto, using(crate::proofs::Lawful::lawful))]
 pub fn equal_positions_are_one()
     ensures { (p q : PosTree) → IsExact p → IsExact q → pos_order p q ≡ Equal → p ≡ q }
@@ -38,13 +38,13 @@ pub fn a_difference_leads_from_old_to_new()
     ensures { (old new : Positioned) → IsPositioned old → IsPositioned new → with_changes old (diff old new) ≡ new }
 {}
 
-/// A part that rises stands before one that falls, and either before a number, whatever they hold.
+/// A part that rises comes before one that falls, and either comes before a number, whatever they hold.
 pub fn positions_by_example()
     ensures rising_first { (k l : KeyTree) → part_order (Up k) (Down l) ≡ Less }
     ensures number_last { (k : KeyTree) (n : ℕ) → part_order (Down k) (At n) ≡ Less }
 {}
 
-/// What goes comes first, and what stays as it is isn't told.
+/// What goes comes first, and what stays as it is isn't in the difference.
 pub fn examples_of_differences()
     ensures nothing { diff ((place 0, numbered_row 1) ∷ []) ((place 0, numbered_row 1) ∷ []) ≡ [] }
     ensures each_kind { diff ((place 0, numbered_row 1) ∷ (place 1, numbered_row 2) ∷ (place 2, numbered_row 3) ∷ []) ((place 1, numbered_row 2) ∷ (place 2, numbered_row 4) ∷ (place 3, numbered_row 5) ∷ []) ≡ Gone (place 0) ∷ Put (place 2) (numbered_row 4) ∷ Put (place 3) (numbered_row 5) ∷ [] }
@@ -57,7 +57,7 @@ pub fn examples_of_counts()
     ensures at_the_limit { raised 9223372036854775806 5 ≡ 9223372036854775807 }
 {}
 
-/// Each change between two stages counts twice: as it is handed on, and as it is taken in.
+/// Each change between two stages counts twice: when it is returned, and when it is taken in.
 pub fn examples_of_work()
     ensures no_stage { pass_in Left (Gone (place 0)) [] [] ≡ Gone (place 0) ∷ [] }
     ensures no_work_without_a_stage { work_in Left (Gone (place 0)) [] [] ≡ 0 }

@@ -50,8 +50,8 @@ impl<T: Turn + Drop> Live<T> {
         }
     }
 
-    /// Takes in a change of an input, and puts what changes of its rows behind what is in `told`. Fails where memory is
-    /// wanting; then all is dropped, and `told` may have grown at its end.
+    /// Takes in a change of an input, and appends what changes of its rows to `told`. Fails with `NoMemory` when memory runs out;
+    /// then all is dropped, and `told` may have grown at its end.
     pub fn take(
         self,
         input: Input,
@@ -75,8 +75,8 @@ impl<T: Turn + Drop> Live<T> {
         Ok(live)
     }
 
-    /// Takes in rows where it has taken in nothing, as the changes leave them that put them in, and counts nothing. Fails where
-    /// memory is wanting; then all is dropped.
+    /// Takes in its first rows, by the changes that put them in, and counts nothing. Fails with `NoMemory` when memory runs out;
+    /// then all is dropped.
     pub fn fill(self, changes: Vec<Change>) -> Result<Self, NoMemory>
         requires { HasTaken T.left T.others T.makes T.sound self.chain self.rows.entries [] }
         ensures forms { IfOk result (λ live. forms_of T.left T.others T.makes T.sound live.chain ≡ forms_of T.left T.others T.makes T.sound self.chain) }
@@ -114,7 +114,7 @@ impl<T: Turn + Drop> Live<T> {
         self.rows.iter()
     }
 
-    /// The rows whose positions stand between two ends, each with its position, in the order of these. Takes no memory.
+    /// The rows whose positions are between two ends, each with its position, in the order of these. Takes no memory.
     pub fn between(&self, low: Bound<Pos>, high: Bound<Pos>) -> Range<'_, Pos, Document>
         requires { IsForward (IsLeBy pos_order) (IsLtBy pos_order) low high }
         ensures { result ≡ filter (λ e. range_contains pos_order low high e.0) self.now.rows.entries }
@@ -136,8 +136,8 @@ impl<T: Turn + Drop> Live<T> {
         self.rows.is_empty()
     }
 
-    /// The count of the work that its changes took: for each turn, 1 for each change that came to it and 1 for each that it
-    /// handed on.
+    /// The count of the work that its changes took: for each operator, 1 for each change that it took in and 1 for each that it
+    /// returned.
     pub fn ticks(&self) -> u64
         ensures { result ≡ self.now.ticks }
     {

@@ -12,7 +12,7 @@ use std::collections::BTreeMap;
 use std::collections::btree_map::Iter;
 use std::marker::Model;
 
-/// Values at positions, in their order. The first one stands beside the tree, which takes room for many as soon as it has one.
+/// Values at positions, in their order. The first one is kept outside the tree, which takes room for many as soon as it has one.
 #[derive(Drop)]
 pub struct Ordered<V> {
     first: Option<(Pos, V)>,
@@ -48,8 +48,8 @@ impl<V: Drop> Ordered<V> {
         }
     }
 
-    /// The values with one more, which comes in the place of one that stands at its position. Fails where memory is wanting;
-    /// then all are dropped.
+    /// The values with one more, which replaces the one at its position, if any. Fails with `NoMemory` when memory runs out; then
+    /// all are dropped.
     pub fn with(self, pos: Pos, value: V) -> Result<Self, NoMemory>
         ensures { IfOk result (λ more. more ≡ put pos value self) }
     {
@@ -83,7 +83,7 @@ impl<V: Drop> Ordered<V> {
         }
     }
 
-    /// The values without the one at the position, where one stands there.
+    /// The values without the one at the position, if there is one.
     pub fn without(self, pos: &Pos) -> Self
         ensures { result ≡ gone pos.now self }
     {
@@ -121,14 +121,14 @@ impl<V: Drop> Ordered<V> {
         }
     }
 
-    /// The values behind the first one, each with its position, in their order.
+    /// The values after the first one, each with its position, in their order.
     pub fn others(&self) -> Iter<'_, Pos, V>
         ensures { result ≡ drop 1 self.now }
     {
         self.others.iter()
     }
 
-    /// The value at the position, where one stands there.
+    /// The value at the position, if there is one.
     pub fn get(&self, pos: &Pos) -> Option<&V>
         ensures { option_map (λ value. value.now) result ≡ found_at pos.now self.now }
     {

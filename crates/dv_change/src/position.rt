@@ -6,13 +6,14 @@ ghost use Rattle.std.specs.Ordering.{as_partial_cmp, eq_by_cmp};
 ghost use Rattle.dv_change.specs.Positions.{IsExact, IsExactPart, kind, part_order, pos_order};
 ghost use Rattle.dv_change.specs.PositionLaws.{part_order_total, pos_order_total};
 
+use crate::lent::Lent;
+use crate::place::Place;
 use dv_order::Key;
 use dv_value::NoMemory;
 use std::alloc::Global;
 use std::cmp::Ordering;
 use std::marker::Model;
 use std::mem::size_of;
-use std::rc::Rc;
 
 /// One part of a position.
 #[derive(Debug, Drop)]
@@ -26,7 +27,7 @@ pub enum Part {
 }
 
 impl Part {
-    /// A copy of its own. Fails where memory is wanting.
+    /// A copy of its own. Fails with `NoMemory` when memory runs out.
     pub fn try_clone(&self) -> Result<Self, NoMemory>
         ensures { IfOk result (λ copy. copy ≡ self.now) }
     {
@@ -103,20 +104,21 @@ impl Ord for Part {
     }
 }
 
-/// Where a row stands among others: the first parts that differ decide, and else the one with fewer parts stands first.
-/// Copies share their parts.
-#[derive(Debug, Drop)]
+/// The place of a row among others: the first parts that differ decide, and else the one with fewer parts comes first. Copies share
+/// what they don't hold themselves.
+#[derive(Debug)]
 pub struct Pos {
-    parts: Rc<Vec<Part>>,
+    place: Place,
 }
 
-/// A word, whatever its parts take.
-const _: () = prove!(size_of::<Pos>() == 8);
+/// Three words. One part or two of those that are told by their codes take no more, nor does an ascending text of at most 22 bytes.
+const _: () = prove!(size_of::<Pos>() == 24);
 
 impl Model for Pos {
     ghost use Rattle.std.specs.Prelude.{List};
     ghost use Rattle.dv_change.specs.declared.position.Part.{Part};
     ghost use Rattle.dv_change.specs.Positions.{IsExact};
+    ghost use Rattle.dv_change.specs.Places.{IsValid, parts_of};
 
     ghost Value = { List Part };
 
@@ -125,62 +127,109 @@ impl Model for Pos {
 
     ghost coded = { Prim.hlevel (codes, keys.the_row.coded) };
 
-    ghost view = { λ p. p.parts.value.items };
+    ghost view = { λ p. parts_of p.place };
 
-    ghost invariant = { λ p. IsExact p.parts.value.items };
+    ghost invariant = { λ p. IsExact (parts_of p.place) × IsValid p.place };
+}
+
+// Written out, so that whoever drops a position calls this and knows nothing of what is in it.
+impl Drop for Pos {
+    fn drop(self) {
+        let Pos { place: _place } = self;
+    }
 }
 
 impl Pos {
-    /// The position of these parts. Fails where memory is wanting.
+    /// The position of these parts. Fails with `NoMemory` when memory runs out.
     pub fn of(alloc: Global, parts: Vec<Part>) -> Result<Self, NoMemory>
         ensures { IfOk result (λ pos. pos ≡ parts.items) }
     {
         are_exact(parts.as_slice());
         Ok(Pos {
-            parts: Rc::new(alloc, parts)?,
+            place: Place::of(alloc, parts)?,
         })
     }
 
-    /// The parts. Takes no memory.
-    pub fn as_slice(&self) -> &[Part]
-        ensures { result.now ≡ self.now }
+    /// The position of one part. Fails where memory is wanting, and takes none where the part is told by its code.
+    pub fn of_part(alloc: Global, part: Part) -> Result<Self, NoMemory>
+        ensures { IfOk result (λ pos. pos ≡ part ∷ []) }
     {
-        self.parts.as_slice()
+        part.is_exact();
+        if let Some(place) = Place::alone(alloc, &part)? {
+            return Ok(Pos { place });
+        }
+        let mut parts = Vec::with_capacity(alloc, 1)?;
+        parts.push(part)?;
+        Pos::of(alloc, parts)
+    }
+
+    /// The position with this part in front. Fails where memory is wanting, and takes none where both are told by codes.
+    pub fn behind_part(&self, alloc: Global, part: Part) -> Result<Self, NoMemory>
+        ensures { IfOk result (λ pos. pos ≡ part ∷ self.now) }
+    {
+        part.is_exact();
+        if let Some(place) = self.place.behind_part(&part) {
+            return Ok(Pos { place });
+        }
+        let mut parts = self.room_for_more(alloc)?;
+        parts.push(part)?;
+        self.behind(alloc, parts)
     }
 
     /// That each key of its parts is that of some value, or the one that no value has. Does nothing.
     pub fn is_exact(&self)
         ensures { IsExact self.now }
     {
-        let _ = &self.parts;
+        let _ = &self.place;
     }
 
-    /// A copy that shares its memory. Fails where memory is wanting.
+    /// A copy that shares its memory. Fails with `NoMemory` when memory runs out.
     pub fn try_clone(&self) -> Result<Self, NoMemory>
         ensures { IfOk result (λ copy. copy ≡ self.now) }
     {
         Ok(Pos {
-            parts: self.parts.clone()?,
+            place: self.place.try_clone()?,
         })
     }
 
-    /// The position with these parts in front. Fails where memory is wanting.
+    /// Appends copies of its parts. Fails with `NoMemory` when memory runs out.
+    pub fn push_to(&self, all: &mut Vec<Part>) -> Result<(), NoMemory>
+        ensures { OnOk result (all.new.items ≡ all.old.items ++ self.now) }
+    {
+        match self.place.lent() {
+            Lent::Alone(key) => {
+                let key = key.to_key(*all.allocator())?;
+                all.push(Part::Up(key))?;
+                Ok(())
+            }
+            Lent::Together(parts) => push_all(all, parts.as_slice()),
+        }
+    }
+
+    /// The position with these parts put before its own. Fails with `NoMemory` when memory runs out.
     pub fn behind(&self, alloc: Global, parts: Vec<Part>) -> Result<Self, NoMemory>
         ensures { IfOk result (λ pos. pos ≡ parts.items ++ self.now) }
     {
         let mut all = parts;
-        push_all(&mut all, self.as_slice())?;
+        self.push_to(&mut all)?;
         Pos::of(alloc, all)
     }
 
-    /// The position with one more part behind. Fails where memory is wanting.
+    /// The position with one more part at its end. Fails with `NoMemory` when memory runs out.
     pub fn with(&self, alloc: Global, part: Part) -> Result<Self, NoMemory>
         ensures { IfOk result (λ pos. pos ≡ self.now ++ part ∷ []) }
     {
-        let mut all = Vec::with_capacity(alloc, self.parts.len().saturating_add(1))?;
-        push_all(&mut all, self.as_slice())?;
+        let mut all = self.room_for_more(alloc)?;
+        self.push_to(&mut all)?;
         all.push(part)?;
         Pos::of(alloc, all)
+    }
+
+    /// Room for its parts and one more. Fails where memory is wanting.
+    fn room_for_more(&self, alloc: Global) -> Result<Vec<Part>, NoMemory>
+        ensures { IfOk result (λ parts. parts.items ≡ []) }
+    {
+        Ok(Vec::with_capacity(alloc, self.place.len().saturating_add(1))?)
     }
 }
 
@@ -237,6 +286,6 @@ impl Ord for Pos {
     ghost matches_eq = { λ x y. refl };
 
     fn cmp(&self, other: &Pos) -> Ordering {
-        self.as_slice().cmp(other.as_slice())
+        self.place.order(&other.place)
     }
 }

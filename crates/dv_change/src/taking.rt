@@ -8,18 +8,18 @@ use crate::position::Pos;
 use dv_value::{Document, NoMemory};
 use std::collections::BTreeMap;
 
-/// What a change made of rows: where, which row stood there, and which one stands there now.
+/// What a change made of rows: at which position, which row was there, and which one is there now.
 #[derive(Debug, Drop)]
 pub struct Taken {
     /// The position.
     pub pos: Pos,
-    /// The row that stood there, if any did.
+    /// The row that was there, if any.
     pub old: Option<Document>,
-    /// The row that stands there now, if any does.
+    /// The row that is there now, if any.
     pub new: Option<Document>,
 }
 
-/// Takes a change into the rows, which stand in the order of their positions. Fails where memory is wanting.
+/// Takes a change into the rows, which are in the order of their positions. Fails with `NoMemory` when memory runs out.
 pub fn take_in(rows: &mut BTreeMap<Pos, Document>, change: Change) -> Result<Taken, NoMemory>
     requires { IsPositioned rows.old.entries }
     ensures exact { IsExactChange change }

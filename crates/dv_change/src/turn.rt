@@ -13,7 +13,7 @@ use crate::input::Input;
 use crate::ticks::Ticks;
 use dv_value::NoMemory;
 
-/// A stage of a pipeline that keeps what it has taken in, and hands on what changes of its rows.
+/// An operator: a stage of a pipeline that keeps what it has taken in, and returns what changes of its rows.
 pub trait Turn {
     /// The rows that it has taken in.
     ghost left: { Self → Positioned };
@@ -31,9 +31,9 @@ pub trait Turn {
     fn named(&self) -> usize
         ensures { result ≡ length (others self.now) };
 
-    /// Takes in a change of an input, and hands on what changes of its rows, behind what is in `out`. Counts 1 for the change
-    /// and 1 for each that it hands on. Fails where memory is wanting; then it is spent and may only be dropped, `out` may
-    /// have grown at its end, and `ticks` may have risen.
+    /// Takes in a change of an input, and appends what changes of its rows to `out`. Counts 1 for the change and 1 for each that it
+    /// returns. Fails with `NoMemory` when memory runs out; then it is spent and may only be dropped, `out` may have grown at its
+    /// end, and `ticks` may have risen.
     fn change(
         &mut self,
         input: Input,
@@ -52,8 +52,8 @@ pub trait Turn {
         ensures begins { OnErr result (BeginsWith out.new.items out.old.items) }
         ensures no_fewer { OnErr result (ticks.old ≤ ticks.new) };
 
-    /// Takes in rows where it has taken in none, as the changes leave them that put them in. Gives changes that lead to what it
-    /// makes of these rows; counts nothing. Fails where memory is wanting; then it is spent and may only be dropped.
+    /// Takes in its first rows, by the changes that put them in. Returns changes that lead to what it makes of these rows; counts
+    /// nothing. Fails with `NoMemory` when memory runs out; then it is spent and may only be dropped.
     fn fill(&mut self, changes: Vec<Change>) -> Result<Vec<Change>, NoMemory>
         requires sound { sound self.old }
         requires empty { left self.old ≡ [] }

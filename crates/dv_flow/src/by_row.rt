@@ -12,7 +12,7 @@ use dv_value::{Document, NoMemory};
 use std::alloc::Global;
 use std::collections::BTreeMap;
 
-/// A stage that makes its rows of each row by itself, at positions that tell of which row they are.
+/// A stage that makes its rows of each row by itself, at positions that say which row they are made of.
 pub trait ByRow {
     /// What it makes of rows.
     ghost makes: { Self → Positioned → Positioned };
@@ -20,13 +20,14 @@ pub trait ByRow {
     /// The position of the row of which it makes one at the position.
     ghost origin: { Self → PosTree → PosTree };
 
-    /// A copy of its own. Fails where memory is wanting.
+    /// A copy of its own. Fails with `NoMemory` when memory runs out.
     fn try_clone(&self) -> Result<Self, NoMemory>
     where
         Self: Sized,
         ensures { IfOk result (λ copy. copy ≡ self.now) };
 
-    /// What it makes of a row at a position. A row that it made before may lend its names. Fails where memory is wanting.
+    /// What it makes of a row at a position. A row that it made before may lend its names. Fails with `NoMemory` when memory runs
+    /// out.
     fn rows_of(
         &self,
         alloc: Global,
@@ -52,7 +53,7 @@ pub trait ByRow {
     ghost single: { (s : Self) (rows : Positioned) (q p : PosTree) → IsPositioned rows → IsExact q → IsExact p → pos_order (origin s q) p ≡ Equal → at q (makes s rows) ≡ at q (makes s (alone p (at p rows))) };
 }
 
-/// A stage that makes its rows of each row by itself, kept by changes. Looks at the changed row alone.
+/// A stage that makes its rows of each row by itself, kept by changes. Looks only at the changed row.
 #[derive(Drop)]
 pub struct RowTurn<S> {
     alloc: Global,
@@ -63,7 +64,7 @@ pub struct RowTurn<S> {
 }
 
 impl<S: ByRow> RowTurn<S> {
-    /// The stage, where it has taken in nothing. Fails where memory is wanting.
+    /// The stage, which has taken in nothing. Fails with `NoMemory` when memory runs out.
     pub fn new(alloc: Global, stage: &S) -> Result<Self, NoMemory>
         ensures stage { IfOk result (λ t. t.stage ≡ stage.now) }
         ensures left { IfOk result (λ t. rows_left t ≡ []) }

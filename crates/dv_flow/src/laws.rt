@@ -41,8 +41,8 @@ pub fn a_project_hands_on_one_change()
     ensures { (project : Project) (rows : Positioned) (change : Change) → IsPositioned rows → IsExactChange change → length (diff (shown_at project rows) (shown_at project (with_change rows change))) ≤ 1 }
 {}
 
-/// Of the rows of elements, a change of a row changes at most as many as are made of the row that stood there and of the one that
-/// stands there now.
+/// A change of a row changes at most as many of the rows of elements as are made of the row that was there and of the one that is
+/// there now.
 #[tactic(auto, using(crate::proofs::Lawful::lawful))]
 pub fn an_unwind_hands_on_the_rows_of_a_row()
     ensures { (unwind : Unwind) (rows : Positioned) (change : Change) → IsPositioned rows → IsExactChange change → length (diff (unwound_at unwind rows) (unwound_at unwind (with_change rows change))) ≤ rows_made unwind (at (position_changed change) rows) + rows_made unwind (row_in change) }

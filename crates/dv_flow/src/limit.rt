@@ -21,12 +21,12 @@ pub struct LimitTurn {
     count: u64,
     /// The first rows, as many as are shown.
     front: BTreeMap<Pos, Document>,
-    /// The rows behind them.
+    /// The rows after them.
     rest: BTreeMap<Pos, Document>,
 }
 
 impl LimitTurn {
-    /// The first `count` rows, where it has taken in nothing.
+    /// The first `count` rows; it has taken in nothing.
     pub fn new(alloc: Global, count: u64) -> Self
         ensures count { result.count ≡ count }
         ensures left { limit_left result ≡ [] }

@@ -11,7 +11,7 @@ use crate::unwind::UnwindTurn;
 use dv_change::{Change, Input, Ticks, Turn};
 use dv_value::NoMemory;
 
-/// A stage of one of these kinds, kept by changes, so that they can stand in one chain.
+/// A stage of one of these kinds, kept by changes, so that they can be in one chain.
 #[derive(Drop)]
 pub enum SimpleTurn {
     /// `$match`.

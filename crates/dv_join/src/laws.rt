@@ -22,8 +22,8 @@ pub fn a_change_of_a_row_hands_on_one_change()
     ensures { (lookup : Lookup) (rows foreign : Positioned) (change : Change) → IsPositioned rows → IsExactChange change → length (diff (looked_up_at lookup rows foreign) (looked_up_at lookup (with_change rows change) foreign)) ≤ 1 }
 {}
 
-/// A change of a document changes at most as many as there are rows that share a value with the one that stood there or with the
-/// one that stands there now.
+/// A change of a document changes at most as many rows as share a value with the document that was there or with the one that is
+/// there now.
 pub fn a_change_of_a_document_hands_on_the_rows_that_share_a_value()
     ensures { (lookup : Lookup) (rows foreign : Positioned) (change : Change) → IsPositioned rows → IsPositioned foreign → IsExactChange change → length (diff (looked_up_at lookup rows foreign) (looked_up_at lookup rows (with_change foreign change))) ≤ rows_touched lookup (at (position_changed change) foreign) (row_in change) rows }
 {}

@@ -18,8 +18,8 @@ use dv_value::{Document, NoMemory};
 use std::alloc::Global;
 use std::collections::{BTreeMap, BTreeSet};
 
-/// Rows with the documents of another list that they are joined with, kept by changes of both. For a change of a row it looks
-/// at that row alone, and for a change of a document at the rows that share a key with it.
+/// Rows with the documents of another list that they are joined with, kept by changes of both. For a change of a row it looks only
+/// at that row, and for a change of a document at the rows that share a key with it.
 #[derive(Drop)]
 pub struct LookupTurn {
     alloc: Global,
@@ -33,7 +33,7 @@ pub struct LookupTurn {
 }
 
 impl LookupTurn {
-    /// The look-up, where it has taken in nothing. Fails where memory is wanting.
+    /// The look-up, which has taken in nothing. Fails with `NoMemory` when memory runs out.
     pub fn new(alloc: Global, lookup: &Lookup) -> Result<Self, NoMemory>
         ensures lookup { IfOk result (λ t. t.lookup ≡ lookup.now) }
         ensures left { IfOk result (λ t. lookup_left t ≡ []) }

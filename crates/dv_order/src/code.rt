@@ -13,13 +13,13 @@ use dv_value::Value;
 /// What a key is compared by first.
 #[derive(Clone, Copy, Debug, Drop)]
 pub struct KeyCode {
-    /// Where the key stands among the classes of values.
+    /// The class of the key's value, in the order of the classes.
     pub class: u8,
     /// Rises with the key inside its class.
     pub high: u64,
-    /// Rises with the key where the number above is the same.
+    /// Rises with the key among those with the same number above.
     pub low: u32,
-    /// Whether these tell the key.
+    /// Whether these determine the key.
     pub is_exact: bool,
 }
 

@@ -11,14 +11,14 @@ use crate::placed::value_at;
 use dv_value::{Document, List, Value};
 use std::cmp::Ordering;
 
-/// Whether `a` stands before `b` (`Less`), beside it (`Equal`) or after it (`Greater`).
+/// Whether `a` comes before `b` (`Less`), is equal to it (`Equal`) or comes after it (`Greater`).
 ///
-/// The classes of the two types decide first, from low to high: MinKey, null, numbers, strings, documents, arrays,
-/// binary data, ObjectIds, booleans, datetimes, timestamps, MaxKey. Within a class integers stand by their number,
-/// whatever their width, strings and ObjectIds by their bytes, binary data by its length, then its subtype, then its
-/// bytes, `false` before `true`, datetimes and timestamps by their number. Documents stand by their fields in written
-/// order (the class of the value, then the name, then the value) and arrays by their elements; where one ends first, it
-/// stands before the other. Takes no memory, and time at most linear in the smaller of the two.
+/// The classes of the two types decide first, from low to high: MinKey, null, numbers, strings, documents, arrays, binary data,
+/// ObjectIds, booleans, datetimes, timestamps, MaxKey. Within a class integers are ordered by their number, whatever their width,
+/// strings and ObjectIds by their bytes, binary data by its length, then its subtype, then its bytes, `false` before `true`,
+/// datetimes and timestamps by their number. Documents are ordered by their fields in written order (the class of the value, then
+/// the name, then the value) and arrays by their elements; if one ends first, it comes before the other. Takes no memory, and time
+/// at most linear in the smaller of the two.
 #[cycle(compare)]
 pub fn compare(a: &Value, b: &Value) -> Ordering
     ensures { result ≡ order (tree a.now) (tree b.now) }
@@ -132,8 +132,8 @@ fn compare_lists(a: &List, b: &List) -> Ordering
     xs.len().cmp(&ys.len())
 }
 
-/// Whether the classes of the two types are one, as `compare` tells them apart: int32 and int64 are both numbers, and
-/// any other two types differ. Takes no memory.
+/// Whether the two types have the same class, as in `compare`: int32 and int64 are both numbers, and any other two types differ.
+/// Takes no memory.
 pub fn same_class(a: &Value, b: &Value) -> bool
     ensures { result ≡ (class (tree a.now) == class (tree b.now)) }
 {

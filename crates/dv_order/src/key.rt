@@ -36,8 +36,8 @@ enum Source {
     First(Document),
 }
 
-/// The key of a value, or one that no value has. Keys stand as `compare` has their values, and are equal exactly where
-/// these differ in the width of integers at most. The key that no value has stands between those of MinKey and null.
+/// The key of a value, or one that no value has. Keys are ordered as `compare` orders their values, and are equal exactly if these
+/// differ at most in the width of integers. The key that no value has comes between those of MinKey and null.
 #[derive(Debug, Drop)]
 pub struct Key {
     source: Source,
@@ -58,7 +58,7 @@ impl Model for Key {
 /// The longest text in bytes of which each copy of a key has its own: a pointer that is shared takes as much.
 const OWN_TEXT: usize = 48;
 
-/// The key of the value, which holds a copy of it; copies of the key share it where it is long. Fails where memory is wanting.
+/// The key of the value, which holds a copy of it; copies of a long key share it. Fails with `NoMemory` when memory runs out.
 pub fn key_of(value: &Value) -> Result<Key, NoMemory>
     ensures { IfOk result (λ key. key ≡ key_of_tree (canon (tree value.now))) }
 {
@@ -125,7 +125,7 @@ impl Key {
         }
     }
 
-    /// A copy, which shares a long text. Fails where memory is wanting.
+    /// A copy, which shares a long text. Fails with `NoMemory` when memory runs out.
     pub fn try_clone(&self) -> Result<Self, NoMemory>
         ensures { IfOk result (λ copy. copy ≡ self.now) }
     {
@@ -166,7 +166,7 @@ impl Key {
         }
     }
 
-    /// The key that the parts of a code tell, which is the key of the code if that is exact. Takes no memory.
+    /// The key that the parts of a code give, which is the key of the code if that is exact. Takes no memory.
     pub fn of_code(class: u8, high: u64, low: u32) -> Self
         ensures { result ≡ key_of_code class high low }
     {
@@ -195,7 +195,7 @@ impl Key {
         }
     }
 
-    /// Where the key stands beside one that is lent. Takes no memory.
+    /// How the key compares to one that is lent. Takes no memory.
     #[tactic(auto, using(crate::specs::SameOrder::order_of_canon, crate::specs::SameOrder::class_of_canon))]
     pub fn compare_to(&self, other: &LentKey) -> Ordering
         ensures { result ≡ key_order self.now (lent_key other.now) }
@@ -233,9 +233,9 @@ impl Key {
     }
 }
 
-/// Puts the document in place of the one that stands in the map under the key of the new one's first value, and answers
-/// whether there is one; where there is none, the document is dropped. A document without fields has the key that no
-/// value has. Takes no memory, and time logarithmic in the map's length: while the key is looked up it owns the document.
+/// Puts the document in place of the one in the map under the key of the new document's first value, and returns whether there is
+/// one; if there is none, the document is dropped. A document without fields has the key that no value has. Takes no memory, and
+/// time logarithmic in the map's length: while the key is looked up it owns the document.
 #[tactic(auto, using(crate::proofs::Absent::set_value_absent))]
 pub fn replace_under_first(map: &mut BTreeMap<Key, Document>, document: Document) -> bool
     ensures documents { map.new.entries ≡ set_value (is_at (key_order (key_at (first_value document)))) map.old.entries document }

@@ -12,7 +12,7 @@ use dv_value::{Document, NoMemory, Str, Value};
 use std::alloc::Global;
 use std::cmp::Ordering;
 
-/// The key of a text or of a document, which stands elsewhere.
+/// The key of a text or of a document, which is owned elsewhere.
 #[derive(Clone, Copy, Debug, Drop)]
 pub enum LentKey<'a> {
     /// Of a text.
@@ -22,7 +22,7 @@ pub enum LentKey<'a> {
 }
 
 impl<'a> LentKey<'a> {
-    /// Where the key stands beside another one, as keys stand. Takes no memory.
+    /// How the key compares to another one, in the order of keys. Takes no memory.
     #[tactic(auto, using(crate::specs::SameOrder::order_of_canon))]
     pub fn compare(&self, other: &LentKey) -> Ordering
         ensures { result ≡ key_order (lent_key self.now) (lent_key other.now) }
@@ -34,7 +34,7 @@ impl<'a> LentKey<'a> {
         }
     }
 
-    /// The key, of its own. Fails where memory is wanting.
+    /// The key, of its own. Fails with `NoMemory` when memory runs out.
     pub fn to_key(&self, alloc: Global) -> Result<Key, NoMemory>
         ensures { IfOk result (λ key. key ≡ lent_key self.now) }
     {

@@ -39,18 +39,29 @@ pub(crate) fn gone(alloc: Global, number: u64) -> Result<Change, Fail> {
 type Told = (u64, Option<i32>);
 
 /// What the change tells.
-fn told(change: &Change) -> Told {
+fn told(alloc: Global, change: &Change) -> Result<Told, Fail> {
     let (pos, value) = match change {
         Change::Put { pos, row } => (pos, row.get("a")),
         Change::Gone { pos } => (pos, None),
     };
-    let Some(Part::At(last)) = pos.as_slice().last() else {
-        return (0, None);
+    let mut parts = Vec::new(alloc);
+    pos.push_to(&mut parts)?;
+    let Some(Part::At(last)) = parts.as_slice().last() else {
+        return Ok((0, None));
     };
     match value {
-        Some(Value::Int32(number)) => (*last, Some(*number)),
-        _ => (*last, None),
+        Some(Value::Int32(number)) => Ok((*last, Some(*number))),
+        _ => Ok((*last, None)),
     }
+}
+
+/// What each of the changes tells, in order.
+fn told_by(alloc: Global, changes: &Vec<Change>) -> Result<Vec<Told>, Fail> {
+    let mut all = Vec::new(alloc);
+    for change in changes {
+        all.push(told(alloc, change)?)?;
+    }
+    Ok(all)
 }
 
 /// The value 10 at the low position, and 20 at the high one.
@@ -92,7 +103,7 @@ fn a_row_that_is_taken_in_is_handed_on(rt: HostRuntime) -> Result<(), Fail> {
     let made = Ordered::new(alloc).with(pos, row)?;
     hand_on(&none, &made, &mut ticks, &mut out)?;
     hand_on(&made, &none, &mut ticks, &mut out)?;
-    let told: Vec<Told> = out.iter().map(told).collect(alloc)?;
+    let told = told_by(alloc, &out)?;
     assert_eq!(rt; told.as_slice(), [(1, Some(7)), (1, None)].as_slice());
     assert_eq!(rt; ticks.count(), 4);
     Ok(())
@@ -126,7 +137,7 @@ fn turned<T: Turn>(
     feed(turn, put(alloc, 10, second)?, &mut ticks, &mut out)?;
     let at_second = ticks.count();
     feed(turn, put(alloc, 10, third)?, &mut ticks, &mut out)?;
-    let told = out.iter().map(told).collect(alloc)?;
+    let told = told_by(alloc, &out)?;
     Ok(([at_first, at_second, ticks.count()], told))
 }
 
@@ -211,7 +222,7 @@ fn a_limit_pulls_in_the_next_row(rt: HostRuntime) -> Result<(), Fail> {
     assert_eq!(rt; ticks.count(), 5);
     feed(&mut turn, gone(alloc, 10)?, &mut ticks, &mut out)?;
     assert_eq!(rt; ticks.count(), 8);
-    let told: Vec<Told> = out.iter().map(told).collect(alloc)?;
+    let told = told_by(alloc, &out)?;
     assert_eq!(rt;
         told.as_slice(),
         [(10, Some(7)), (20, Some(7)), (10, None), (30, Some(8))].as_slice()
@@ -228,7 +239,7 @@ fn a_chain_counts_what_its_turns_hand_on(rt: HostRuntime) -> Result<(), Fail> {
     let mut chain = Chain::new(alloc, turns);
     let (mut ticks, mut out) = (Ticks::new(), Vec::new(alloc));
     chain.change(Input::Left, put(alloc, 10, LISTS[0])?, &mut ticks, &mut out)?;
-    let told: Vec<Told> = out.iter().map(told).collect(alloc)?;
+    let told = told_by(alloc, &out)?;
     assert_eq!(rt; told.as_slice(), [(0, Some(1))].as_slice());
     assert_eq!(rt; ticks.count(), 6);
     Ok(())

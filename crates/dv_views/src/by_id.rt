@@ -24,8 +24,8 @@ use std::collections::btree_map::Range;
 use std::marker::Model;
 use std::ops::Bound;
 
-/// The rows of a view, of which it is known that they stand by their `_id`s where the documents under a namespace, its base,
-/// begin with theirs.
+/// The rows of a view, which are known to be in the order of their `_id`s if the documents under a namespace, its base, begin with
+/// theirs.
 #[derive(Drop)]
 pub struct Standing<'a> {
     alloc: Global,
@@ -76,8 +76,8 @@ impl<'a> Standing<'a> {
     }
 }
 
-/// The rows of a view that begin with their `_id`s and stand in the order of these, no two of which are equal but for the width
-/// of integers. A row is found by its `_id` in time logarithmic in their number.
+/// The rows of a view that begin with their `_id`s and are in the order of these. No two `_id`s are equal, whatever the width of
+/// their integers. A row is found by its `_id` in time logarithmic in their number.
 #[derive(Drop)]
 pub struct RowsById<'a> {
     alloc: Global,
@@ -109,7 +109,7 @@ impl<'a> RowsById<'a> {
         self.live.len()
     }
 
-    /// The rows whose `_id`s' keys stand between two ends, in the order of their `_id`s. Fails where memory is wanting.
+    /// The rows whose `_id`s' keys are between two ends, in the order of their `_id`s. Fails with `NoMemory` when memory runs out.
     pub fn between(&self, low: Bound<Key>, high: Bound<Key>) -> Result<RowsBetween<'a>, NoMemory>
         requires { IsForward (IsLeBy key_order) (IsLtBy key_order) low high }
         ensures { IfOk result (λ rows. rows ≡ filter (λ d. range_contains key_order low high (id_key d)) self.now) }
@@ -147,7 +147,7 @@ impl<'a> RowsById<'a> {
         })
     }
 
-    /// Whether the `_id` of some row is an array, as that of a group may be. Fails where memory is wanting.
+    /// Whether the `_id` of some row is an array, as that of a group may be. Fails with `NoMemory` when memory runs out.
     pub fn has_array_id(&self) -> Result<bool, NoMemory>
         ensures { IfOk result (λ there. there ≡ false → AllByRecursion HasId self.now) }
     {

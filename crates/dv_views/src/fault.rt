@@ -14,9 +14,9 @@ pub enum ViewFault {
     Exists,
     /// A view reads the name, or the new view would read its own name.
     ReadByView,
-    /// There are a thousand views, or the new one would stand over views of which one stands at height 8.
+    /// There are a thousand views, or the new one would be over a view of height 8.
     LimitReached,
-    /// Memory is wanting.
+    /// Memory ran out.
     NoMemory,
 }
 

@@ -21,20 +21,20 @@ ghost use Rattle.dv_views.specs.Placed.{ListPlaces, own_position};
 ghost use Rattle.dv_views.specs.Views.{AreNamedApart, AreRight, Views, view_form, reads_name, rows_shown, views_without};
 ghost use Rattle.dv_views.specs.declared.fault.ViewFault.TheVariants.{Exists, LimitReached, NoMemory, ReadByView};
 
-/// A document that is put at its own position stands in place of the one that has an equal `_id`, where there is one,
-/// and else it comes in its place.
+/// A document that is put at its own position replaces the one that has an equal `_id`, if there is one, and else it comes in its
+/// place.
 #[tactic(auto, using(crate::proofs::Made::put_made))]
 pub fn a_put_is_the_collections()
     ensures { (d : Row) (ds : List Row) → IsAscending ds → documents_changed (Put (own_position d) d ∷ []) ds ≡ (if is_some (found (id_key d) ds) then replaced d ds else inserted d ds) }
 {}
 
-/// The document that stood at the position of a key that is gone is taken out.
+/// The document that was at the position of a key that is gone is taken out.
 #[tactic(auto, using(crate::proofs::Made::gone_made))]
 pub fn a_gone_is_the_collections()
     ensures { (k : KeyTree) (ds : List Row) → IsAscending ds → documents_changed (Gone (Up k ∷ []) ∷ []) ds ≡ removed k ds }
 {}
 
-/// Nothing changes where there is no change.
+/// Without a change nothing changes.
 #[tactic(auto, using(crate::proofs::Made::forgotten))]
 pub fn no_change_changes_nothing()
     ensures { (ds : List Row) → documents_changed [] ds ≡ ds }
@@ -49,9 +49,8 @@ pub fn changes_follow_on()
     dv_order::laws::equal_keys_are_one();
 }
 
-/// What stages make at positions are, without these, the rows of the pipeline from scratch, where each name that they read has
-/// the same rows with positions and without them: so what a live view keeps by changes is what it would have if it were made
-/// anew.
+/// What stages make at positions are, without these, the rows of the pipeline from scratch, if each name that they read has the
+/// same rows with positions and without them. So what a live view keeps by changes is what it would have if it were recomputed.
 pub fn kept_rows_are_those_from_scratch()
     ensures { (stages : List Stage) (source : List ℕ) (places : ListPlaces) (lists : Lists) → IsPositioned (places source) → HaveOneLength (places source) → ((name : List ℕ) → is_name_among name (names_read stages source) ≡ true → forget (places name) ≡ lists name) → forget (outs_of stages source places) ≡ evaluated stages source lists }
 {
@@ -84,7 +83,7 @@ pub fn each_view_has_its_share()
     ensures { (namespace : List ℕ) (changes : List Change) (lists : Lists) (views : List ViewForm) → length (shares namespace changes lists views) ≡ length views }
 {}
 
-/// Views stay right where one is taken out that none reads.
+/// Views stay right if one is taken out that none reads.
 #[tactic(auto, using(crate::proofs::Right::right_without))]
 pub fn a_removed_view_leaves_views_right()
     ensures { (name : List ℕ) (lists : Lists) (views : Views) → reads_name views name ≡ false → AreRight lists views → AreRight lists (views_without name views) }
@@ -92,22 +91,22 @@ pub fn a_removed_view_leaves_views_right()
     dv_pipe::laws::what_is_not_read_does_not_matter();
 }
 
-/// What a right view shows are the rows that stand under its name; and under another name stands what the list holds.
+/// What a right view shows are the rows under its name; and under another name is what the list holds.
 #[tactic(auto, using(crate::proofs::Shown::right_shown, crate::proofs::Shown::no_rows))]
 pub fn what_is_shown_is_right()
     ensures rows { (name : List ℕ) (lists : Lists) (views : Views) (rows : List Row) → AreNamedApart views → AreRight lists views → rows_shown name views ≡ Some rows → rows ≡ rows_over (map view_form views) lists name }
     ensures none { (name : List ℕ) (lists : Lists) (views : List ViewForm) → list_any (λ v. bytes_eq name v.name) views ≡ false → rows_over views lists name ≡ lists name }
 {}
 
-/// What is asked for is needed, and where nothing is, nothing else is.
+/// What is asked for is needed, and if nothing is asked for, nothing is needed.
 #[tactic(auto, using(crate::proofs::Needed::asked, crate::proofs::Needed::none_needed))]
 pub fn what_is_asked_for_is_needed()
     ensures asked { (views : List ViewForm) (names : List (List ℕ)) (name : List ℕ) → is_name_among name names ≡ true → is_name_among name (needed views names) ≡ true }
     ensures none { (views : List ViewForm) → needed views [] ≡ [] }
 {}
 
-/// Beside the view `v` of `c` there is no second one, and none in place of what it reads, told in this order; nor is there one
-/// over itself; one over `v` there is, and eight of which each stands over the one before, and no ninth.
+/// Beside the view `v` of `c` there can be no second one, and none in place of what it reads, which is reported in this order. A
+/// view can't be over itself. One over `v` is allowed, and eight of which each is over the one before, but no ninth.
 pub fn refusals_by_example()
     ensures exists { fault_of_new (over_lists (codes "v") (codes "c") ∷ []) (codes "v") (codes "v") [] ≡ Some Exists }
     ensures read_by_view { fault_of_new (over_lists (codes "v") (codes "c") ∷ []) (codes "c") (codes "d") [] ≡ Some ReadByView }

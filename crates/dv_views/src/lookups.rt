@@ -12,7 +12,8 @@ use dv_pipe::{Pipeline, Stage};
 use dv_value::{NoMemory, Str};
 use std::alloc::Global;
 
-/// The namespaces that the stages of a pipeline over `source` look into, in their order. Fails where memory is wanting.
+/// The namespaces that the stages of a pipeline over `source` look into, in their order. Fails with `NoMemory` when memory runs
+/// out.
 pub fn lookups_of(alloc: Global, source: &str, stages: &[Stage]) -> Result<Vec<Str>, NoMemory>
     ensures { IfOk result (λ lookups. lookups.items ≡ defined.lookups_of stages.now source.now) }
 {
@@ -25,8 +26,8 @@ pub fn lookups_of(alloc: Global, source: &str, stages: &[Stage]) -> Result<Vec<S
     Ok(lookups)
 }
 
-/// The names that the pipeline over `source` reads: it, and each that a stage looks into, in their order. Fails where memory is
-/// wanting.
+/// The names that the pipeline over `source` reads: it, and each that a stage looks into, in their order. Fails with `NoMemory`
+/// when memory runs out.
 pub fn names_read(alloc: Global, source: &str, pipeline: &Pipeline) -> Result<Vec<Str>, NoMemory>
     ensures { IfOk result (λ names. names.items ≡ forms.names_read pipeline.now source.now) }
 {
@@ -40,7 +41,7 @@ pub fn names_read(alloc: Global, source: &str, pipeline: &Pipeline) -> Result<Ve
     Ok(names)
 }
 
-/// The namespace of the collection in the database of `source`. Fails where memory is wanting.
+/// The namespace of the collection in the database of `source`. Fails with `NoMemory` when memory runs out.
 pub fn beside(alloc: Global, source: &str, collection: &str) -> Result<String, NoMemory>
     ensures { IfOk result (λ namespace. string_bytes namespace ≡ pipes.beside source.now collection.now) }
 {

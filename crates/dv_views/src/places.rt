@@ -11,7 +11,7 @@ use dv_order::{Key, key_of};
 use dv_value::{Document, NoMemory};
 use std::alloc::Global;
 
-/// The document, which is shared and begins with its `_id`, put at its own position. Fails where memory is wanting.
+/// The document, which is shared and begins with its `_id`, put at its own position. Fails with `NoMemory` when memory runs out.
 pub fn document_put(alloc: Global, document: &Document) -> Result<Change, NoMemory>
     requires { HasId document.now }
     ensures { IfOk result (λ change. change ≡ Put (own_position document.now) document.now) }
@@ -22,7 +22,7 @@ pub fn document_put(alloc: Global, document: &Document) -> Result<Change, NoMemo
     })
 }
 
-/// The document under the key gone. Fails where memory is wanting.
+/// The document under the key gone. Fails with `NoMemory` when memory runs out.
 pub fn document_gone(alloc: Global, key: Key) -> Result<Change, NoMemory>
     ensures { IfOk result (λ change. change ≡ Gone (Up key ∷ [])) }
 {
@@ -39,7 +39,7 @@ pub(crate) fn gone_of(alloc: Global, document: &Document) -> Result<Change, NoMe
     document_gone(alloc, key_of_id(document)?)
 }
 
-/// The key of the `_id` with which the document begins. Fails where memory is wanting.
+/// The key of the `_id` with which the document begins. Fails with `NoMemory` when memory runs out.
 pub fn key_of_id(document: &Document) -> Result<Key, NoMemory>
     requires { HasId document.now }
     ensures { IfOk result (λ key. key ≡ id_key document.now) }
@@ -54,7 +54,5 @@ pub fn key_of_id(document: &Document) -> Result<Key, NoMemory>
 pub(crate) fn place_of(alloc: Global, key: Key) -> Result<Pos, NoMemory>
     ensures { IfOk result (λ pos. pos ≡ Up key ∷ []) }
 {
-    let mut parts = Vec::with_capacity(alloc, 1)?;
-    parts.push(Part::Up(key))?;
-    Pos::of(alloc, parts)
+    Pos::of_part(alloc, Part::Up(key))
 }

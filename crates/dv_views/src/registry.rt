@@ -89,7 +89,7 @@ impl Registry {
         self.views.contains_key(name)
     }
 
-    /// The name of the view at a place in creation order, counted from 0, where there is one. Takes no memory.
+    /// The name of the view at a place in creation order, counted from 0, if there is one. Takes no memory.
     pub fn name(&self, place: usize) -> Option<&str>
         ensures { option_copied result ≡ option_map (λ v. v.name) (slice_get self.now place) }
     {
@@ -97,7 +97,7 @@ impl Registry {
         Some(name.as_str())
     }
 
-    /// Whether the view of this name has its rows. None where there is no such view. Takes no memory.
+    /// Whether the view of this name has its rows. None if there is no such view. Takes no memory.
     pub fn state(&self, name: &str) -> Option<ViewState>
         ensures { result ≡ option_map (λ v. state_of_mark v.mark) (view_under name.now self.now) }
     {
@@ -118,8 +118,7 @@ impl Registry {
         false
     }
 
-    /// The rows that the view of this name keeps, in order. None where there is no such view, or a stale one. Takes no
-    /// memory.
+    /// The rows that the view of this name keeps, in order. None if there is no such view, or a stale one. Takes no memory.
     pub fn rows(&self, name: &str) -> Option<Rows<'_>>
         ensures { result ≡ rows_shown name.now self.now }
     {
@@ -127,7 +126,7 @@ impl Registry {
         view.rows()
     }
 
-    /// How many rows the view of this name keeps: none where it is stale. None where there is no such view. Takes no memory.
+    /// How many rows the view of this name keeps: none if it is stale. None if there is no such view. Takes no memory.
     pub fn row_count(&self, name: &str) -> Option<usize>
         ensures { result ≡ option_map (λ v. mark_rows v.mark) (view_under name.now self.now) }
     {
@@ -135,9 +134,9 @@ impl Registry {
         Some(view.row_count())
     }
 
-    /// The count of the work that changes of what it reads took since the view of this name was made: for each stage, 1 for
-    /// each change that came to it, and 1 for each that it handed on. It stays at 9,223,372,036,854,775,807, and is 0 where the
-    /// view is stale. None where there is no such view. Takes no memory.
+    /// The count of the work that changes of what it reads took since the view of this name was made: for each stage, 1 for each
+    /// change that it took in, and 1 for each that it returned. It stays at 9,223,372,036,854,775,807, and is 0 if the view is
+    /// stale. None if there is no such view. Takes no memory.
     pub fn ticks(&self, name: &str) -> Option<u64>
         ensures { result ≡ option_map (λ v. mark_ticks v.mark) (view_under name.now self.now) }
     {
@@ -165,8 +164,8 @@ impl Registry {
         false
     }
 
-    /// The names that are needed for these: these, and behind them what each view that is needed reads. Fails where memory is
-    /// wanting.
+    /// The names that are needed for these: these, and after them what each view that is needed reads. Fails with `NoMemory` when
+    /// memory runs out.
     pub fn needed(&self, names: Vec<Str>) -> Result<Vec<Str>, NoMemory>
         ensures needed { IfOk result (λ all. all.items ≡ forms.needed (map view_form self.now) names.items) }
         ensures closed { IfOk result (λ all. forms.IsClosed all.items (map view_form self.now)) }
@@ -200,10 +199,10 @@ impl Registry {
         Some(ViewFault::LimitReached)
     }
 
-    /// Adds a view behind the others, with the rows that its pipeline gives over what it reads: views, of which the stale ones
-    /// that are needed are made anew first, and `sources`, each in the order of its `_id`s. Refused with the first fault that
-    /// holds of `Exists`, `ReadByView` and `LimitReached`, which takes no memory; then nothing is changed. Where none holds,
-    /// refused with `NoMemory` if memory is wanting; then views that were made anew before stay so. The pipeline is dropped.
+    /// Adds a view after the others, with the rows that its pipeline returns over what it reads: views, of which the stale ones
+    /// that are needed are recomputed first, and `sources`, each in the order of its `_id`s. Refused with the first fault that
+    /// holds of `Exists`, `ReadByView` and `LimitReached`, which takes no memory; then nothing is changed. If none holds, refused
+    /// with `NoMemory` when memory runs out; then views that were recomputed before stay so. The pipeline is dropped.
     pub fn create(
         &mut self,
         name: &str,
@@ -261,8 +260,8 @@ impl Registry {
         Ok(())
     }
 
-    /// Takes out the view of this name, which none reads, and answers whether there was one. The others keep their order.
-    /// Takes no memory.
+    /// Takes out the view of this name, which none reads, and returns whether there was one. The others keep their order. Takes no
+    /// memory.
     pub fn remove(&mut self, name: &str) -> bool
         requires { reads_name self.old name.now ≡ false }
         ensures there { result ≡ has_view name.now self.old }
@@ -271,11 +270,11 @@ impl Registry {
         self.views.shift_remove(name).is_some()
     }
 
-    /// Carries changes that were made to the documents under the namespace on to the views that stand over it: each change
-    /// goes to each view in creation order before the next one, and there to the source first and then to each list that a
-    /// stage looks into; what changes of a view's rows goes to the views that read it, one change after the other. A view
-    /// counts the work that this takes. One that finds no memory drops what it keeps and is stale, which takes none; so is each
-    /// that reads a stale one.
+    /// Passes changes that were made to the documents under the namespace to the views that depend on it. Each change goes to each
+    /// view in creation order before the next one. In a view it goes to the source first and then to each list that a stage looks
+    /// into. What changes of a view's rows goes to the views that read it, one change after the other. A view counts the work that
+    /// this takes. One that runs out of memory drops what it keeps and is stale, which takes none; so is each that reads a stale
+    /// one.
     pub fn apply(&mut self, namespace: &str, changes: &[Change])
         ensures forms { map view_form self.new ≡ map view_form self.old }
         ensures right { (lists : Lists) → AreMade changes.now (lists namespace.now) → AreRight lists self.old → AreRight (with_changed namespace.now changes.now lists) self.new }
@@ -310,9 +309,9 @@ impl Registry {
         }
     }
 
-    /// Makes the stale views of these names anew, in creation order, over older views and `sources`, each in the order of its
-    /// `_id`s. The names are such as `needed` gives: with each view those that it reads. Fails where memory is wanting; then
-    /// views that were made anew before stay so.
+    /// Recomputes the stale views of these names, in creation order, over older views and `sources`, each in the order of its
+    /// `_id`s. The names have to be such as `needed` returns: with each view those that it reads. Fails with `NoMemory` when memory
+    /// runs out; then views that were recomputed before stay so.
     pub fn refresh(&mut self, names: &[Str], sources: &Sources<'_>) -> Result<(), NoMemory>
         requires closed { forms.IsClosed names.now (map view_form self.old) }
         requires read { AllByRecursion (λ n. AreInOrder (lists_of sources.now n)) names.now }

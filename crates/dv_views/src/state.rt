@@ -5,6 +5,6 @@
 pub enum ViewState {
     /// It has the rows of its pipeline.
     Live,
-    /// It has none, and has to be made anew.
+    /// It has none, and has to be recomputed.
     Stale,
 }

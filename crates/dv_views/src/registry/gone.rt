@@ -23,7 +23,7 @@ use std::slice::from_ref;
 
 impl Registry {
     /// Carries on that these documents of the namespace go, one after the other, as `apply` does, without their changes being in
-    /// memory together. Where memory is wanting for one of these, each view that it comes to is stale.
+    /// memory together. If memory runs out for one of these, each view that it comes to is stale.
     pub fn apply_gone(&mut self, namespace: &str, documents: Iter<'_>)
         requires { AllByRecursion HasId documents }
         ensures forms { map view_form self.new ≡ map view_form self.old }

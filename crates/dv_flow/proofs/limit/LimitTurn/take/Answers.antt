@@ -46,8 +46,8 @@ returns c =
     (c.in_ok-pos.ensures ∙ c.position_of.ensures) c.in_ok-edge.ensures c.requires.front shown c.in_ok-old.ensures c.in_ok-new.ensures in
     record {
       sound = search rules;
-      count = search rules;
-      left = search rules;
+      count = ok-one c.hand_on.result c.hand_on.ensures.ticks (λ ticks. c.in_ok-change_front.ensures.count);
+      left = ok-one c.hand_on.result c.hand_on.ensures.ticks (λ ticks. c.in_ok-change_front.ensures.left);
       out = ok-one c.hand_on.result c.hand_on.ensures.out (λ out. out ∙ ap (λ changes. c.args.out.now.items ++ changes) same);
       ticks = ok-one c.hand_on.result c.hand_on.ensures.ticks (λ ticks. ticks ∙ ap (λ changes. raised c.args.ticks.now (1 + length changes)) same);
       begins = c.hand_on.ensures.begins;
