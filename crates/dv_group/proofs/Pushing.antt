@@ -18,7 +18,9 @@ use Rattle.dv_change.specs.PositionLaws.{pos_order_total}
 use Rattle.dv_change.specs.Positions.{IsExact, PosTree, pos_order}
 use Rattle.dv_change.specs.RowLaws.{all-implied, past, positioned-tail, put-front}
 use Rattle.dv_gather.specs.Grouping.{Accumulation, values_over, with_present}
-use Rattle.dv_group.specs.Running.{Values, field_value, pushed_over, values_in, with_first, with_pushed}
+use Rattle.dv_group.specs.declared.running.Way.{Way}
+use Rattle.dv_group.specs.declared.running.Way.TheVariants.{Comes, Goes}
+use Rattle.dv_group.specs.Running.{Values, field_value, moved_by, pushed, pushed_over, repushed, values_in, with_first, with_pushed}
 use Rattle.dv_group.specs.RunningView.{values_seen}
 
 module _ {V W : Type 0} (f : V → W) where
@@ -126,3 +128,8 @@ module _ (a : Accumulation) where
   pub pushed-values : (rows : Positioned) → values_in (pushed_over a rows) ≡ values_over a.argument (forget rows)
   pushed-values [] = refl
   pushed-values (r ∷ rows) = values-first r.0 (of r.1) (pushed_over a rows) ∙ ap (with_present (of r.1)) (pushed-values rows)
+
+-- what comes of the values moves as they do
+pub pushed-moved : (way : Way) (a : Accumulation) (p : PosTree) (d : Row) (vs : Values) → moved_by way a p d (pushed vs) ≡ pushed (repushed way a p d vs)
+pushed-moved Comes a p d vs = refl
+pushed-moved Goes a p d vs = refl

@@ -3,21 +3,25 @@ use Rattle.std.specs.Prelude.{◌≡◌, Bool, true, false, cond, List, [], ◌�
 use Rattle.std.proofs.Common.{ap, subst, sym, ◌∙◌}
 use Rattle.std.specs.declared.cmp.Ordering.{Ordering}
 use Rattle.std.specs.declared.cmp.Ordering.TheVariants.{Less, Equal, Greater}
-use Rattle.std.specs.BTreeMap.{insert_entry, is_at}
+use Rattle.std.specs.BTreeMap.{BTreeMap, WritesThrough, get, insert_entry, is_at}
 use Rattle.std.specs.Cmp.{Equal-is, eq_by_cmp_equiv}
-use Rattle.std.specs.Map.{lookup, remove_entry}
+use Rattle.std.specs.Map.{lookup, remove_entry, set_value}
 use Rattle.std.specs.Ordering.{is_eq, match_ordering, ordering_reverse, ordering_then}
 use Rattle.dv_order.specs.Key.{KeyTree, key_order}
 use Rattle.dv_order.specs.KeyLaws.{key_order_total}
 use Rattle.dv_row.specs.Row.{Row}
 use Rattle.dv_change.specs.declared.position.Part.TheVariants.{Up}
-use Rattle.dv_change.specs.Changes.{Positioned, forget}
+use Rattle.dv_change.specs.Changes.{IsPositioned, Positioned, forget}
+use Rattle.dv_change.specs.Ordered.{gone, put}
+use Rattle.dv_change.specs.Positions.{IsExact, PosTree}
+use Rattle.dv_change.specs.RowLaws.{positioned-none}
 use Rattle.dv_gather.specs.Grouping.{Grouping, row_shown}
 use Rattle.dv_group.specs.declared.bundle.Bundle.{Bundle}
 use Rattle.dv_group.specs.declared.kept.Kept.{Kept}
 use Rattle.dv_group.specs.Grouped.{beside}
 use Rattle.dv_group.specs.Room.{IsBundle}
-use Rattle.dv_group.specs.Members.{AreBundles, IsKept, IsRowOf, KeptGroups, are_one, group_members, put_some, rows_in, shown_of, with_shown}
+use Rattle.dv_group.specs.Members.{AreBundles, IsKept, IsRowOf, KeptGroups, are_one, group_members, is_key, moved, put_some, rows_in, shown_of, with_shown}
+use Rattle.dv_group.proofs.Bundled.{put-over}
 
 back : (k l : KeyTree) → is_eq (key_order k l) ≡ is_eq (key_order l k)
 back k l = (eq_by_cmp_equiv key_order_total).symm k l
@@ -57,14 +61,53 @@ cond-over : {A : Type 0} (b : Bool) (x y z : A) → cond b x (cond b y z) ≡ co
 cond-over true x y z = refl
 cond-over false x y z = refl
 
--- rows come in the place of those that were taken out
-pub put-back : (es ms fs : KeptGroups) (key own : KeyTree) (new : Kept) → own ≡ key
-    → ((k : KeyTree) → lookup (is_at (key_order k)) ms ≡ cond (is_at (key_order key) k) None (lookup (is_at (key_order k)) es))
-    → ((k : KeyTree) → lookup (is_at (key_order k)) fs ≡ cond (is_at (key_order own) k) (Some new) (lookup (is_at (key_order k)) ms))
-    → (k : KeyTree) → lookup (is_at (key_order k)) fs ≡ cond (is_at (key_order key) k) (Some new) (lookup (is_at (key_order k)) es)
-put-back es ms fs key own new same out come k =
-    come k ∙ (λ i. cond (is_at (key_order (same i)) k) (Some new) (out k i))
-    ∙ cond-over (is_at (key_order key) k) (Some new) None (lookup (is_at (key_order k)) es)
+-- what is written under a key twice stands as it was written last
+pub written-over : (es ms fs : KeptGroups) (key : KeyTree) (first last : Option Kept)
+    → ((k : KeyTree) → lookup (is_at (key_order k)) ms ≡ cond (is_at (key_order key) k) first (lookup (is_at (key_order k)) es))
+    → ((k : KeyTree) → lookup (is_at (key_order k)) fs ≡ cond (is_at (key_order key) k) last (lookup (is_at (key_order k)) ms))
+    → (k : KeyTree) → lookup (is_at (key_order k)) fs ≡ cond (is_at (key_order key) k) last (lookup (is_at (key_order k)) es)
+written-over es ms fs key first last before behind k =
+    behind k ∙ ap (cond (is_at (key_order key) k) last) (before k) ∙ cond-over (is_at (key_order key) k) last first (lookup (is_at (key_order k)) es)
+
+-- what is written under a copy of a key stands under the key
+pub written-under : (es fs : KeptGroups) (key own : KeyTree) (new : Option Kept) → own ≡ key
+    → ((k : KeyTree) → lookup (is_at (key_order k)) fs ≡ cond (is_at (key_order own) k) new (lookup (is_at (key_order k)) es))
+    → (k : KeyTree) → lookup (is_at (key_order k)) fs ≡ cond (is_at (key_order key) k) new (lookup (is_at (key_order k)) es)
+written-under es fs key own new same written k = written k ∙ ap (λ (l : KeyTree). cond (is_at (key_order l) k) new (lookup (is_at (key_order k)) es)) same
+
+-- what is written in the slot of a group stands under its key
+pub written-there : (m n : BTreeMap KeyTree Kept) (key : KeyTree) (old new : Kept) → Some old ≡ get key_order m key → WritesThrough key_order (key_order key) m new n
+    → (k : KeyTree) → lookup (is_at (key_order k)) n.entries ≡ cond (is_at (key_order key) k) (Some new) (lookup (is_at (key_order k)) m.entries)
+written-there m n key old new there writes = (writes.3 (rw (← there) refl)).0
+
+-- where no group has the key, a change that leaves no rows as they are changes nothing
+pub none-changed : (es : KeptGroups) (key : KeyTree) (change : Positioned → Positioned) → change [] ≡ [] → None ≡ lookup (is_at (key_order key)) es
+    → (k : KeyTree) → group_members k es ≡ cond (is_eq (key_order k key)) (change (group_members k es)) (group_members k es)
+none-changed es key change keeps none k = by (is_eq (key_order k key)) refl
+  where
+    by : (b : Bool) → is_eq (key_order k key) ≡ b → group_members k es ≡ cond b (change (group_members k es)) (group_members k es)
+    by true here =
+        let nothing : group_members k es ≡ [] = members-alike k key ((Equal-is (key_order k key)).0 here) es ∙ ap rows_in (sym none) in
+        nothing ∙ sym keeps ∙ ap change (sym nothing)
+    by false here = refl
+
+-- ---- two keys
+
+-- where they are equal, the groups of the one are those of the other
+one-key : (key other : Option KeyTree) → are_one key other ≡ true → (k : KeyTree) → is_key k key ≡ is_key k other
+one-key None other one k = cc
+one-key (Some a) None one k = cc
+one-key (Some a) (Some b) one k = back k a ∙ beside a b k ((Equal-is (key_order a b)).0 one) ∙ back b k
+
+-- a row that stays in its group comes in the place of the one that goes
+pub stays-one : (pos : PosTree) (key other : Option KeyTree) (new : Option Row) → are_one key other ≡ true → (k : KeyTree) (rows : Positioned)
+    → cond (is_key k key) (put_some pos new (gone pos rows)) rows ≡ moved pos key other new k rows
+stays-one pos key other new one k rows =
+    by (is_key k key) ∙ ap (λ b. cond b (put_some pos new (cond (is_key k key) (gone pos rows) rows)) (cond (is_key k key) (gone pos rows) rows)) (one-key key other one k)
+  where
+    by : (b : Bool) → cond b (put_some pos new (gone pos rows)) rows ≡ cond b (put_some pos new (cond b (gone pos rows) rows)) (cond b (gone pos rows) rows)
+    by true = refl
+    by false = refl
 
 -- the row of the group of a key comes once, where another key is equal
 pub shown-once : (g : Grouping) (es : KeptGroups) (key other : Option KeyTree) → are_one key other ≡ true → with_shown g (λ k. group_members k es) key [] ≡ shown_of g (λ k. group_members k es) key other
@@ -127,6 +170,29 @@ module _ (g : Grouping) where
 
   pub bundles-left : (k : KeyTree) (es fs : KeptGroups) → fs ≡ remove_entry (is_at (key_order k)) es → AreBundles g es → AreBundles g fs
   bundles-left k es fs is all = subst (AreBundles g) (sym is) (without-entry k es all)
+
+  with-value : (test : KeyTree → Bool) (w : Kept) (es : KeptGroups) → IsKept g w → AreBundles g es → AreBundles g (set_value test es w)
+  with-value test w [] sound all = tt
+  with-value test w (e ∷ es) sound all = by (test e.0) (with-value test w es sound all.1)
+    where
+      by : (b : Bool) → AreBundles g (set_value test es w) → AreBundles g (cond b ((e.0, w) ∷ es) (e ∷ set_value test es w))
+      by true rest = (sound, all.1)
+      by false rest = (all.0, rest)
+
+  pub bundles-written : (key : KeyTree) (w : Kept) (es fs : KeptGroups) → fs ≡ set_value (is_at (key_order key)) es w → IsKept g w → AreBundles g es → AreBundles g fs
+  bundles-written key w es fs is sound all = subst (AreBundles g) (sym is) (with-value (is_at (key_order key)) w es sound all)
+
+  members-positioned : (k : KeyTree) (es : KeptGroups) → AreBundles g es → IsPositioned (group_members k es)
+  members-positioned k [] all = positioned-none
+  members-positioned k (e ∷ es) all = by (is_eq (key_order k e.0)) (members-positioned k es all.1)
+    where
+      by : (b : Bool) → IsPositioned (group_members k es) → IsPositioned (rows_in (cond b (Some e.1) (lookup (is_at (key_order k)) es)))
+      by true rest = all.0.bundle.positioned
+      by false rest = rest
+
+  -- a row comes in the place of one that goes
+  pub members-over : (pos : PosTree) (d : Row) (es : KeptGroups) → IsExact pos → AreBundles g es → (k : KeyTree) → put pos d (group_members k es) ≡ put pos d (gone pos (group_members k es))
+  members-over pos d es exact all k = sym (put-over pos d (group_members k es) (members-positioned k es all) exact)
 
   pub bundle-there : (k : KeyTree) (b : Kept) (es : KeptGroups) → lookup (is_at (key_order k)) es ≡ Some b → AreBundles g es → IsKept g b
   bundle-there k b [] there all = cc

@@ -15,6 +15,7 @@ use dv_gather::{Group, GroupField};
 use dv_row::{push_field, row_beside};
 use dv_value::{Document, NoMemory};
 use std::alloc::Global;
+use std::mem::replace;
 
 /// The rows of a group by their positions, and what has come of their values.
 #[derive(Drop)]
@@ -43,47 +44,41 @@ impl Bundle {
         self.members.is_empty()
     }
 
-    /// With the row at the position, in the place of one that stands there. Fails where memory is wanting.
-    pub(crate) fn with(
-        self,
+    /// Puts the row at the position, in the place of one that stands there. Fails where memory is wanting; then it is spent.
+    pub(crate) fn put_in(
+        &mut self,
         alloc: Global,
         group: &Group,
         pos: Pos,
         row: Document,
-    ) -> Result<Self, NoMemory>
-        requires { IsBundle group.now.fields self }
-        ensures rows { IfOk result (λ more. more.members ≡ put pos row self.members) }
-        ensures sound { IfOk result (λ more. IsBundle group.now.fields more) }
+    ) -> Result<(), NoMemory>
+        requires { IsBundle group.now.fields self.old }
+        ensures rows { OnOk result (self.new.members ≡ put pos row self.old.members) }
+        ensures sound { OnOk result (IsBundle group.now.fields self.new) }
     {
-        pos.is_exact();
-        let Bundle {
-            members,
-            mut totals,
-        } = self.without(alloc, group, &pos)?;
-        // No sum of so many numbers is beyond 128 bits.
-        let _ = members.len();
-        follow_each(alloc, &mut totals, group.fields(), Way::Comes, &pos, &row)?;
-        let members = members.with(pos, row)?;
-        Ok(Bundle { members, totals })
+        follow_put(alloc, &mut self.totals, &self.members, group, &pos, &row)?;
+        let rows = replace(&mut self.members, Ordered::new(alloc));
+        let more = rows.with(pos, row)?;
+        self.members = more;
+        Ok(())
     }
 
-    /// Without what stands at the position. Fails where memory is wanting.
-    pub(crate) fn without(self, alloc: Global, group: &Group, pos: &Pos) -> Result<Self, NoMemory>
-        requires { IsBundle group.now.fields self }
-        ensures rows { IfOk result (λ left. left.members ≡ gone pos.now self.members) }
-        ensures sound { IfOk result (λ left. IsBundle group.now.fields left) }
+    /// Takes out what stands at the position. Fails where memory is wanting; then it is spent.
+    pub(crate) fn take_out(
+        &mut self,
+        alloc: Global,
+        group: &Group,
+        pos: &Pos,
+    ) -> Result<(), NoMemory>
+        requires { IsBundle group.now.fields self.old }
+        ensures rows { OnOk result (self.new.members ≡ gone pos.now self.old.members) }
+        ensures sound { OnOk result (IsBundle group.now.fields self.new) }
     {
-        pos.is_exact();
-        let Bundle {
-            members,
-            mut totals,
-        } = self;
-        if let Some(row) = members.get(pos) {
-            let _ = members.len();
-            follow_each(alloc, &mut totals, group.fields(), Way::Goes, pos, row)?;
-        }
-        let members = members.without(pos);
-        Ok(Bundle { members, totals })
+        follow_gone(alloc, &mut self.totals, &self.members, group, pos)?;
+        let rows = replace(&mut self.members, Ordered::new(alloc));
+        let left = rows.without(pos);
+        self.members = left;
+        Ok(())
     }
 
     /// The group's row, where it has rows. A row before it lends its names. Fails where memory is wanting.
@@ -134,6 +129,45 @@ fn totals_of_none(alloc: Global, fields: &[GroupField]) -> Result<Vec<Running>, 
         totals.push(Running::of_none(alloc, field.accumulator))?;
     }
     Ok(totals)
+}
+
+/// Has what has come of each field follow the row, as it comes to the position, in the place of one that stands there. Fails
+/// where memory is wanting.
+fn follow_put(
+    alloc: Global,
+    totals: &mut Vec<Running>,
+    members: &Ordered<Document>,
+    group: &Group,
+    pos: &Pos,
+    row: &Document,
+) -> Result<(), NoMemory>
+    requires { IsBundle group.now.fields (record { members = members.now; totals = totals.old }) }
+    ensures { OnOk result (IsBundle group.now.fields (record { members = put pos.now row.now members.now; totals = totals.new })) }
+{
+    pos.is_exact();
+    // No sum of so many numbers is beyond 128 bits.
+    let _ = members.len();
+    follow_gone(alloc, totals, members, group, pos)?;
+    follow_each(alloc, totals, group.fields(), Way::Comes, pos, row)
+}
+
+/// Has what has come of each field follow what stands at the position, as it goes. Fails where memory is wanting.
+fn follow_gone(
+    alloc: Global,
+    totals: &mut Vec<Running>,
+    members: &Ordered<Document>,
+    group: &Group,
+    pos: &Pos,
+) -> Result<(), NoMemory>
+    requires { IsBundle group.now.fields (record { members = members.now; totals = totals.old }) }
+    ensures { OnOk result (IsBundle group.now.fields (record { members = gone pos.now members.now; totals = totals.new })) }
+{
+    pos.is_exact();
+    let _ = members.len();
+    let Some(row) = members.get(pos) else {
+        return Ok(());
+    };
+    follow_each(alloc, totals, group.fields(), Way::Goes, pos, row)
 }
 
 /// Has what has come of each field follow the row at the position, as it comes or goes. Fails where memory is wanting.

@@ -23,9 +23,9 @@ use dv_value::{Document, NoMemory};
 use std::alloc::Global;
 use std::collections::BTreeMap;
 
-/// The groups of rows, each a row at its key, kept by changes. Looks at the groups of the changed row alone, and of these at the
-/// row that comes or goes, the first one and the one with the least or greatest value; with a `$push`, it copies the array that
-/// it hands on.
+/// The groups of rows, each a row at its key, kept by changes. Looks only at the groups of the changed row, and of these at the row
+/// that comes or goes, the first one and the one with the least or greatest value; with a `$push`, it copies the array that it
+/// returns.
 #[derive(Drop)]
 pub struct GroupTurn {
     alloc: Global,
@@ -37,7 +37,7 @@ pub struct GroupTurn {
 }
 
 impl GroupTurn {
-    /// The stage, where it has taken in nothing. Fails where memory is wanting.
+    /// The stage, which has taken in nothing. Fails with `NoMemory` when memory runs out.
     pub fn new(alloc: Global, group: &Group) -> Result<Self, NoMemory>
         ensures group { IfOk result (λ t. t.group ≡ group.now) }
         ensures left { IfOk result (λ t. rows_left t ≡ []) }
@@ -283,9 +283,7 @@ impl GroupTurn {
 fn place_of(alloc: Global, key: &Key) -> Result<Pos, NoMemory>
     ensures { IfOk result (λ pos. pos ≡ Up key.now ∷ []) }
 {
-    let mut parts = Vec::with_capacity(alloc, 1)?;
-    parts.push(Part::Up(key.try_clone()?))?;
-    Pos::of(alloc, parts)
+    Pos::of_part(alloc, Part::Up(key.try_clone()?))
 }
 
 impl Turn for GroupTurn {

@@ -1,13 +1,10 @@
 //! The rows of groups.
 
-ghost use Rattle.std.specs.Prelude.{◌≡◌, IfOk, None, OnOk, Some, cond};
-ghost use Rattle.std.specs.BTreeMap.{is_at};
-ghost use Rattle.std.specs.Map.{lookup};
+ghost use Rattle.std.specs.Prelude.{◌≡◌, [], OnOk, Some, cond};
 ghost use Rattle.dv_change.specs.Ordered.{gone, put};
-ghost use Rattle.dv_order.specs.Key.{KeyTree, key_order};
+ghost use Rattle.dv_order.specs.Key.{KeyTree};
 ghost use Rattle.dv_group.specs.Members as defined;
 ghost use Rattle.dv_group.specs.Members.{AreBundles, is_key, group_members, moved, put_some};
-ghost use Rattle.dv_group.specs.Room.{IsBundle};
 
 use crate::bundle::Bundle;
 use crate::kept::Kept;
@@ -36,8 +33,31 @@ pub(crate) fn move_row(
     ensures rows { OnOk result ((k : KeyTree) → group_members k groups.new.entries ≡ moved pos key.now other.now new k (group_members k groups.old.entries)) }
     ensures sound { OnOk result (AreBundles group.now groups.new.entries) }
 {
+    if are_one(key, other) {
+        return replace_in(alloc, group, groups, key, pos, new);
+    }
     take_out(alloc, group, groups, key, &pos)?;
     put_in(alloc, group, groups, other, pos, new)
+}
+
+/// Puts the row into the group of the key, in the place of what stands at the position, or takes that out where there is no row.
+fn replace_in(
+    alloc: Global,
+    group: &Group,
+    groups: &mut Groups,
+    key: &Option<Key>,
+    pos: Pos,
+    new: Option<Document>,
+) -> Result<(), NoMemory>
+    requires { AreBundles group.now groups.old.entries }
+    ensures rows { OnOk result ((k : KeyTree) → group_members k groups.new.entries ≡ cond (is_key k key.now) (put_some pos new (gone pos (group_members k groups.old.entries))) (group_members k groups.old.entries)) }
+    ensures sound { OnOk result (AreBundles group.now groups.new.entries) }
+{
+    pos.is_exact();
+    match new {
+        Some(row) => put_in(alloc, group, groups, key, pos, Some(row)),
+        None => take_out(alloc, group, groups, key, &pos),
+    }
 }
 
 /// Makes the row of the group of the key, where there are a key and a group, and the row isn't made since its rows changed. A
@@ -53,15 +73,28 @@ pub(crate) fn settle(
     ensures rows { OnOk result ((k : KeyTree) → group_members k groups.new.entries ≡ group_members k groups.old.entries) }
     ensures sound { OnOk result (AreBundles group.now groups.new.entries) }
 {
-    let Some(key) = key else {
-        return Ok(());
-    };
-    let Some(kept) = groups.remove(key) else {
-        return Ok(());
-    };
-    let settled = kept.settled(alloc, group, before)?;
-    groups.insert(key.try_clone()?, settled)?;
-    Ok(())
+    match key {
+        Some(key) => settle_under(alloc, group, groups, key, before),
+        None => Ok(()),
+    }
+}
+
+/// Makes the row of the group of the key, where there is one, and its row isn't made since its rows changed.
+fn settle_under(
+    alloc: Global,
+    group: &Group,
+    groups: &mut Groups,
+    key: &Key,
+    before: Option<&Document>,
+) -> Result<(), NoMemory>
+    requires { AreBundles group.now groups.old.entries }
+    ensures rows { OnOk result ((k : KeyTree) → group_members k groups.new.entries ≡ group_members k groups.old.entries) }
+    ensures sound { OnOk result (AreBundles group.now groups.new.entries) }
+{
+    match groups.get_mut(key) {
+        Some(kept) => kept.settle(alloc, group, before),
+        None => Ok(()),
+    }
 }
 
 /// Takes what stands at the position out of the group of the key, where there is a key.
@@ -94,31 +127,14 @@ fn take_from(
     ensures rows { OnOk result ((k : KeyTree) → group_members k groups.new.entries ≡ cond (is_key k (Some key.now)) (gone pos.now (group_members k groups.old.entries)) (group_members k groups.old.entries)) }
     ensures sound { OnOk result (AreBundles group.now groups.new.entries) }
 {
-    let bundle = bundle_of(alloc, group, groups, key)?;
-    let left = bundle.without(alloc, group, pos)?;
-    if !left.is_empty() {
-        groups.insert(key.try_clone()?, Kept::of(left))?;
+    let Some(kept) = groups.get_mut(key) else {
+        return Ok(());
+    };
+    kept.take_out(alloc, group, pos)?;
+    if kept.is_empty() {
+        drop(groups.remove(key));
     }
     Ok(())
-}
-
-/// Takes the group of the key out, or one without rows. Fails where memory is wanting.
-fn bundle_of(
-    alloc: Global,
-    group: &Group,
-    groups: &mut Groups,
-    key: &Key,
-) -> Result<Bundle, NoMemory>
-    requires { AreBundles group.now groups.old.entries }
-    ensures rows { IfOk result (λ bundle. bundle.members ≡ group_members key.now groups.old.entries) }
-    ensures sound { IfOk result (λ bundle. IsBundle group.now.fields bundle) }
-    ensures left { OnOk result (AreBundles group.now groups.new.entries) }
-    ensures others { OnOk result ((k : KeyTree) → lookup (is_at (key_order k)) groups.new.entries ≡ cond (is_at (key_order key.now) k) None (lookup (is_at (key_order k)) groups.old.entries)) }
-{
-    match groups.remove(key) {
-        Some(kept) => Ok(kept.into_bundle()),
-        None => Bundle::new(alloc, group),
-    }
 }
 
 /// Puts the row at the position into the group of the key, where there are a row and a key.
@@ -156,9 +172,30 @@ fn put_under(
     ensures rows { OnOk result ((k : KeyTree) → group_members k groups.new.entries ≡ cond (is_key k (Some key.now)) (put pos row (group_members k groups.old.entries)) (group_members k groups.old.entries)) }
     ensures sound { OnOk result (AreBundles group.now groups.new.entries) }
 {
-    let bundle = bundle_of(alloc, group, groups, key)?;
-    let more = bundle.with(alloc, group, pos, row)?;
-    groups.insert(key.try_clone()?, Kept::of(more))?;
+    match groups.get_mut(key) {
+        Some(kept) => kept.put_in(alloc, group, pos, row),
+        None => put_first(alloc, group, groups, key, pos, row),
+    }
+}
+
+/// Puts the row at the position into a new group of the key, which has none.
+fn put_first(
+    alloc: Global,
+    group: &Group,
+    groups: &mut Groups,
+    key: &Key,
+    pos: Pos,
+    row: Document,
+) -> Result<(), NoMemory>
+    requires sound { AreBundles group.now groups.old.entries }
+    requires none { group_members key.now groups.old.entries ≡ [] }
+    ensures rows { OnOk result ((k : KeyTree) → group_members k groups.new.entries ≡ cond (is_key k (Some key.now)) (put pos row (group_members k groups.old.entries)) (group_members k groups.old.entries)) }
+    ensures sound { OnOk result (AreBundles group.now groups.new.entries) }
+{
+    let bundle = Bundle::new(alloc, group)?;
+    let mut kept = Kept::of(bundle);
+    kept.put_in(alloc, group, pos, row)?;
+    groups.insert(key.try_clone()?, kept)?;
     Ok(())
 }
 

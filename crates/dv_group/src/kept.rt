@@ -1,12 +1,14 @@
 //! Groups as they are kept.
 
-ghost use Rattle.std.specs.Prelude.{◌≡◌, IfOk, None};
+ghost use Rattle.std.specs.Prelude.{◌≡◌, ◌↔◌, [], IfOk, IsTrue, None, OnOk};
 ghost use Rattle.dv_change.specs.Changes.{forget};
+ghost use Rattle.dv_change.specs.Ordered.{gone, put};
 ghost use Rattle.dv_gather.specs.Grouping.{row_shown};
 ghost use Rattle.dv_group.specs.Members.{IsKept};
 ghost use Rattle.dv_group.specs.Room.{IsBundle};
 
 use crate::bundle::Bundle;
+use dv_change::Pos;
 use dv_gather::Group;
 use dv_value::{Document, NoMemory};
 use std::alloc::Global;
@@ -28,29 +30,62 @@ impl Kept {
         Kept { bundle, row: None }
     }
 
-    /// The group alone.
-    pub(crate) fn into_bundle(self) -> Bundle
-        ensures { result ≡ self.bundle }
+    /// Whether it has no rows.
+    pub(crate) fn is_empty(&self) -> bool
+        ensures { IsTrue result ↔ (self.now.bundle.members ≡ []) }
     {
-        self.bundle
+        self.bundle.is_empty()
     }
 
-    /// With its row, which is made where it isn't. A row before it lends its names. Fails where memory is wanting.
-    pub(crate) fn settled(
-        self,
+    /// Puts the row at the position, in the place of one that stands there; the group's own row isn't made then. Fails where
+    /// memory is wanting; then it is spent.
+    pub(crate) fn put_in(
+        &mut self,
+        alloc: Global,
+        group: &Group,
+        pos: Pos,
+        row: Document,
+    ) -> Result<(), NoMemory>
+        requires { IsKept group.now self.old }
+        ensures rows { OnOk result (self.new.bundle.members ≡ put pos row self.old.bundle.members) }
+        ensures sound { OnOk result (IsKept group.now self.new) }
+    {
+        self.bundle.put_in(alloc, group, pos, row)?;
+        self.row = None;
+        Ok(())
+    }
+
+    /// Takes out what stands at the position; the group's own row isn't made then. Fails where memory is wanting; then it is
+    /// spent.
+    pub(crate) fn take_out(
+        &mut self,
+        alloc: Global,
+        group: &Group,
+        pos: &Pos,
+    ) -> Result<(), NoMemory>
+        requires { IsKept group.now self.old }
+        ensures rows { OnOk result (self.new.bundle.members ≡ gone pos.now self.old.bundle.members) }
+        ensures sound { OnOk result (IsKept group.now self.new) }
+    {
+        self.bundle.take_out(alloc, group, pos)?;
+        self.row = None;
+        Ok(())
+    }
+
+    /// Makes its row, where it isn't made. A row before it lends its names. Fails where memory is wanting.
+    pub(crate) fn settle(
+        &mut self,
         alloc: Global,
         group: &Group,
         before: Option<&Document>,
-    ) -> Result<Self, NoMemory>
-        requires { IsKept group.now self }
-        ensures bundle { IfOk result (λ kept. kept.bundle ≡ self.bundle) }
-        ensures sound { IfOk result (λ kept. IsKept group.now kept) }
+    ) -> Result<(), NoMemory>
+        requires { IsKept group.now self.old }
+        ensures bundle { self.new.bundle ≡ self.old.bundle }
+        ensures sound { OnOk result (IsKept group.now self.new) }
     {
         let row = self.shown(alloc, group, before)?;
-        Ok(Kept {
-            bundle: self.bundle,
-            row,
-        })
+        self.row = row;
+        Ok(())
     }
 
     /// The group's row, where it has rows; it is shared where it was made before. A row before it lends its names. Fails where

@@ -135,9 +135,7 @@ fn ranked_place(
         Accumulator::Max => Part::Down(key),
         Accumulator::Sum | Accumulator::Min | Accumulator::Push => Part::Up(key),
     };
-    let mut parts = Vec::with_capacity(alloc, pos.as_slice().len().saturating_add(1))?;
-    parts.push(part)?;
-    pos.behind(alloc, parts)
+    pos.behind_part(alloc, part)
 }
 
 /// The value of the first row, null where there is none. Fails where memory is wanting.

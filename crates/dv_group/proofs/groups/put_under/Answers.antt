@@ -1,21 +1,32 @@
--- The rows with one more come in the place of those that were taken out.
-use Rattle.std.proofs.Common.{◌∙◌, ap, Some}
+-- The rows with one more stand in the slot of those that were there.
+use Rattle.std.proofs.Common.{◌∙◌, ap, sym, Some}
+use Rattle.std.proofs.lemmas.Result.{on_ok_weaker}
 use Rattle.dv_change.specs.Ordered.{put}
-use Rattle.dv_group.specs.declared.bundle.Bundle.{Bundle}
-use Rattle.dv_group.proofs.Under.{bundles-put, changed-under, kept-of, put-back}
+use Rattle.dv_group.specs.Members.{rows_in}
+use Rattle.dv_group.proofs.Under.{bundle-there, bundles-written, changed-under, written-there}
 use Rattle.dv_group.proofs.groups.put_under.Goals as goal
 
-pub returns-clause-rows : goal.returns-clause-rows
-returns-clause-rows c =
-    let es = c.args.groups.now.entries in
-    let ms = c.bundle_of.new.groups.entries in
-    let key = c.args.key.now in
-    let kept = c.of.result in
-    let is = ap (λ (b : Bundle). b.members) c.of.ensures.bundle ∙ c.in_ok-more.ensures.rows ∙ ap (put c.args.pos c.args.row) c.in_ok-bundle.ensures.rows in
-    changed-under es c.insert.new.self.entries key (put c.args.pos c.args.row) (Some kept) is
-    (put-back es ms c.insert.new.self.entries key c.in_ok-try_clone.field-0 kept c.in_ok-try_clone.ensures c.in_ok-bundle.ensures.others c.in_ok-insert.ensures.updates.0)
+pub put_in-requires : goal.put_in-requires
+put_in-requires c = bundle-there c.args.group.now c.args.key.now c.in-Some.kept.now c.args.groups.now.entries (sym c.in-Some.ensures.value) c.requires
 
-pub returns-clause-sound : goal.returns-clause-sound
-returns-clause-sound c =
-    bundles-put c.args.group.now c.in_ok-try_clone.field-0 c.of.result c.bundle_of.new.groups.entries c.insert.new.self.entries c.in_ok-insert.ensures.entries
-    (kept-of c.args.group.now c.in_ok-more.more c.of.result c.of.ensures.bundle c.of.ensures.row c.in_ok-more.ensures.sound) c.in_ok-bundle.ensures.left
+pub returns-in-Some-clause-rows : goal.returns-in-Some-clause-rows
+returns-in-Some-clause-rows c =
+    let m = c.args.groups.now in
+    let key = c.args.key.now in
+    let w = c.put_in.new.self in
+    let n = c.get_mut.follows.lender w in
+    on_ok_weaker c.put_in.result (λ come.
+    changed-under m.entries n.entries key (put c.args.pos c.args.row) (Some w) (come ∙ ap (put c.args.pos c.args.row) (ap rows_in c.in-Some.ensures.value))
+    (written-there m n key c.in-Some.kept.now w c.in-Some.ensures.value (c.get_mut.follows.holds w))) c.put_in.ensures.rows
+
+pub returns-in-Some-clause-sound : goal.returns-in-Some-clause-sound
+returns-in-Some-clause-sound c =
+    let w = c.put_in.new.self in
+    on_ok_weaker c.put_in.result (λ sound.
+    bundles-written c.args.group.now c.args.key.now w c.args.groups.now.entries (c.get_mut.follows.lender w).entries (c.get_mut.follows.holds w).0 sound c.requires) c.put_in.ensures.sound
+
+pub put_first-requires-clause-sound : goal.put_first-requires-clause-sound
+put_first-requires-clause-sound c = rw c.get_mut.follows.holds-at-none c.requires
+
+pub put_first-requires-clause-none : goal.put_first-requires-clause-none
+put_first-requires-clause-none c = rw c.get_mut.follows.holds-at-none (ap rows_in (sym c.in-None.ensures.value))

@@ -1,6 +1,0 @@
-use Rattle.std.proofs.Common.{refl}
-use Rattle.dv_group.proofs.Under.{kept-settled}
-use Rattle.dv_group.proofs.kept.Kept.settled.Goals as goal
-
-pub returns-clause-sound : goal.returns-clause-sound
-returns-clause-sound c = kept-settled c.args.group.now c.args.self (record { bundle = c.args.self.bundle; row = c.in_ok-row.row }) refl c.in_ok-row.ensures c.requires
