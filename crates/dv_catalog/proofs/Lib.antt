@@ -24,3 +24,4 @@ mod Foremost
 mod Fronts
 mod ById
 mod Narrowed
+mod Lent

@@ -5,10 +5,13 @@ use Rattle.std.proofs.lemmas.List.Elements.{filter-append}
 use Rattle.std.proofs.lemmas.Slice.Eq.{bytes_eq-Decides}
 use Rattle.std.specs.List.{AllByRecursion, flat_map, list_any}
 use Rattle.std.specs.BTreeMap.Range.{range_contains}
-use Rattle.std.specs.Cmp.{Equal-is}
 use Rattle.std.specs.Ordering.{is_eq, is_le, is_lt, ordering_reverse}
+use Rattle.std.specs.declared.cmp.Ordering.{Ordering}
+use Rattle.std.specs.declared.cmp.Ordering.TheVariants.{Less, Equal, Greater}
 use Rattle.std.specs.declared.ops.Bound.TheVariants.{Included}
 use Rattle.dv_value.specs.Names.{value_under}
+use Rattle.dv_value.specs.View.{tree}
+use Rattle.dv_value.specs.declared.value.Value.{Value}
 use Rattle.dv_value.specs.Tree.{Tree, Field, array, fields_of, list_of_fields}
 use Rattle.dv_order.specs.Key.{KeyTree, key_order, value}
 use Rattle.dv_order.specs.KeyLaws.{key_order_total}
@@ -17,15 +20,16 @@ use Rattle.dv_candidates.specs.Candidates.{Candidate, candidates, leaves, or_nul
 use Rattle.dv_path.specs.LeafKeys.{is_key_of, is_leaf_key, is_some_key, leaf_values}
 use Rattle.dv_path.specs.declared.direction.Direction.{Direction}
 use Rattle.dv_path.specs.declared.direction.Direction.TheVariants.{Ascending, Descending}
-use Rattle.dv_match.specs.Filter.{Condition, Members, equal}
+use Rattle.dv_match.specs.Filter.{Condition, Members, among, equal}
 use Rattle.dv_match.specs.Match.{matches}
 use Rattle.dv_coll.specs.Collection.{HasId, IsNoArray, id_key}
 use Rattle.dv_keyed.specs.Choice.{chosen}
 use Rattle.dv_keyed.specs.Index.{IndexForm, IndexTree, form_of, id_form}
 use Rattle.dv_keyed.specs.Interval.{is_in_all}
+use Rattle.dv_keyed.specs.Keys.{has_key}
 use Rattle.dv_keyed.specs.Within.{covers, has_within, is_within}
 use Rattle.dv_index.specs.InDirection.{in_direction}
-use Rattle.dv_catalog.specs.Equalities.{equal_in}
+use Rattle.dv_catalog.specs.Equalities.{equals_in}
 
 abbrev Rows : Type 0
 Rows = List (List Field)
@@ -78,13 +82,15 @@ paths-of-forms : (xs : List IndexTree) → map (λ (x : IndexTree). x.path) xs �
 paths-of-forms [] = refl
 paths-of-forms (x ∷ xs) = ap (λ ps. x.path ∷ ps) (paths-of-forms xs)
 
-asked-plan : (n : ℕ) (c : Condition) (v : Tree) → equal_in (Some (n, c)) ≡ Some v → c ≡ equal v
-asked-plan n (equal w) v e = let same : w ≡ v = cc in ap equal same
-asked-plan n c v e = absurd cc
+-- a key that the bounds cover is the key of one of the values, where they hold it equal to some
+covered-value : (c : Condition) (vs : List Tree) (k : KeyTree) → equals_in (Some (zero, c)) ≡ Some vs → covers c k ≡ true → is_some_key k vs ≡ true
+covered-value (equal v) vs k e h = let same : v ∷ [] ≡ vs = cc in ap (is_some_key k) (sym same) ∙ or-false (is_key_of k v) ∙ h
+covered-value (among ws) vs k e h = let same : ws ≡ vs = cc in ap (is_some_key k) (sym same) ∙ h
+covered-value c vs k e h = absurd cc
 
-pub equal_asked : MatchesAreWithin → KeysAreWithin → (form : Members) (xs : List IndexTree) (v : Tree) → map form_of xs ≡ id_form ∷ [] → equal_in (chosen form (map (λ (x : IndexTree). x.path) xs)) ≡ Some v
-    → (d : List Field) → HasId d → matches form d ≡ true → is_key_of (id_key d) v ≡ true
-equal_asked within keys form xs v are asked d h e = by (chosen form paths) refl asked
+pub equal_asked : MatchesAreWithin → KeysAreWithin → (form : Members) (xs : List IndexTree) (vs : List Tree) → map form_of xs ≡ id_form ∷ [] → equals_in (chosen form (map (λ (x : IndexTree). x.path) xs)) ≡ Some vs
+    → (d : List Field) → HasId d → matches form d ≡ true → is_some_key (id_key d) vs ≡ true
+equal_asked within keys form xs vs are asked d h e = by (chosen form paths) refl asked
   where
     paths : List (List (List ℕ))
     paths = map (λ (x : IndexTree). x.path) xs
@@ -92,17 +98,31 @@ equal_asked within keys form xs v are asked d h e = by (chosen form paths) refl 
     one : paths ≡ (codes "_id" ∷ []) ∷ []
     one = paths-of-forms xs ∙ ap (map (λ (x : IndexForm). x.path)) are
 
-    by : (p : Option (ℕ × Condition)) → chosen form paths ≡ p → equal_in p ≡ Some v → is_key_of (id_key d) v ≡ true
+    by : (p : Option (ℕ × Condition)) → chosen form paths ≡ p → equals_in p ≡ Some vs → is_some_key (id_key d) vs ≡ true
     by None is none = absurd cc
     by (Some (n, c)) is some =
         let bounds = within form paths n c is in
         let path : bounds.0 ≡ codes "_id" ∷ [] = only-path (codes "_id" ∷ []) bounds.0 n (ap (λ ps. slice_get ps n) (sym one) ∙ bounds.1) in
-        let covered : covers c (id_key d) ≡ true = id-covered keys c d h (ap (λ p. has_within c p d) (sym path) ∙ bounds.2 d e) in
-        ap (λ b. covers b (id_key d)) (sym (asked-plan n c v some)) ∙ covered
+        covered-value c vs (id_key d) some (id-covered keys c d h (ap (λ p. has_within c p d) (sym path) ∙ bounds.2 d e))
 
--- a key stands between two ends that are equal to it
-pub at_key : (k l : KeyTree) → is_eq (key_order k l) ≡ true → range_contains key_order (Included l) (Included l) k ≡ true
-at_key k l e = ap (λ o. is_le o && not (is_lt o)) (key_order_total.antisymm l k ∙ ap ordering_reverse ((Equal-is (key_order k l)).0 e))
+-- to be among the keys of values is to be the key of one of them
+pub among_values : (k : KeyTree) (vs : List Value) → has_key k (map (λ v. value (canon (tree v))) vs) ≡ is_some_key k (map tree vs)
+among_values k [] = refl
+among_values k (v ∷ vs) = ap (λ b. is_key_of k (tree v) || b) (among_values k vs)
+
+-- a key stands between two ends that are one key exactly where it is equal to this
+pub at_key : (k l : KeyTree) → range_contains key_order (Included l) (Included l) k ≡ is_eq (key_order k l)
+at_key k l = between (key_order l k) ∙ ap is_eq (key_order_total.antisymm l k) ∙ turned (key_order k l)
+  where
+    between : (o : Ordering) → (is_le o && not (is_lt o)) ≡ is_eq o
+    between Less = refl
+    between Equal = refl
+    between Greater = refl
+
+    turned : (o : Ordering) → is_eq (ordering_reverse o) ≡ is_eq o
+    turned Less = refl
+    turned Equal = refl
+    turned Greater = refl
 
 -- ---- what holds of each row
 

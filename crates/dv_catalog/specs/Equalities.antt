@@ -1,13 +1,14 @@
--- What a plan asks for by an equality.
-use Rattle.std.specs.Prelude.{ℕ, Option, Some, None}
+-- What a plan asks for by equalities.
+use Rattle.std.specs.Prelude.{ℕ, List, [], ◌∷◌, Option, Some, None}
 use Rattle.dv_value.specs.Tree.{Tree}
-use Rattle.dv_match.specs.Filter.{Condition, equal}
+use Rattle.dv_match.specs.Filter.{Condition, equal, among}
 
-abbrev equal_to : Condition → Option Tree
-equal_to (equal v) = Some v
+abbrev equal_to : Condition → Option (List Tree)
+equal_to (equal v) = Some (v ∷ [])
+equal_to (among vs) = Some vs
 equal_to c = None
 
--- the value of the condition that bounds the keys of a plan, where it is an equality
-abbrev pub equal_in : Option (ℕ × Condition) → Option Tree
-equal_in None = None
-equal_in (Some plan) = equal_to plan.1
+-- the values to one of which the condition that bounds the keys of a plan holds them equal, where it is an equality or $in
+abbrev pub equals_in : Option (ℕ × Condition) → Option (List Tree)
+equals_in None = None
+equals_in (Some plan) = equal_to plan.1

@@ -14,6 +14,7 @@ pub mod Parts
 pub mod IndexParts
 pub mod ComingParts
 pub mod Equalities
+pub mod Asked
 pub mod EffectView
 pub mod RowsView
 pub mod SearchedView

@@ -28,9 +28,9 @@ use dv_views::{Registry, ViewFault, names_read};
 use std::alloc::Global;
 use std::marker::Model;
 
-/// Collections, and views over them and over older views, in the order in which they were made. Each view that isn't stale
-/// keeps the rows of its pipeline over what stands under the names that it reads, as it is at this moment, and counts the
-/// work that changes took.
+/// Collections, and views over them and over older views, in the order in which they were made. Each view that isn't stale keeps
+/// the rows of its pipeline over what is under the names that it reads, as it is at this moment, and counts the work that changes
+/// took.
 #[derive(Debug, Drop)]
 pub struct Catalog {
     alloc: Global,
@@ -83,16 +83,16 @@ impl Catalog {
         }
     }
 
-    /// Whether a view stands under the namespace. Takes no memory.
+    /// Whether there is a view under the namespace. Takes no memory.
     pub fn is_view(&self, namespace: &str) -> bool
         ensures { result ≡ is_view namespace.now self.now.state.views }
     {
         self.views.has(namespace)
     }
 
-    /// Puts a document into the collection of a namespace, which is made where it isn't there. Refused with
-    /// `DuplicateKey` where a document has an equal `_id`, or one has a key of it in a unique index, and with
-    /// `WantOfMemory`; then nothing is changed, and no collection is made. No view stands there.
+    /// Puts a document into the collection of a namespace, which is made if it doesn't exist. Refused with `DuplicateKey` if a
+    /// document has an equal `_id`, or one has a key of it in a unique index, and with `WantOfMemory`; then nothing is changed, and
+    /// no collection is made. There is no view there.
     pub fn insert(&mut self, namespace: &str, document: Document) -> Result<(), Stopped>
         requires identified { HasId document }
         requires collection { is_view namespace.now self.old.state.views ≡ false }
@@ -111,9 +111,9 @@ impl Catalog {
         Ok(())
     }
 
-    /// Updates the documents of a namespace that an updating is for. Refused as the first of them is, then with
-    /// `DuplicateKey` where one of the changes, made one after the other, would put a key of a unique index under two `_id`s;
-    /// then nothing is changed. Where memory is wanting, the first so many changes, not all, are made. No view stands there.
+    /// Updates the documents of a namespace that an updating is for. Refused as the first of them is, then with `DuplicateKey` if
+    /// one of the changes, made one after the other, would put a key of a unique index under two `_id`s; then nothing is changed.
+    /// If memory runs out, the first so many changes, not all, are made. There is no view there.
     pub fn update(&mut self, namespace: &str, updating: &Updating) -> Result<Counted, Stopped>
         requires { is_view namespace.now self.old.state.views ≡ false }
         ensures made { Makes (λ counted. counted) namespace.now (effects.update_chosen (updating_seen updating.now)) self.old.state.namespaces result self.new.state.namespaces }
@@ -176,8 +176,8 @@ impl Catalog {
         Ok(done)
     }
 
-    /// The rows under a namespace that a find is for, in its order. Stale views that it needs are made anew first. Fails
-    /// where memory is wanting; then some of these may be made anew.
+    /// The rows under a namespace that a find is for, in its order. Stale views that it needs are recomputed first. Fails with
+    /// `NoMemory` when memory runs out; then some of these may be recomputed.
     pub fn find(&mut self, find: &Find) -> Result<Vec<Document>, NoMemory>
         ensures rows { let asked = find_seen find.now in
             IfOk result (λ rows. rows.items ≡ scans.scan asked.filter asked.sort asked.skip asked.limit (rows_of asked.namespace self.old.state)) }
@@ -197,8 +197,8 @@ impl Catalog {
         )
     }
 
-    /// How the rows under a namespace that match a filter are found, and how many the plan covers. Stale views that they need
-    /// are made anew first. Fails where memory is wanting; then some of these may be made anew.
+    /// How the rows under a namespace that match a filter are found, and how many the plan covers. Stale views that they need are
+    /// recomputed first. Fails with `NoMemory` when memory runs out; then some of these may be recomputed.
     pub fn explain(&mut self, namespace: &str, filter: &Filter) -> Result<Explained, NoMemory>
         ensures explained { IfOk result (λ told. explained_seen told ≡ indexing.explained namespace.now filter.now self.old.state) }
         ensures marks { Reads (namespace.now ∷ []) self.old result self.new }
@@ -211,8 +211,8 @@ impl Catalog {
         explained_in(self.alloc, &self.collections, namespace, filter)
     }
 
-    /// The rows of a pipeline over what stands under a namespace. Stale views that it needs are made anew first. Fails where
-    /// memory is wanting; then some of these may be made anew.
+    /// The rows of a pipeline over what is under a namespace. Stale views that it needs are recomputed first. Fails with `NoMemory`
+    /// when memory runs out; then some of these may be recomputed.
     pub fn aggregate(&mut self, aggregate: &Aggregate) -> Result<Vec<Document>, NoMemory>
         ensures rows { let asked = aggregate_seen aggregate.now in
             IfOk result (λ rows. rows.items ≡ making.aggregated asked.stages asked.namespace self.old.state) }
@@ -242,7 +242,7 @@ impl Catalog {
         )
     }
 
-    /// How the view of a namespace stands; none where no view stands there. A stale view is left so. Takes no memory.
+    /// The state of the view of a namespace; none if there is no view there. A stale view is left so. Takes no memory.
     pub fn stats(&self, namespace: &str) -> Option<Stats>
         ensures { option_map stats_seen result ≡ stats_of namespace.now self.now }
     {
@@ -257,8 +257,8 @@ impl Catalog {
         })
     }
 
-    /// The rows that the view of a namespace keeps, in their order: those of its pipeline, as what it reads stands now. None
-    /// where no view stands there, or a stale one. Takes no memory.
+    /// The rows that the view of a namespace keeps, in their order: those of its pipeline over what it reads, as that is now. None
+    /// if there is no view there, or a stale one. Takes no memory.
     pub fn stored_rows(&self, namespace: &str) -> Option<dv_views::Rows<'_>>
         ensures { result ≡ stored_of namespace.now self.now }
     {
@@ -266,12 +266,11 @@ impl Catalog {
         self.views.rows(namespace)
     }
 
-    /// Makes a collection without documents, or a view, which has its rows from then on; stale views that it needs are made
-    /// anew. Refused with `NamespaceExists` where something stands under the namespace; then, for a view, with `ReadByView`
-    /// where a view reads the namespace or it would read itself, and with `LimitReached` where there are 1,000 views, or it
-    /// would stand higher than 8, one over collections alone standing at 1, and another one higher than all that it reads; and
-    /// with `WantOfMemory`. Then nothing is changed, but that where memory is wanting some of these stale views may be made
-    /// anew.
+    /// Makes a collection without documents, or a view, which has its rows from then on; stale views that it needs are recomputed.
+    /// Refused with `NamespaceExists` if there is something under the namespace; then, for a view, with `ReadByView` if a view
+    /// reads the namespace or it would read itself, and with `LimitReached` if there are 1,000 views, or its height would be over 8
+    /// (a view over only collections has height 1, and any other is higher than all that it reads); and with `WantOfMemory`. Then
+    /// nothing is changed, except that if memory runs out some of these stale views may be recomputed.
     pub fn create(&mut self, create: Create) -> Result<(), Refusal>
         ensures made { let asked = create_seen create in Leaves (making.created asked.namespace asked.view self.old.state) self.old.state result self.new.state }
         ensures marks { let asked = create_seen create in StandMade (names_of_new asked.view) (marks_made asked.view self.old.state.views self.old.marks) self.old result self.new.marks }
@@ -305,9 +304,9 @@ impl Catalog {
         }
     }
 
-    /// Takes out what stands under a namespace: a collection, without which the views that read it find it empty, or a
-    /// view. Refused with `NamespaceNotFound` where nothing stands there, and with `ReadByView` where a view reads the one that
-    /// stands there; then nothing is changed. Where memory is wanting to tell a view, it is stale.
+    /// Takes out what is under a namespace: a collection, without which the views that read it find it empty, or a view. Refused
+    /// with `NamespaceNotFound` if there is nothing, and with `ReadByView` if a view reads the view that is there; then nothing is
+    /// changed. If memory runs out when a change is passed to a view, that view is stale.
     pub fn remove(&mut self, namespace: &str) -> Result<(), Refusal>
         ensures made { Leaves (making.dropped namespace.now self.old.state) self.old.state result self.new.state }
         ensures marks { StandSo (AreMarkedByDrop namespace.now self.old.state self.old.marks) self.old.marks result self.new.marks }
@@ -345,11 +344,11 @@ impl Catalog {
         self.collections.remove(namespace);
     }
 
-    /// Makes the indexes of these entries under a namespace, in their order, but those that are there; the collection is
-    /// made where it isn't there. Refused with `OnView` on a view; then with `ConflictingUpdateOperators` where the name or
-    /// the path of an entry is there or comes by an earlier one, but not the same index; then with `LimitReached` where there
-    /// would be more than 64; then with `DuplicateKey` where a key of a unique one stands in two documents; and with
-    /// `WantOfMemory`. Then nothing is changed.
+    /// Makes the indexes of these entries under a namespace, in their order, except those that exist; the collection is made if it
+    /// doesn't exist. Refused with `OnView` on a view; then with `ConflictingUpdateOperators` if an existing index or one of an
+    /// earlier entry has the name or the path of an entry, but isn't the same index; then with `LimitReached` if there would be
+    /// more than 64; then with `DuplicateKey` if a key of a unique one is in two documents; and with `WantOfMemory`. Then nothing
+    /// is changed.
     pub fn create_indexes(
         &mut self,
         namespace: &str,
@@ -366,9 +365,9 @@ impl Catalog {
         self.collections.create_indexes(namespace, entries)
     }
 
-    /// Drops the index of a name under a namespace, or with `*` all but that on `_id`, and answers how many there were.
-    /// Refused with `OnView` on a view, with `NamespaceNotFound` where nothing stands there, with `BadValue` for the index on
-    /// `_id`, and with `IndexNotFound` where there is none of the name; then nothing is changed. Takes no memory.
+    /// Drops the index of a name under a namespace, or with `*` all except that on `_id`, and returns how many there were. Refused
+    /// with `OnView` on a view, with `NamespaceNotFound` if there is nothing, with `BadValue` for the index on `_id`, and with
+    /// `IndexNotFound` if there is none of the name; then nothing is changed. Takes no memory.
     pub fn drop_indexes(&mut self, namespace: &str, name: &str) -> Result<usize, Refusal>
         ensures made { Leaves (indexing.indexes_dropped namespace.now name.now self.old.state) self.old.state result self.new.state }
         ensures marks { self.new.marks ≡ self.old.marks }

@@ -1,40 +1,35 @@
 //! Rows of a view, found by their `_id`s.
 
-ghost use Rattle.std.specs.Prelude.{◌≡◌, ◌∷◌, [], List, true, filter as kept, map, IfOk};
-ghost use Rattle.std.specs.BTreeMap.Range.{IsLeBy, IsLtBy};
-ghost use Rattle.std.specs.List.{AllByRecursion};
-ghost use Rattle.std.specs.Option.{option_map};
+ghost use Rattle.std.specs.Prelude.{◌≡◌, ◌++◌, map, filter as kept, IfOk, OnOk};
+ghost use Rattle.std.specs.BTreeMap.Range.{IsLeBy, IsLtBy, range_contains};
+ghost use Rattle.std.specs.List.Sorted.{IsStrictlySortedBy};
+ghost use Rattle.std.specs.Ordering.{is_eq};
 ghost use Rattle.std.specs.Range.Bound.{IsForward};
-ghost use Rattle.dv_value.specs.Tree.{Field};
-ghost use Rattle.dv_value.specs.View.{tree};
-ghost use Rattle.dv_order.specs.Key.{KeyTree, key_order};
-ghost use Rattle.dv_path.specs.LeafKeys.{is_key_of};
+ghost use Rattle.dv_order.specs.Key.{key_order};
 ghost use Rattle.dv_match.specs.Match.{matches};
-ghost use Rattle.dv_coll.specs.Collection.{HasId, id_key};
-ghost use Rattle.dv_keyed.specs.Index.{BeginsWithId, id_form};
+ghost use Rattle.dv_coll.specs.Collection.{id_key};
 ghost use Rattle.dv_keyed.specs.Interval.{is_between};
-ghost use Rattle.dv_keyed.specs.View.{plan_seen};
+ghost use Rattle.dv_keyed.specs.Keys.{has_key};
 ghost use Rattle.dv_index.specs.InDirection.{in_direction};
 ghost use Rattle.dv_pipe.specs.Sources.{rows_referred};
 ghost use Rattle.dv_sort.specs.Sorting.{front};
-ghost use Rattle.dv_catalog.specs.Equalities.{equal_in};
 ghost use Rattle.dv_catalog.specs.Scan.{matching};
 
+use crate::asked::{Asked, asked_of_rows};
 use crate::rows::Rows;
 use crate::searched::first_matching;
-use dv_candidates::Path;
-use dv_index::{Bounds, Index, Indexes, Plan, Planner, laws};
-use dv_keyed::Interval;
+use dv_index::laws;
+use dv_keyed::{Interval, in_order, lent};
 use dv_match::Filter;
-use dv_order::key_of;
+use dv_order::Key;
 use dv_path::Direction;
-use dv_value::{Document, NoMemory, Value};
+use dv_value::{Document, NoMemory};
 use dv_views::RowsById;
 use std::alloc::Global;
 use std::ops::Bound;
 
 /// The first rows that match the filter, in a direction of their `_id`s: `most` of them, or all. Those are looked at whose
-/// `_id`s are equal to a value that the filter asks for, or are in all ranges that it sets, up to the last of these; all of them
+/// `_id`s are equal to values that the filter asks for, or are in all ranges that it sets, up to the last of these; all of them
 /// where some `_id` is an array. Fails where memory is wanting.
 pub(crate) fn first_by_key<'a>(
     alloc: Global,
@@ -45,24 +40,16 @@ pub(crate) fn first_by_key<'a>(
 ) -> Result<Vec<&'a Document>, NoMemory>
     ensures { IfOk result (λ found. rows_referred found.items ≡ front most (in_direction direction (matching filter.now rows.now))) }
 {
-    let candidates = candidates(alloc, rows, filter, direction)?;
-    first_matching(alloc, candidates, filter, most)
-}
-
-/// Rows among which are all that match the filter, in a direction of their `_id`s.
-fn candidates<'a>(
-    alloc: Global,
-    rows: &RowsById<'a>,
-    filter: &Filter,
-    direction: Direction,
-) -> Result<Rows<'a>, NoMemory>
-    ensures { IfOk result (λ candidates. matching filter.now candidates ≡ in_direction direction (matching filter.now rows.now)) }
-{
-    let ends = ends_of(alloc, rows, filter)?;
-    if !ends.is_forward() {
-        return Ok(Rows::none());
+    match asked_of_rows(alloc, rows, filter)? {
+        Asked::Between(ends) => {
+            let candidates = rows_between(rows, ends, direction)?;
+            first_matching(alloc, candidates, filter, most)
+        }
+        Asked::Among(keys) => {
+            let candidates = rows_among(alloc, rows, &keys, direction)?;
+            Ok(first_of(candidates, filter, most))
+        }
     }
-    rows_between(rows, ends, direction)
 }
 
 /// The rows whose `_id`s stand between two ends, in a direction of these.
@@ -71,9 +58,11 @@ fn rows_between<'a>(
     ends: Interval,
     direction: Direction,
 ) -> Result<Rows<'a>, NoMemory>
-    requires { IsForward (IsLeBy key_order) (IsLtBy key_order) ends.low ends.high }
     ensures { IfOk result (λ between. between ≡ in_direction direction (kept (λ d. is_between ends (id_key d)) rows.now)) }
 {
+    if !ends.is_forward() {
+        return Ok(Rows::none());
+    }
     let Interval { low, high } = ends;
     match direction {
         Direction::Ascending => Ok(Rows::of_between(rows.between(low, high)?)),
@@ -81,65 +70,96 @@ fn rows_between<'a>(
     }
 }
 
-/// Two ends between which the `_id`s stand of all rows that match the filter.
-fn ends_of(alloc: Global, rows: &RowsById<'_>, filter: &Filter) -> Result<Interval, NoMemory>
-    ensures { IfOk result (λ ends. AllByRecursion (λ d. matches filter.now d ≡ true → is_between ends (id_key d) ≡ true) rows.now) }
+/// The rows whose `_id`s have one of these keys, in a direction of their `_id`s.
+fn rows_among<'a>(
+    alloc: Global,
+    rows: &RowsById<'a>,
+    keys: &[Key],
+    direction: Direction,
+) -> Result<Vec<&'a Document>, NoMemory>
+    ensures { IfOk result (λ among. rows_referred among.items ≡ in_direction direction (kept (λ d. has_key (id_key d) keys.now) rows.now)) }
 {
-    if rows.has_array_id()? {
-        // By an element of its array a row may match that stands elsewhere.
-        return Ok(Interval {
-            low: Bound::Unbounded,
-            high: Bound::Unbounded,
-        });
-    }
-    ends_by_filter(alloc, filter)
+    let ordered = in_order(lent(alloc, keys)?)?;
+    let among = rows_under(alloc, rows, &ordered)?;
+    Ok(directed(among, direction))
 }
 
-/// Two ends between which the `_id`s stand of all documents that match the filter.
-fn ends_by_filter(alloc: Global, filter: &Filter) -> Result<Interval, NoMemory>
-    ensures { IfOk result (λ ends. (d : List Field) → HasId d → matches filter.now d ≡ true → is_between ends (id_key d) ≡ true) }
+/// Rows that ascend, in a direction.
+fn directed<'a>(mut rows: Vec<&'a Document>, direction: Direction) -> Vec<&'a Document>
+    ensures { rows_referred result.items ≡ in_direction direction (rows_referred rows.entry.items) }
 {
-    laws::what_matches_is_in_the_bounds();
-    laws::keys_are_in_the_bounds_of_their_values();
-    laws::an_only_key_is_in_all_bounds();
-    let indexes = Indexes::new(alloc)?;
-    let plan = Planner::choose(filter, indexes.as_slice());
-    match value_asked(plan) {
-        Some(value) => ends_at(value),
-        None => Interval::of(alloc, id_path(indexes.as_slice()), filter),
+    match direction {
+        Direction::Ascending => rows,
+        Direction::Descending => {
+            rows.reverse();
+            rows
+        }
     }
 }
 
-/// The value that a plan asks for by an equality, where it does.
-fn value_asked(plan: Plan<'_>) -> Option<&Value>
-    ensures { option_map (λ value. tree value.now) result ≡ equal_in (plan_seen plan.entry) }
+/// The rows whose `_id`s have one of these keys, which ascend.
+fn rows_under<'a>(
+    alloc: Global,
+    rows: &RowsById<'a>,
+    keys: &[&Key],
+) -> Result<Vec<&'a Document>, NoMemory>
+    requires { IsStrictlySortedBy key_order (map (λ k. k.now) keys.now) }
+    ensures { IfOk result (λ under. rows_referred under.items ≡ kept (λ d. has_key (id_key d) (map (λ k. k.now) keys.now)) rows.now) }
 {
-    match plan {
-        Plan::Index {
-            bounds: Bounds::Equal(value),
-            ..
-        } => Some(value),
-        _ => None,
+    laws::documents_are_found_key_by_key();
+    // The rows are in order.
+    let _ = rows.len();
+    let mut under = Vec::with_capacity(alloc, keys.len())?;
+    'keys: for key in keys {
+        add_rows(&mut under, rows_at(alloc, rows, key)?)?;
     }
+    Ok(under)
 }
 
-/// Two ends between which the key of a value stands alone.
-fn ends_at(value: &Value) -> Result<Interval, NoMemory>
-    ensures { IfOk result (λ ends. (k : KeyTree) → is_key_of k (tree value.now) ≡ true → is_between ends k ≡ true) }
+/// The row whose `_id` has this key, where there is one.
+fn rows_at<'a>(alloc: Global, rows: &RowsById<'a>, key: &Key) -> Result<Vec<&'a Document>, NoMemory>
+    ensures { IfOk result (λ at. rows_referred at.items ≡ kept (λ d. is_eq (key_order (id_key d) key.now)) rows.now) }
 {
-    Ok(Interval {
-        low: Bound::Included(key_of(value)?),
-        high: Bound::Included(key_of(value)?),
-    })
+    let low = key.try_clone()?;
+    let high = key.try_clone()?;
+    rows_within(alloc, rows, Bound::Included(low), Bound::Included(high))
 }
 
-/// The path of the first index, which is `_id`.
-fn id_path(indexes: &[Index]) -> &Path
-    requires { BeginsWithId indexes.now }
-    ensures { result.now ≡ id_form.path }
+/// The rows whose `_id`s stand between two ends, in their order.
+fn rows_within<'a>(
+    alloc: Global,
+    rows: &RowsById<'a>,
+    low: Bound<Key>,
+    high: Bound<Key>,
+) -> Result<Vec<&'a Document>, NoMemory>
+    requires { IsForward (IsLeBy key_order) (IsLtBy key_order) low high }
+    ensures { IfOk result (λ within. rows_referred within.items ≡ kept (λ d. range_contains key_order low high (id_key d)) rows.now) }
 {
-    let Some((by_id, _others)) = indexes.split_first() else {
-        unreachable!()
-    };
-    by_id.path()
+    rows.between(low, high)?.collect(alloc)
+}
+
+/// Puts rows behind others.
+fn add_rows<'a>(rows: &mut Vec<&'a Document>, mut more: Vec<&'a Document>) -> Result<(), NoMemory>
+    ensures { OnOk result (rows_referred rows.new.items ≡ rows_referred rows.old.items ++ rows_referred more.entry.items) }
+{
+    rows.append(&mut more)
+}
+
+/// The first of the rows that match the filter: `most` of them, or all.
+fn first_of<'a>(rows: Vec<&'a Document>, filter: &Filter, most: Option<usize>) -> Vec<&'a Document>
+    ensures { rows_referred result.items ≡ front most (matching filter.now (rows_referred rows.entry.items)) }
+{
+    let mut found = all_matching(rows, filter);
+    if let Some(most) = most {
+        found.truncate(most);
+    }
+    found
+}
+
+/// Those of the rows that match the filter.
+fn all_matching<'a>(mut rows: Vec<&'a Document>, filter: &Filter) -> Vec<&'a Document>
+    ensures { result.items ≡ kept (λ d. matches filter.now d.now) rows.entry.items }
+{
+    rows.retain(|row| filter.matches(row));
+    rows
 }

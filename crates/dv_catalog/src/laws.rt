@@ -36,7 +36,7 @@ pub(crate) fn told_changes_are_made()
     dv_views::laws::changes_follow_on();
 }
 
-/// There may be a thousand views, of which none stands higher than 8.
+/// There may be a thousand views, of which none is higher than 8.
 pub fn there_may_be_a_thousand_views()
     ensures room { (v : ViewForm) (views : List ViewForm) → length views ≡ 999 → is_view v.name views ≡ false → reads_name views v.name ≡ false → is_read v.stages v.source v.name ≡ false → height_over (heights views) v.stages v.source ≤ 8 → with_view v views ≡ Ok (views ++ v ∷ []) }
     ensures full { (v : ViewForm) (views : List ViewForm) → length views ≡ 1000 → is_view v.name views ≡ false → reads_name views v.name ≡ false → is_read v.stages v.source v.name ≡ false → with_view v views ≡ Err LimitReached }

@@ -5,7 +5,7 @@ ghost use Rattle.dv_catalog.specs.StatsView.{live_shown};
 
 use dv_views::ViewState;
 
-/// How a view stands. A stale one has no rows, and has counted nothing.
+/// The state of a view. A stale one has no rows, and has counted nothing.
 #[derive(Clone, Copy, Debug)]
 pub struct Stats {
     /// Whether it has its rows: a stale view has none until it is read.

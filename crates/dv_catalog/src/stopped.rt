@@ -12,8 +12,7 @@ use std::alloc::{AllocError, AllocFailed};
 #[derive(Clone, Copy, Debug)]
 pub struct Stopped {
     pub refusal: Refusal,
-    /// How many of its changes were made before, one after the other: none but where memory is wanting, and never all of
-    /// them.
+    /// How many of its changes were made before, one after the other: none but if memory runs out, and never all of them.
     pub done: usize,
 }
 

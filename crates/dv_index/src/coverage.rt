@@ -14,8 +14,8 @@ use dv_keyed::{Bounds, Index, Plan, is_covered};
 use dv_value::{Document, NoMemory};
 use std::alloc::Global;
 
-/// How many documents a plan covers: those that have a leaf in its bounds, Missing counting as null, and for a scan all.
-/// The indexes have the keys of the collection's documents. Fails where memory is wanting.
+/// How many documents a plan covers: those that have a leaf in its bounds, Missing counting as null, and for a scan all. The
+/// indexes have the keys of the collection's documents. Fails with `NoMemory` when memory runs out.
 pub fn covered(
     alloc: Global,
     plan: &Plan<'_>,

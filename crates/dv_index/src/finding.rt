@@ -20,8 +20,8 @@ use dv_value::{Document, NoMemory};
 const FEW: usize = 16;
 
 impl IndexedCollection {
-    /// The documents that match the filter, in the order of their `_id`s, whatever indexes there are. Fails where memory is
-    /// wanting.
+    /// The documents that match the filter, in the order of their `_id`s, whatever indexes there are. Fails with `NoMemory` when
+    /// memory runs out.
     pub fn find(&self, filter: &Filter) -> Result<Vec<&Document>, NoMemory>
         ensures { IfOk result (λ found. map (λ d. d.now) found.items ≡ kept (λ d. matches filter.now d) self.now.documents) }
     {
@@ -29,8 +29,8 @@ impl IndexedCollection {
         run(self.alloc, &plan, filter, &self.documents, &self.indexes)
     }
 
-    /// The first documents that match the filter, in the order of their `_id`s, and not more than `most`. Where all documents
-    /// are looked at, or a range of `_id`s, no document behind the last of these is. Fails where memory is wanting.
+    /// The first documents that match the filter, in the order of their `_id`s, and not more than `most`. If all documents are
+    /// looked at, or a range of `_id`s, no document after the last of these is. Fails with `NoMemory` when memory runs out.
     pub fn find_first(&self, filter: &Filter, most: usize) -> Result<Vec<&Document>, NoMemory>
         ensures { IfOk result (λ found. map (λ d. d.now) found.items ≡ take most (kept (λ d. matches filter.now d) self.now.documents)) }
     {
@@ -45,8 +45,8 @@ impl IndexedCollection {
         )
     }
 
-    /// The first documents that match the filter, in a direction of their `_id`s, and not more than `most`. Fails where memory
-    /// is wanting.
+    /// The first documents that match the filter, in a direction of their `_id`s, and not more than `most`. Fails with `NoMemory`
+    /// when memory runs out.
     pub fn find_in_order(
         &self,
         filter: &Filter,
@@ -82,11 +82,11 @@ impl IndexedCollection {
         Ok(found)
     }
 
-    /// Documents that match the filter, and a bar: among them are all that match and that a path sorts before the bar. They
-    /// are found by the order of the index on the path, which has `least` documents or more before the bar, some of which may
-    /// not match; of a filter that is answered by a range of the path, those in the range. `None` where the filter is answered
-    /// by another index, where the path has no index but that on `_id`, where the path may lead nowhere before the bar, where
-    /// no key stands behind so many, and where more than one of 16 documents would be looked up. Fails where memory is wanting.
+    /// Documents that match the filter, and a bar: among them are all that match and that a path sorts before the bar. They are
+    /// found by the order of the index on the path, which has `least` documents or more before the bar, some of which may not
+    /// match; for a filter that is answered by a range of the path, those in the range. `None` if the filter is answered by another
+    /// index, if the path has no index except that on `_id`, if the path may lead nowhere before the bar, if there is no key after
+    /// so many, and if more than one of 16 documents would be looked up. Fails with `NoMemory` when memory runs out.
     pub fn find_ahead(
         &self,
         filter: &Filter,

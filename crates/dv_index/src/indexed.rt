@@ -29,8 +29,8 @@ use dv_value::{Document, FieldChange, NoMemory};
 use std::alloc::{AllocError, Global};
 use std::marker::Model;
 
-/// Documents in the order of their `_id`s, no two of which are equal but for the width of integers, and indexes in the order
-/// in which they were made, the one on `_id` first. `_id` is the first field of each document, and its value no array.
+/// Documents in the order of their `_id`s, no two of which are equal, whatever the width of their integers; and indexes in the
+/// order in which they were made, the one on `_id` first. `_id` is the first field of each document, and its value no array.
 ///
 /// A document is found by its `_id` in time logarithmic in their number. A change costs what its keys differ, for each index.
 #[derive(Debug, Drop)]
@@ -58,7 +58,7 @@ impl Model for IndexedCollection {
 /// What a find does, without its documents.
 #[derive(Clone, Copy, Debug)]
 pub struct Explanation<'c> {
-    /// The name of the index by which the documents are found, and `None` where all are looked at.
+    /// The name of the index by which the documents are found, and `None` if all are looked at.
     pub index: Option<&'c str>,
     /// How many documents have a leaf in the bounds in which the index is looked at, Missing counting as null; without an
     /// index, how many there are.
@@ -66,8 +66,8 @@ pub struct Explanation<'c> {
 }
 
 impl IndexedCollection {
-    /// A collection without documents and with the index on `_id` alone, whose memory will be allocated by `alloc`. Fails
-    /// where memory is wanting.
+    /// A collection without documents and with only the index on `_id`, whose memory will be allocated by `alloc`. Fails with
+    /// `NoMemory` when memory runs out.
     pub fn new(alloc: Global) -> Result<Self, NoMemory>
         ensures { IfOk result (λ collection. collection ≡ empty_indexed) }
     {
@@ -94,7 +94,7 @@ impl IndexedCollection {
         self.documents.is_empty()
     }
 
-    /// The document under the key of its `_id`, where there is one. Takes no memory.
+    /// The document under the key of its `_id`, if there is one. Takes no memory.
     pub fn get(&self, key: &Key) -> Option<&Document>
         ensures { option_map (λ document. document.now) result ≡ found key.now self.now.documents }
     {
@@ -110,8 +110,8 @@ impl IndexedCollection {
         self.documents.iter()
     }
 
-    /// Puts the document in its place. Refused with `Duplicate` where a document has an equal `_id`, and with `NoMemory`
-    /// where memory is wanting, for the document or for its keys; then nothing is changed, and the document is dropped.
+    /// Puts the document in its place. Refused with `Duplicate` if a document has an equal `_id`, and with `NoMemory` when memory
+    /// runs out, for the document or for its keys; then nothing is changed, and the document is dropped.
     pub fn insert(&mut self, document: Document) -> Result<(), InsertFault>
         requires { HasId document }
         ensures ok { OnOk result (self.new ≡ with_documents (inserted document self.old.documents) self.old) }
@@ -125,8 +125,8 @@ impl IndexedCollection {
             .change(self.alloc, &mut self.documents, Change::Insert(document))
     }
 
-    /// Puts the document in place of the one with an equal `_id`, and answers whether there is one. Where there is none,
-    /// nothing is changed, and the document is dropped. Fails where memory is wanting for the keys of both, of which there are
+    /// Puts the document in place of the one with an equal `_id`, and returns whether there is one. If there is none, nothing is
+    /// changed, and the document is dropped. Fails with `NoMemory` when memory runs out for the keys of both, of which there are
     /// none without an index beside that on `_id`; then nothing is changed.
     pub fn replace(&mut self, document: Document) -> Result<bool, NoMemory>
         requires { HasId document }
@@ -145,9 +145,9 @@ impl IndexedCollection {
         Ok(true)
     }
 
-    /// Makes the change of the field under the name, in the document under the key of its `_id`, and answers whether there is
-    /// such a document. Where there is none, nothing is changed, and the value is dropped. Where no index's path begins with
-    /// the name, the document is changed in place, as `Collection::change_field` does it. Fails where memory is wanting; then
+    /// Makes the change of the field under the name, in the document under the key of its `_id`, and returns whether there is such
+    /// a document. If there is none, nothing is changed, and the value is dropped. If no index's path begins with the name, the
+    /// document is changed in place, as `Collection::change_field` does it. Fails with `NoMemory` when memory runs out; then
     /// nothing is changed. The name is not `_id`, and holds no zero byte.
     pub fn change_field(
         &mut self,
@@ -198,8 +198,8 @@ impl IndexedCollection {
         Ok(true)
     }
 
-    /// Takes out the document under the key of its `_id`, and answers whether there is one. Fails where memory is wanting to
-    /// look its keys up, of which there are none without an index beside that on `_id`; then nothing is changed.
+    /// Takes out the document under the key of its `_id`, and returns whether there is one. Fails with `NoMemory` when memory runs
+    /// out to look its keys up, of which there are none without an index beside that on `_id`; then nothing is changed.
     pub fn remove(&mut self, key: &Key) -> Result<bool, NoMemory>
         ensures found { IfOk result (λ gone. gone ≡ is_some (found key.now self.old.documents)) }
         ensures ok { OnOk result (self.new ≡ with_documents (removed key.now self.old.documents) self.old) }
@@ -225,8 +225,8 @@ impl IndexedCollection {
         self.indexes.has_unique()
     }
 
-    /// Whether the document can't stand among the documents, since another `_id` than its own has one of its keys in a unique
-    /// index. Fails where memory is wanting.
+    /// Whether the document can't be among the documents, since another `_id` than its own has one of its keys in a unique index.
+    /// Fails with `NoMemory` when memory runs out.
     pub fn clashes(&self, document: &Document) -> Result<bool, NoMemory>
         requires { HasId document.now }
         ensures { IfOk result (λ clash. clash ≡ uniqueness.clashes self.now.indexes document.now self.now.documents) }
@@ -239,8 +239,8 @@ impl IndexedCollection {
         )
     }
 
-    /// Whether one of the documents that come can't stand among the documents, each put in place of the one that it replaces,
-    /// in the order of their `_id`s. Nothing is changed. Fails where memory is wanting for the keys that come and go.
+    /// Whether one of the new documents can't be among the documents, each put in place of the one that it replaces, in the order
+    /// of their `_id`s. Nothing is changed. Fails with `NoMemory` when memory runs out for the keys that come and go.
     pub fn replacing_clashes(&self, each: &[Replacing<'_>]) -> Result<bool, NoMemory>
         requires standing { AreStanding self.now.documents (befores each.now) }
         requires same_ids { map id_key (afters each.now) ≡ map id_key (befores each.now) }
@@ -250,10 +250,9 @@ impl IndexedCollection {
         replacing_clashes(self.alloc, self.indexes.as_slice(), each, &self.documents)
     }
 
-    /// Makes indexes, behind the others in this order. That neither the name nor the path of one is there already is for the
-    /// caller to see. Takes time as the keys of all documents want to be put in order. Refused with `Duplicate` where one of
-    /// them is unique and two documents share a key under its path, and with `NoMemory` where memory is wanting; then none is
-    /// made.
+    /// Makes indexes, after the others and in this order. The caller has to see that neither the name nor the path of one is there
+    /// already. Takes the time of putting the keys of all documents in order. Refused with `Duplicate` if one of them is unique and
+    /// two documents share a key under its path, and with `NoMemory` when memory runs out; then none is made.
     pub fn create_indexes(&mut self, wanted: Vec<NewIndex>) -> Result<(), InsertFault>
         ensures ok { OnOk result (self.new ≡ with_indexes (self.old.indexes ++ map form_of_new wanted.items) self.old) }
         ensures err { OnErr result (self.new ≡ self.old) }
@@ -267,7 +266,7 @@ impl IndexedCollection {
         Ok(())
     }
 
-    /// Takes out the index of a name, but never the one on `_id`, and answers whether there is one. Takes no memory.
+    /// Takes out the index of a name, but never the one on `_id`, and returns whether there is one. Takes no memory.
     pub fn drop_index(&mut self, name: &str) -> bool
         ensures found { result ≡ list_any (is_dropped name.now) self.old.indexes }
         ensures indexes { self.new ≡ with_indexes (without_index name.now self.old.indexes) self.old }
@@ -282,7 +281,7 @@ impl IndexedCollection {
         self.indexes.clear();
     }
 
-    /// By which index a find is answered, and how many documents it covers. Fails where memory is wanting.
+    /// By which index a find is answered, and how many documents it covers. Fails with `NoMemory` when memory runs out.
     pub fn explain(&self, filter: &Filter) -> Result<Explanation<'_>, NoMemory>
         ensures index { IfOk result (λ explanation. option_map (λ name. name.now) explanation.index ≡ defined.index_chosen filter.now self.now.indexes) }
         ensures documents { IfOk result (λ explanation. explanation.documents ≡ defined.documents_covered filter.now self.now) }

@@ -40,7 +40,7 @@ impl Model for Indexes {
 }
 
 impl Indexes {
-    /// The index on `_id` alone. Fails where memory is wanting.
+    /// Only the index on `_id`. Fails with `NoMemory` when memory runs out.
     pub fn new(alloc: Global) -> Result<Self, NoMemory>
         ensures { IfOk result (λ indexes. map form_of indexes ≡ id_form ∷ []) }
     {
@@ -51,7 +51,7 @@ impl Indexes {
         Ok(Indexes { indexes })
     }
 
-    /// The index at a place in creation order, counted from 0, where there is one.
+    /// The index at a place in creation order, counted from 0, if there is one.
     pub fn get(&self, place: usize) -> Option<&Index>
         ensures index { option_copied result ≡ slice_get self.now place }
         ensures id_first { BeginsWithId self.now }
@@ -81,7 +81,7 @@ impl Indexes {
         has_unique(self.indexes.as_slice())
     }
 
-    /// Whether the path of one of them, but for the one on `_id`, begins with the name. Takes no memory.
+    /// Whether the path of one of them, except for the one on `_id`, begins with the name. Takes no memory.
     pub fn have_path_through(&self, name: &str) -> bool
         ensures { result ≡ any_leads_through name.now (map form_of self.now) }
     {
@@ -91,7 +91,7 @@ impl Indexes {
         }
     }
 
-    /// Puts indexes behind the others. Where memory is wanting, nothing changes, and they are dropped.
+    /// Puts indexes after the others. If memory runs out, nothing changes, and they are dropped.
     pub fn append(&mut self, mut more: Vec<Index>) -> Result<(), NoMemory>
         ensures ok { OnOk result (self.new ≡ self.old ++ more.items) }
         ensures err { OnErr result (self.new ≡ self.old) }
@@ -100,7 +100,7 @@ impl Indexes {
         self.indexes.append(&mut more)
     }
 
-    /// Takes out the indexes of a name, but never the one on `_id`, and answers whether there is one. Takes no memory.
+    /// Takes out the indexes of a name, but never the one on `_id`, and returns whether there is one. Takes no memory.
     pub fn remove(&mut self, name: &str) -> bool
         ensures found { result ≡ list_any (is_dropped name.now) (map form_of self.old) }
         ensures indexes { self.new ≡ filter (λ x. not (is_dropped name.now (form_of x))) self.old }

@@ -1,18 +1,21 @@
 //! What holds of indexes and of the finds that they answer, each the contract of a function that does nothing.
 
 ghost use Rattle.std.specs.Prelude.{◌≡◌, ◌≤◌, ◌||◌, ◌++◌, ◌∷◌, [], ℕ, Bool, false, codes, filter as kept, length, List, IsSome, None, Ok, Some};
-ghost use Rattle.std.specs.List.{list_any};
+ghost use Rattle.std.specs.List.{flat_map, list_any};
+ghost use Rattle.std.specs.List.Sorted.{IsStrictlySortedBy};
+ghost use Rattle.std.specs.Ordering.{is_eq};
 ghost use Rattle.std.specs.Str.{bytes_eq};
 ghost use Rattle.dv_value.specs.Tree.{Field, null};
 ghost use Rattle.dv_coll.specs.Collection.{IsAscending, found, id_key, inserted, removed, replaced};
 ghost use Rattle.dv_value.specs.Short.{doc, int, list, one};
 ghost use Rattle.dv_match.specs.Filter.{Members};
 ghost use Rattle.dv_match.specs.Match.{matches};
-ghost use Rattle.dv_order.specs.Key.{KeyTree};
+ghost use Rattle.dv_order.specs.Key.{KeyTree, key_order};
 ghost use Rattle.dv_keyed.specs.Choice.{chosen};
 ghost use Rattle.dv_index.specs.Examples.{covered_by, index_for, three_indexes};
 ghost use Rattle.dv_keyed.specs.Index.{IndexForm, IndexTree, id_form};
 ghost use Rattle.dv_index.specs.Indexed.{IndexedTree, documents_covered, without_index};
+ghost use Rattle.dv_keyed.specs.Keys.{has_key};
 ghost use Rattle.dv_keyed.specs.Pairs.{has_pair};
 ghost use Rattle.dv_keyed.specs.Within.{has_within};
 ghost use Rattle.dv_index.specs.Search.{IsIndexOf};
@@ -32,8 +35,14 @@ pub fn a_find_covers_what_it_finds()
     what_matches_is_in_the_bounds();
 }
 
-/// What an index has is known by its path and by the documents alone: one that was kept through changes has the pairs of one
-/// that is made anew.
+/// The documents of a list in ascending order whose `_id`s have one of some ascending keys are those of each key, one key after the
+/// other.
+pub fn documents_are_found_key_by_key()
+    ensures { (keys : List KeyTree) (ds : List (List Field)) → IsStrictlySortedBy key_order keys → IsAscending ds → flat_map (λ k. kept (λ d. is_eq (key_order (id_key d) k)) ds) keys ≡ kept (λ d. has_key (id_key d) keys) ds }
+{}
+
+/// The contents of an index depend only on its path and on the documents: one that was kept through changes has the pairs of one
+/// that is newly made.
 #[tactic(auto, using(crate::proofs::Built::same_pairs))]
 pub fn an_index_made_anew_is_the_same()
     ensures { (x y : IndexTree) (ds : List (List Field)) → x.path ≡ y.path → IsIndexOf x ds → IsIndexOf y ds → (k id : KeyTree) → has_pair k id x.pairs ≡ has_pair k id y.pairs }
@@ -46,7 +55,7 @@ pub fn indexes_come_and_go()
     ensures on_id { (xs : List IndexForm) → without_index id_form.name xs ≡ xs }
 {}
 
-/// A document that is inserted where it clashes with none breaks no unique index.
+/// A document that is inserted without a clash breaks no unique index.
 #[tactic(auto, using(crate::proofs::Apart::insert_breaks_nothing))]
 pub fn an_insert_without_a_clash_breaks_nothing()
     ensures { (indexes : List IndexForm) (d : List Field) (ds : List (List Field)) → IsAscending ds → found (id_key d) ds ≡ None → are_broken indexes ds ≡ false → clashes indexes d ds ≡ false → are_broken indexes (inserted d ds) ≡ false }
@@ -75,7 +84,7 @@ pub fn fewer_indexes_break_no_more()
     ensures { (p : IndexForm → Bool) (indexes : List IndexForm) (ds : List (List Field)) → are_broken indexes ds ≡ false → are_broken (kept p indexes) ds ≡ false }
 {}
 
-/// Of indexes and others behind them one is broken where one of the first is, or one of the others.
+/// Of two lists of indexes joined, one is broken if one of the first list is, or one of the other.
 #[tactic(auto, using(crate::proofs::Apart::one_by_one))]
 pub fn indexes_break_one_by_one()
     ensures { (xs ys : List IndexForm) (ds : List (List Field)) → are_broken (xs ++ ys) ds ≡ (are_broken xs ds || are_broken ys ds) }
@@ -95,7 +104,7 @@ pub fn plans_by_example()
     ensures another_condition { index_for (one (codes "a") (doc (one (codes "$ne") (int 1)))) ≡ Ok None }
 {}
 
-/// Three documents with an array, 4 and 1 as `a`: the first bound alone covers, a document once whatever its elements.
+/// Three documents with an array, 4 and 1 as `a`: only the first bound covers, a document once whatever its elements.
 #[tactic(auto, unfolding(dv_match::specs::Parsing::filter_in, dv_match::specs::Parsing::filter_of, dv_match::specs::Parsing::conditions_in, dv_match::specs::Parsing::operators_in, dv_match::specs::Parsing::member_named, dv_match::specs::Parsing::operator_named, dv_candidates::specs::Path::path_of, dv_candidates::specs::Path::index_of, dv_candidates::specs::Candidates::whole, dv_candidates::specs::Candidates::leaves, dv_keyed::specs::Choice::chosen, dv_keyed::specs::Choice::first_in, dv_keyed::specs::Choice::first_in_member, dv_keyed::specs::Choice::first_in_all, crate::specs::Search::covered, dv_keyed::specs::Within::has_within))]
 pub fn covered_by_example()
     ensures first_bound { covered_by three_indexes (one (codes "a") (doc ((codes "$gt", int 1) ∷ (codes "$lt", int 3) ∷ []))) ≡ Ok 2 }

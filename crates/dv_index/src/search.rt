@@ -33,9 +33,9 @@ use dv_value::{Document, List, NoMemory, Value};
 use std::alloc::Global;
 use std::ops::Bound;
 
-/// The documents that match the filter, in the order of their `_id`s. By an index only those are looked at that stand under the
-/// keys in the plan's bounds, or may by having several keys; by that on `_id` those whose `_id`s are in all ranges that the
-/// filter sets. The plan is the filter's, the indexes have the collection's keys. Fails where memory is wanting.
+/// The documents that match the filter, in the order of their `_id`s. By an index only those are looked at that are under the keys
+/// in the plan's bounds, or may be by having several keys; by that on `_id` those whose `_id`s are in all ranges that the filter
+/// sets. The plan is the filter's, the indexes have the collection's keys. Fails with `NoMemory` when memory runs out.
 pub fn run<'c>(
     alloc: Global,
     plan: &Plan<'_>,

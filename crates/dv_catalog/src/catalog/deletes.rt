@@ -23,8 +23,8 @@ const UNBEGUN: Stopped = Stopped {
 };
 
 impl Catalog {
-    /// Takes out the documents of a namespace that a deletion is for. Where memory is wanting for all of them, the first so many,
-    /// not all, are taken out. No view stands there.
+    /// Takes out the documents of a namespace that a deletion is for. If there is not enough memory for all of them, the first so
+    /// many, not all, are taken out. There is no view there.
     pub fn delete(&mut self, namespace: &str, deletion: &Deletion) -> Result<Counted, Stopped>
         requires { is_view namespace.now self.old.state.views ≡ false }
         ensures made { Makes (λ counted. counted) namespace.now (delete_chosen (deletion_seen deletion.now)) self.old.state.namespaces result self.new.state.namespaces }
