@@ -16,7 +16,7 @@ use Rattle.dv_core.specs.More.{gone_ids, killed, missing_ids, went_each, without
 use Rattle.dv_core.specs.StepParts.{Ends, Refuses, TellsOrNot}
 
 -- a reply for which there is memory or isn't
-told_so : {E : Type 0} (reply : List Field) (made : Result (List Field) E) (outcome : Outcome) → IfOk made (λ told. told ≡ reply) → IfOk made (λ told. outcome ≡ Reply told) → OnErr made (outcome ≡ NoReply) → TellsOrNot reply outcome
+pub told_so : {E : Type 0} (reply : List Field) (made : Result (List Field) E) (outcome : Outcome) → IfOk made (λ told. told ≡ reply) → IfOk made (λ told. outcome ≡ Reply told) → OnErr made (outcome ≡ NoReply) → TellsOrNot reply outcome
 told_so reply (Ok told) outcome is replies untold = subst (TellsOrNot reply) (sym replies) is
 told_so reply (Err fault) outcome is replies untold = subst (TellsOrNot reply) (sym untold) tt
 

@@ -17,10 +17,14 @@ use Rattle.dv_fields.specs.declared.refusal.Refusal.{Refusal}
 use Rattle.dv_fields.specs.declared.refusal.Refusal.TheVariants.{OnView, WantOfMemory}
 use Rattle.dv_core.specs.declared.outcome.Outcome.{Outcome}
 use Rattle.dv_core.specs.declared.outcome.Outcome.TheVariants.{Reply, Wanting, NoReply}
+use Rattle.dv_core.specs.declared.outcome.Batch.{Batch}
+use Rattle.dv_core.specs.declared.outcome.Told.{Told}
+use Rattle.dv_core.specs.declared.outcome.Told.TheVariants as tells
 use Rattle.dv_core.specs.Statements.{WriteCounts, Written, carry_out}
 use Rattle.dv_core.specs.Marks.{AreMarked, AreMarkedAll, AreMarkedByWrite, AreMarkedForWant, marks_where_read, read_by}
-use Rattle.dv_core.specs.Step.{Answer, answered, read_answer, write_answer, on_catalog, on_cursors, answer_to, replying, Cut, MemoryStep, Wants}
-use Rattle.dv_core.specs.StepParts.{Ends, GivesAndLeaves, Refuses, StandRead, TellsReply, TellsOrNot}
+use Rattle.dv_core.specs.Step.{Answer, answered, read_answer, write_answer, on_catalog, on_cursors, answer_to, replying, Cut, MemoryStep, TellsOfWant, Wants}
+use Rattle.dv_core.specs.StepParts.{Ends, GivesAndLeaves, IsMadeOf, Refuses, StandRead, TellsReply, TellsOrNot, reply_told}
+use Rattle.dv_core.specs.Told.{batch_told, outcome_told}
 use Rattle.dv_core.specs.WriteParts.{CarriesOutWrite, CutsWrite, WritesOrCuts, WritesOn, WritesWhere}
 use Rattle.dv_core.specs.Writes.{write_by}
 use Rattle.dv_core.proofs.Marking.{where_read}
@@ -228,3 +232,19 @@ module _ (old : State) (session : ℕ) (command : Command) where
 pub on_collection : (write : WriteCounts) (old new : State) (outcome : Outcome) → is_view write.namespace old.catalog.views ≡ false → WritesOrCuts write (marked old) outcome (marked new) → new.catalog.views ≡ old.catalog.views → new.cursors ≡ old.cursors
     → WritesOn write old outcome new
 on_collection write old new outcome on does views cursors = subst (λ (b : Bool). WritesWhere b write old outcome new) (sym on) (does, views, cursors)
+
+-- ---- what is told of a batch
+
+pub read_told : (old : State) (asked : Asked) (reply : Result Batch Refusal) (marks : Marks) → StandRead asked old reply marks → StandRead asked old (reply_told reply) marks
+read_told old asked (Ok batch) marks stand = stand
+read_told old asked (Err refusal) marks stand = stand
+
+pub made_steps : (old : State) (session : ℕ) (command : Command) (new : State) (what : Told) (outcome : Outcome) → MemoryStep old session command (outcome_told what) new → IsMadeOf what outcome → MemoryStep old session command outcome new
+made_steps old session command new (tells.Batch batch) (Reply reply) steps made = subst (λ (body : List Field). MemoryStep old session command (Reply body) new) (sym made) steps
+made_steps old session command new (tells.Batch batch) (Wanting reply) steps made = absurd made
+made_steps old session command new (tells.Batch batch) NoReply steps made = inl (ap (λ (a : Answer). a.state) (sym steps.0), steps.1)
+made_steps old session command new (tells.Outcome other) outcome steps made = subst (λ (o : Outcome). MemoryStep old session command o new) (sym made) steps
+
+pub made_wants : (what : Told) (outcome : Outcome) → IsMadeOf what outcome → TellsOfWant (outcome_told what) → TellsOfWant outcome
+made_wants (tells.Batch batch) outcome made wants = absurd wants
+made_wants (tells.Outcome other) outcome made wants = subst TellsOfWant (sym made) wants

@@ -8,6 +8,7 @@ pub mod Indexes
 pub mod Stats
 pub mod Marks
 pub mod Step
+pub mod Told
 pub mod Load
 pub mod Runs
 pub mod Part

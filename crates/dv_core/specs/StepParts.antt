@@ -9,8 +9,12 @@ use Rattle.dv_catalog.specs.Marks.{ArePartlyRead, Marks}
 use Rattle.dv_core.specs.Load.{IsLoaded, loaded}
 use Rattle.dv_core.specs.Marks.{marks_where_read, read_by}
 use Rattle.dv_core.specs.State.{State}
+use Rattle.dv_core.specs.Told.{batch_told}
+use Rattle.dv_core.specs.declared.outcome.Batch.{Batch}
 use Rattle.dv_core.specs.declared.outcome.Outcome.{Outcome}
 use Rattle.dv_core.specs.declared.outcome.Outcome.TheVariants.{Reply, Wanting, NoReply}
+use Rattle.dv_core.specs.declared.outcome.Told.{Told}
+use Rattle.dv_core.specs.declared.outcome.Told.TheVariants as tells
 
 -- a command that is refused: its reply, or that memory is wanting for it
 abbrev pub Refuses : Refusal → Outcome → Type 0
@@ -23,6 +27,11 @@ abbrev pub TellsReply : Result (List Field) Refusal → Outcome → Type 0
 TellsReply (Ok reply) outcome = outcome ≡ Reply reply
 TellsReply (Err refusal) outcome = Refuses refusal outcome
 
+-- the body of the reply with a batch, or why it is refused
+abbrev pub reply_told : Result Batch Refusal → Result (List Field) Refusal
+reply_told (Ok batch) = Ok (batch_told batch)
+reply_told (Err refusal) = Err refusal
+
 -- a command that changes a part of the state: its reply, and what it leaves, which is as defined; or why it is refused, and nothing is
 -- changed
 abbrev pub GivesAndLeaves : {S : Type 0} → Result (List Field × S) Refusal → S → Result (List Field) Refusal → S → Type 0
@@ -34,6 +43,11 @@ abbrev pub TellsOrNot : List Field → Outcome → Type 0
 TellsOrNot reply (Reply told) = told ≡ reply
 TellsOrNot reply (Wanting told) = ⊥
 TellsOrNot reply NoReply = ⊤
+
+-- an outcome, made of what is told: the same, but that there may be no memory for the body of a batch
+abbrev pub IsMadeOf : Told → Outcome → Type 0
+IsMadeOf (tells.Batch batch) outcome = TellsOrNot (batch_told batch) outcome
+IsMadeOf (tells.Outcome other) outcome = outcome ≡ other
 
 abbrev pub Ends : {S : Type 0} → Result (List Field × S) Refusal → S → Outcome → S → Type 0
 Ends {S} defined old outcome new =

@@ -1,13 +1,14 @@
 //! The outcomes of commands that change nothing.
 
-ghost use Rattle.std.specs.Prelude.{◌≡◌, [], Ok, IfOk, OnErr};
+ghost use Rattle.std.specs.Prelude.{◌≡◌, ◌<◌, ◌^◌, [], Ok, IfOk, OnErr};
 ghost use Rattle.dv_fields.specs.declared.refusal.Refusal.TheVariants.{WantOfMemory};
 ghost use Rattle.dv_fields.specs.Refusals.{UnlessWanting};
 ghost use Rattle.dv_command.specs.Replies as replies;
 ghost use Rattle.dv_core.specs.declared.outcome.Outcome.TheVariants.{Reply, NoReply};
-ghost use Rattle.dv_core.specs.StepParts.{Refuses, TellsReply};
+ghost use Rattle.dv_core.specs.StepParts.{Refuses, TellsReply, reply_told};
+ghost use Rattle.dv_core.specs.Told.{HasId, outcome_told};
 
-use crate::outcome::Outcome;
+use crate::outcome::{Batch, Outcome, Told};
 use crate::reserve::Reserve;
 use dv_command::Refusal;
 use dv_command::replies::{hello_reply, refusal_reply, reply_of};
@@ -25,6 +26,22 @@ pub(crate) fn outcome_of(
     match reply {
         Ok(reply) => Outcome::Reply(reply),
         Err(refusal) => refuse(alloc, reserve, refusal),
+    }
+}
+
+/// What is told of a command that replies with rows: its reply, or why it is refused.
+pub(crate) fn batch_or_refusal(
+    alloc: Global,
+    reserve: &mut Reserve,
+    reply: Result<Batch, Refusal>,
+) -> Told
+    requires { IfOk reply (λ batch. batch.id < 2 ^ 63) }
+    ensures reply { TellsReply (reply_told reply) (outcome_told result) }
+    ensures id { HasId result }
+{
+    match reply {
+        Ok(batch) => Told::Batch(batch),
+        Err(refusal) => Told::Outcome(refuse(alloc, reserve, refusal)),
     }
 }
 

@@ -4,13 +4,14 @@ ghost use Rattle.std.specs.Prelude.{◌≡◌, ◌<◌, ◌^◌, List as Sequenc
 ghost use Rattle.std.specs.String.{string_bytes};
 ghost use Rattle.dv_catalog.specs.Scan.{limited};
 ghost use Rattle.dv_core.specs.Find as finding;
-ghost use Rattle.dv_core.specs.StepParts.{GivesAndLeaves};
-ghost use Rattle.dv_command.specs.Replies as replies;
+ghost use Rattle.dv_core.specs.StepParts.{GivesAndLeaves, reply_told};
+ghost use Rattle.dv_core.specs.Told.{batch_told};
 ghost use Rattle.dv_command.specs.Replies.{document_of};
 ghost use Rattle.dv_cursor.specs.Batch.{batch};
 ghost use Rattle.dv_pipe.specs.Sources.{Row};
 
-use dv_command::replies::first_batch_reply;
+use crate::outcome::Batch;
+use dv_command::replies::{first_batch_reply, next_batch_reply};
 use dv_command::{Refusal, ReplyNames};
 use dv_cursor::laws::a_batch_needs_no_later_row;
 use dv_cursor::{Cursors, Rows};
@@ -45,12 +46,12 @@ pub(crate) fn rows_needed(limit: u64, batch_size: u64) -> u64
 /// is over 16,777,216 bytes or 100 levels; and with `WantOfMemory`. Then nothing is changed.
 pub(crate) fn first_batch(
     alloc: Global,
-    names: &ReplyNames,
     cursors: &mut Cursors,
     first: First,
     rows: Vec<Document>,
-) -> Result<Document, Refusal>
-    ensures { GivesAndLeaves (finding.first_batch first.session (string_bytes first.namespace) first.count first.single rows.items cursors.old) cursors.old result cursors.new }
+) -> Result<Batch, Refusal>
+    ensures reply { GivesAndLeaves (finding.first_batch first.session (string_bytes first.namespace) first.count first.single rows.items cursors.old) cursors.old (reply_told result) cursors.new }
+    ensures id { IfOk result (λ batch. batch.id < 2 ^ 63) }
 {
     let First {
         session,
@@ -66,7 +67,12 @@ pub(crate) fn first_batch(
         if too_large {
             return Err(Refusal::TooLarge);
         }
-        return Ok(reply_with(alloc, names, namespace, 0, batch)?);
+        return Ok(Batch {
+            is_first: true,
+            namespace,
+            id: 0,
+            rows: batch,
+        });
     }
     let Some(id) = cursors.free_id() else {
         return Err(Refusal::LimitReached);
@@ -76,23 +82,32 @@ pub(crate) fn first_batch(
     }
     // Behind the change nothing may want memory.
     let told = String::from_str(alloc, &namespace)?;
-    let reply = reply_with(alloc, names, told, id, batch)?;
     cursors.add(session, namespace, rows)?;
-    Ok(reply)
+    Ok(Batch {
+        is_first: true,
+        namespace: told,
+        id,
+        rows: batch,
+    })
 }
 
-/// The reply with a first batch. Fails where memory is wanting.
-fn reply_with(
-    alloc: Global,
-    names: &ReplyNames,
-    namespace: String,
-    id: u64,
-    batch: Vec<Document>,
-) -> Result<Document, NoMemory>
-    requires { id < 2 ^ 63 }
-    ensures { IfOk result (λ reply. reply ≡ replies.first_batch_reply (string_bytes namespace) id (map document_of batch.items)) }
+/// The body of the reply with a batch. Fails where memory is wanting.
+pub(crate) fn body_of(alloc: Global, names: &ReplyNames, batch: Batch) -> Result<Document, NoMemory>
+    requires { batch.id < 2 ^ 63 }
+    ensures { IfOk result (λ body. body ≡ batch_told batch) }
 {
-    first_batch_reply(alloc, names, namespace, id, values_of(alloc, batch)?)
+    let Batch {
+        is_first,
+        namespace,
+        id,
+        rows,
+    } = batch;
+    let rows = values_of(alloc, rows)?;
+    if is_first {
+        first_batch_reply(alloc, names, namespace, id, rows)
+    } else {
+        next_batch_reply(alloc, names, namespace, id, rows)
+    }
 }
 
 /// Whether one of the rows is over the limits for documents. Takes no memory.
@@ -108,7 +123,7 @@ fn are_too_large(rows: &[Document]) -> bool
 }
 
 /// The documents as values, in order. Fails where memory is wanting.
-pub(crate) fn values_of(alloc: Global, documents: Vec<Document>) -> Result<List, NoMemory>
+fn values_of(alloc: Global, documents: Vec<Document>) -> Result<List, NoMemory>
     ensures { IfOk result (λ values. values ≡ map document_of documents.items) }
 {
     let mut values = Vec::with_capacity(alloc, documents.len())?;

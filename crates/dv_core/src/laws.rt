@@ -32,8 +32,8 @@ ghost use Rattle.dv_core.specs.Statements.{WriteCounts, Written, carry_out, IsCu
 ghost use Rattle.dv_core.specs.Step.{IsLeft, MemoryStep, counted_step, step, asked_write, makes, moves, indexes, end_session};
 ghost use Rattle.dv_core.specs.Storable.{storable, is_within_limits};
 
-/// A command that is told as refused, with `ok: 0`, changed nothing, be it for want of memory; but stale views that are
-/// needed for what it reads may have been made anew.
+/// A command that is refused, with `ok: 0` in its reply, changed nothing, also if memory ran out; but stale views that are needed
+/// for what it reads may have been recomputed.
 pub fn a_refused_command_changes_nothing()
     ensures plain { (old new : State) (session : ℕ) (command : Command) (reply : List Field) → MemoryStep old session command (Reply reply) new
         → value_under (codes "ok") reply ≡ Some (int32 (pos 0)) → IsLeft old (asked_by command) new }
@@ -41,10 +41,10 @@ pub fn a_refused_command_changes_nothing()
         → value_under (codes "ok") reply ≡ Some (int32 (pos 0)) → IsLeft old (asked_by command) new }
 {}
 
-/// Only a write, a create, a drop, and what makes and drops indexes change what stands under namespaces: not another
-/// command, whatever it is answered; and only a find, a pipeline, and what asks more of cursors or ends them change cursors.
-/// One that asks nothing changes nothing, as it is refused. Of the first a write and what makes and drops indexes leave the
-/// views, a create and indexes the documents of each namespace, and a drop those of each other namespace.
+/// Only a write, a create, a drop, and what makes and drops indexes change what is under namespaces; no other command does,
+/// whatever its reply is. Only a find, a pipeline, and what asks more of cursors or ends them change cursors. A command that asks
+/// nothing changes nothing, as it is refused. Of the first a write and what makes and drops indexes leave the views, a create and
+/// indexes the documents of each namespace, and a drop those of each other namespace.
 pub fn only_writes_change_documents()
     ensures others { (old new : State) (session : ℕ) (command : Command) (asked : Asked) (outcome : Outcome) → asked_by command ≡ Ok asked → asked_write asked ≡ None → makes asked ≡ false
         → MemoryStep old session command outcome new → new.catalog ≡ old.catalog }
@@ -62,7 +62,7 @@ pub fn only_writes_change_documents()
         → MemoryStep old session command outcome new → (new.catalog.views ≡ old.catalog.views) × ((namespace : List ℕ) → documents_of namespace new.catalog.namespaces ≡ documents_of namespace old.catalog.namespaces) }
 {}
 
-/// Where memory is wanting for no view, a step leaves views as they are counted: so this is one of the steps that are allowed.
+/// If memory runs out for no view, a step leaves views as they are counted: so this is one of the steps that are allowed.
 pub fn the_counted_step_is_allowed()
     ensures { (state : State) (session : ℕ) (command : Command) → let answer = counted_step state session command in
         MemoryStep state session command (Reply answer.reply) answer.state }
@@ -84,9 +84,9 @@ pub fn a_delete_leaves_a_part()
         → MemoryStep old session command outcome new → (namespace : List ℕ) → IsPart (documents_of namespace new.catalog.namespaces) (documents_of namespace old.catalog.namespaces) }
 {}
 
-/// What every store keeps, whatever commands and loads bring: the documents of each namespace stand in the order of their
-/// `_id`s, no two of which are equal, whatever the width of their integers, each is within the limits for documents, and no key of
-/// a unique index stands in two of them. So it is before the first command, and so after each command, each load and each end of a session.
+/// What every store keeps, whatever commands and loads bring: the documents of each namespace are in the order of their `_id`s, no
+/// two of which are equal, whatever the width of their integers; each is within the limits for documents; and no key of a unique
+/// index is in two of them. So it is before the first command, and so after each command, each load and each end of a session.
 pub fn states_stay_orderly()
     ensures before { IsOrderly empty_store_state }
     ensures after { (old new : State) (session : ℕ) (command : Command) (outcome : Outcome) → IsOrderly old → MemoryStep old session command outcome new → IsOrderly new }
@@ -109,10 +109,10 @@ pub fn states_stay_orderly()
     dv_index::laws::indexes_break_one_by_one();
 }
 
-/// Every state that is reached is sound, if the documents that commands bring, and those that are loaded, are: its documents,
-/// the names of its indexes, its unique indexes, of which no key stands in two documents, its views, which were asked by valid
-/// values, and its cursors, whose rows that are still to come are valid and none of them over the limits. So it is before the
-/// first command, and so after each command, each load and each end of a session.
+/// Every state that is reached is sound, if the documents that commands bring, and those that are loaded, are: its documents, the
+/// names of its indexes, its unique indexes, of which no key is in two documents, its views, which were asked by valid values, and
+/// its cursors, whose rows that are still to come are valid and none of them over the limits. So it is before the first command,
+/// and so after each command, each load and each end of a session.
 pub fn states_stay_sound()
     ensures before { IsSound empty_store_state }
     ensures after { (old new : State) (session : ℕ) (command : Command) (outcome : Outcome) → IsSoundCommand command → IsSound old
@@ -142,9 +142,9 @@ pub fn states_stay_sound()
     dv_pipe::laws::what_comes_out_is_valid();
 }
 
-/// Replies can be written: that to a command that asks something, if the command's documents and the state are sound, as the
-/// rows that stand under a namespace are valid then; that to one for which memory is wanting, be it cut among its
-/// statements; and that to one that is refused.
+/// Replies can be written: that to a command that asks something, if the command's documents and the state are sound, as the rows
+/// under a namespace are valid then; that to one that ran out of memory, also if it was cut among its statements; and that to one
+/// that is refused.
 pub fn replies_have_a_spelling()
     ensures answered { (state : State) (session : ℕ) (command : Command) (asked : Asked) → IsSoundCommand command → IsSound state → asked_by command ≡ Ok asked → HasSpelling (step state session command).reply }
     ensures wanting { (old new : State) (session : ℕ) (command : Command) (reply : List Field) → IsSoundCommand command → MemoryStep old session command (Wanting reply) new → HasSpelling reply }
@@ -158,17 +158,17 @@ pub fn replies_have_a_spelling()
     dv_pipe::laws::what_comes_out_is_valid();
 }
 
-/// An ordered write tells of one error at most; and where it is cut, of that alone.
+/// An ordered write reports at most one error; and if it is cut, only that.
 pub fn an_ordered_write_ends_at_its_first_error()
     ensures whole { (write : WriteCounts) (old : Namespaces) → write.ordered ≡ true → length (carry_out write old).errors ≤ 1 }
     ensures cut { (write : WriteCounts) (old : Namespaces) (left : Written) → write.ordered ≡ true → IsCutWrite write old left → length left.errors ≡ 1 }
 {}
 
-/// What the replies of a run tell of a cursor's rows, be they left out or not: the first batch and the batches of later
-/// getMores, joined, are a front of the rows at the moment of the find or the pipeline, whatever others do in between; and
-/// all of them once one told that none is left, by the id 0, unless the first batch was to be the only one. What a getMore
-/// tells of a cursor are the rows and the id of its reply; and what a command comes to, be it for want of memory, are
-/// moves of a run: its own, and how views then stand.
+/// What the replies of a run return of a cursor's rows, whether they are left out or not: the first batch and the batches of later
+/// getMores, joined, are a prefix of the rows at the moment of the find or the pipeline, whatever others do in between; and all of
+/// them once a reply said that none is left, by the id 0, unless the first batch was to be the only one. What a getMore returns of
+/// a cursor are the rows and the id of its reply; and what a command leads to, also if memory runs out, are moves of a run: its
+/// own, and the views' states afterwards.
 pub fn a_cursors_batches_are_a_front()
     ensures find { (before : List Move) (session : ℕ) (command : Command) (asked : Find) → asked_by command ≡ Ok (find asked)
         → let state = state_behind_all before empty_store_state in
@@ -191,9 +191,9 @@ pub fn the_end_of_a_session_leaves_documents()
     ensures { (session : ℕ) (state : State) → (end_session session state).catalog ≡ state.catalog }
 {}
 
-/// Loading a document is what an insert of that document alone does, in whichever session: it leaves the same state; where
-/// it is refused, an insert on a view is refused for that, and any other one tells of that error of its statement. The text
-/// that names a namespace is the namespace.
+/// Loading a document is what an insert of only that document does, in whichever session: it leaves the same state; if it is
+/// refused, an insert on a view is refused for that, and any other one reports that error of its statement. The text that names a
+/// namespace is the namespace.
 pub fn a_load_is_an_insert_of_one_document()
     ensures stored { (state new : State) (session : ℕ) (command : Command) (asked : asking.Write) (d : List Field) → asked_by command ≡ Ok (asking.write asked) → asked.kind ≡ Insert → asked.entries ≡ d ∷ []
         → insert_alone asked.namespace d state ≡ Ok new → step state session command ≡ record { reply = write_reply 1 []; state = new } }
@@ -235,12 +235,12 @@ pub fn finds_by_example()
     ensures { examples.FindExamples }
 {}
 
-/// What creates, drops, finds and aggregates answer where there are views, by worked examples.
+/// The replies of creates, drops, finds and aggregates with views, by worked examples.
 pub fn views_by_example()
     ensures { examples.ViewExamples }
 {}
 
-/// How views stand behind commands, and what is told of it, by worked examples.
+/// The states of views after commands, and what is reported of them, by worked examples.
 pub fn marks_by_example()
     ensures { examples.MarkExamples }
 {}
@@ -255,13 +255,13 @@ pub fn refusals_by_example()
     ensures { examples.RefusalExamples }
 {}
 
-/// What is told of want of memory, by worked examples.
+/// What is reported when memory runs out, by worked examples.
 pub fn wants_by_example()
     ensures { examples.WantExamples }
 {}
 
-/// A row over the limits refuses an answer wherever it stands, also behind the first batch; the want of room for a cursor is
-/// told before it.
+/// A row over the limits refuses the command, wherever it is, also after the first batch; that there is no room for a cursor is
+/// reported before it.
 pub fn each_row_is_within_the_limits()
     ensures refused { (session count : ℕ) (single : Bool) (namespace : List ℕ) (rows : List (List Field)) (cursors : Cursors) → are_too_large rows ≡ true → IsSome (free_id cursors) → first_batch session namespace count single rows cursors ≡ Err TooLarge }
     ensures behind { (session count : ℕ) (namespace : List ℕ) (row : List Field) (rows rest : List (List Field)) (cursors : Cursors) → rows_behind count rows ≡ row ∷ rest → free_id cursors ≡ None → first_batch session namespace count false rows cursors ≡ Err LimitReached }

@@ -17,5 +17,5 @@ mod writes;
 mod written;
 
 pub use dv_command::Command;
-pub use outcome::Outcome;
+pub use outcome::{Batch, Outcome, Told};
 pub use store::Store;

@@ -1,11 +1,11 @@
 //! The commands, carried out one by one.
 
-use crate::answers::{hello, outcome_of, ping, refuse, told};
-use crate::find::{First, first_batch, rows_needed};
+use crate::answers::{batch_or_refusal, hello, outcome_of, ping, refuse, told};
+use crate::find::{First, body_of, first_batch, rows_needed};
 use crate::indexing::{explained, new_indexes};
 use crate::loading::namespace_in;
 use crate::more::{kill_all, next_batch};
-use crate::outcome::Outcome;
+use crate::outcome::{Batch, Outcome, Told};
 use crate::reserve::Reserve;
 use crate::storable::storable;
 use crate::writes::write_all;
@@ -18,7 +18,7 @@ use dv_command::{
     GetMore, KillCursors, Refusal, ReplyNames, ViewStats, Write, parse,
 };
 use dv_cursor::Cursors;
-use dv_value::Document;
+use dv_value::{Document, NoMemory};
 use dv_views::Rows;
 use dv_views::laws::what_is_shown_is_right;
 use std::alloc::Global;
@@ -46,7 +46,7 @@ impl Model for Machine {
 }
 
 impl Machine {
-    ghost use Rattle.std.specs.Prelude.{◌≡◌, ℕ, [], Ok, IfErr, OnErr, OnOk};
+    ghost use Rattle.std.specs.Prelude.{◌≡◌, ◌<◌, ◌^◌, ℕ, [], Ok, IfErr, IfOk, OnErr, OnOk};
     ghost use Rattle.dv_cursor.specs.Cursors.{Cursors as CursorsSeen};
     ghost use Rattle.dv_value.specs.declared.fault.BsonFault.TheVariants.{NoMemory};
     ghost use Rattle.dv_catalog.specs.Marks.{AreMarkedByDrop, marks_made, names_of_new, stored_of};
@@ -65,7 +65,8 @@ impl Machine {
     ghost use Rattle.dv_core.specs.State.{empty_store_state, marked, standing};
     ghost use Rattle.dv_core.specs.Stats as telling;
     ghost use Rattle.dv_core.specs.Step.{MemoryStep, TellsOfWant, end_session, replying};
-    ghost use Rattle.dv_core.specs.StepParts.{Ends, GivesAndLeaves, LoadsOne, StandRead};
+    ghost use Rattle.dv_core.specs.StepParts.{Ends, GivesAndLeaves, LoadsOne, StandRead, reply_told};
+    ghost use Rattle.dv_core.specs.Told.{HasId, batch_told, outcome_told};
     ghost use Rattle.dv_core.specs.WriteParts.{WritesOn};
     ghost use Rattle.dv_core.specs.Writes.{write_by};
 
@@ -81,34 +82,55 @@ impl Machine {
         }
     }
 
-    /// Carries out one command of a session. Where memory is wanting, the reserve is given back for the reply.
-    pub fn execute(&mut self, session: u32, command: &Command, reserve: &mut Reserve) -> Outcome
+    /// Carries out one command of a session. If memory runs out, the reserve is given back for the reply.
+    pub fn carry_out(&mut self, session: u32, command: &Command, reserve: &mut Reserve) -> Told
         requires { AreWithinLimits self.old }
-        ensures step { MemoryStep self.old session command.now result self.new }
-        ensures unread { command.now ≡ Invalid NoMemory → TellsOfWant result }
+        ensures step { MemoryStep self.old session command.now (outcome_told result) self.new }
+        ensures id { HasId result }
+        ensures unread { command.now ≡ Invalid NoMemory → TellsOfWant (outcome_told result) }
     {
         match parse(self.alloc, command) {
-            Ok(Asked::Hello) => outcome_of(self.alloc, reserve, hello(self.alloc)),
-            Ok(Asked::Ping) => outcome_of(self.alloc, reserve, ping(self.alloc)),
-            Ok(Asked::Write(write)) => self.write(write, reserve),
-            Ok(Asked::Find(find)) => outcome_of(self.alloc, reserve, self.find(session, find)),
-            Ok(Asked::Aggregate(aggregate)) => {
-                outcome_of(self.alloc, reserve, self.aggregate(session, aggregate))
+            Ok(Asked::Hello) => Told::Outcome(outcome_of(self.alloc, reserve, hello(self.alloc))),
+            Ok(Asked::Ping) => Told::Outcome(outcome_of(self.alloc, reserve, ping(self.alloc))),
+            Ok(Asked::Write(write)) => Told::Outcome(self.write(write, reserve)),
+            Ok(Asked::Find(find)) => {
+                batch_or_refusal(self.alloc, reserve, self.find(session, find))
             }
-            Ok(Asked::GetMore(asked)) => outcome_of(
-                self.alloc,
-                reserve,
-                self.get_more(session, asked),
-            ),
-            Ok(Asked::KillCursors(asked)) => self.kill_cursors(session, asked, reserve),
-            Ok(Asked::Create(create)) => outcome_of(self.alloc, reserve, self.create(create)),
-            Ok(Asked::Drop(drop)) => outcome_of(self.alloc, reserve, self.drop_namespace(drop)),
-            Ok(Asked::CreateIndexes(asked)) => self.create_indexes(asked, reserve),
-            Ok(Asked::DropIndexes(asked)) => self.drop_indexes(asked, reserve),
-            Ok(Asked::Explain(asked)) => outcome_of(self.alloc, reserve, self.explain(asked)),
-            Ok(Asked::ViewStats(asked)) => outcome_of(self.alloc, reserve, self.view_stats(asked)),
-            Err(refusal) => refuse(self.alloc, reserve, refusal),
+            Ok(Asked::Aggregate(aggregate)) => {
+                batch_or_refusal(self.alloc, reserve, self.aggregate(session, aggregate))
+            }
+            Ok(Asked::GetMore(asked)) => {
+                batch_or_refusal(self.alloc, reserve, self.get_more(session, asked))
+            }
+            Ok(Asked::KillCursors(asked)) => {
+                Told::Outcome(self.kill_cursors(session, asked, reserve))
+            }
+            Ok(Asked::Create(create)) => {
+                Told::Outcome(outcome_of(self.alloc, reserve, self.create(create)))
+            }
+            Ok(Asked::Drop(drop)) => {
+                Told::Outcome(outcome_of(self.alloc, reserve, self.drop_namespace(drop)))
+            }
+            Ok(Asked::CreateIndexes(asked)) => Told::Outcome(self.create_indexes(asked, reserve)),
+            Ok(Asked::DropIndexes(asked)) => Told::Outcome(self.drop_indexes(asked, reserve)),
+            Ok(Asked::Explain(asked)) => {
+                Told::Outcome(outcome_of(self.alloc, reserve, self.explain(asked)))
+            }
+            Ok(Asked::ViewStats(asked)) => {
+                Told::Outcome(outcome_of(self.alloc, reserve, self.view_stats(asked)))
+            }
+            Err(refusal) => Told::Outcome(refuse(self.alloc, reserve, refusal)),
         }
+    }
+
+    /// The body of the reply with a batch. Fails where memory is wanting.
+    pub fn body_of(&mut self, batch: Batch) -> Result<Document, NoMemory>
+        requires { batch.id < 2 ^ 63 }
+        ensures body { IfOk result (λ body. body ≡ batch_told batch) }
+        ensures state { self.new ≡ self.old }
+    {
+        self.names.prepare(self.alloc);
+        body_of(self.alloc, &self.names, batch)
     }
 
     /// Carries out a write. A statement one of whose changes, made one after the other, would find one of its keys of a
@@ -123,10 +145,11 @@ impl Machine {
         write_all(self.alloc, reserve, &self.names, &mut self.catalog, write)
     }
 
-    fn find(&mut self, session: u32, find: Find) -> Result<Document, Refusal>
+    fn find(&mut self, session: u32, find: Find) -> Result<Batch, Refusal>
         requires { AreWithinLimits self.old }
         ensures catalog { self.new.catalog ≡ self.old.catalog }
-        ensures reply { GivesAndLeaves (finding.reply_to_find session (find_seen find) self.old.catalog self.old.cursors) self.old.cursors result self.new.cursors }
+        ensures reply { GivesAndLeaves (finding.reply_to_find session (find_seen find) self.old.catalog self.old.cursors) self.old.cursors (reply_told result) self.new.cursors }
+        ensures id { IfOk result (λ batch. batch.id < 2 ^ 63) }
         ensures marks { StandRead (asking.find (find_seen find)) self.old result self.new.marks }
     {
         let find = self.with_rows_needed(find);
@@ -143,8 +166,7 @@ impl Machine {
             count: batch_size,
             single: single_batch,
         };
-        self.names.prepare(self.alloc);
-        first_batch(self.alloc, &self.names, &mut self.cursors, first, rows)
+        first_batch(self.alloc, &mut self.cursors, first, rows)
     }
 
     /// The find, of no more documents of a collection than its batch may have where that is the only one: none of them is over
@@ -161,9 +183,10 @@ impl Machine {
         find
     }
 
-    fn aggregate(&mut self, session: u32, aggregate: Aggregate) -> Result<Document, Refusal>
+    fn aggregate(&mut self, session: u32, aggregate: Aggregate) -> Result<Batch, Refusal>
         ensures catalog { self.new.catalog ≡ self.old.catalog }
-        ensures reply { GivesAndLeaves (finding.reply_to_aggregate session (aggregate_seen aggregate) self.old.catalog self.old.cursors) self.old.cursors result self.new.cursors }
+        ensures reply { GivesAndLeaves (finding.reply_to_aggregate session (aggregate_seen aggregate) self.old.catalog self.old.cursors) self.old.cursors (reply_told result) self.new.cursors }
+        ensures id { IfOk result (λ batch. batch.id < 2 ^ 63) }
         ensures marks { StandRead (asking.aggregate (aggregate_seen aggregate)) self.old result self.new.marks }
     {
         let rows = self.catalog.aggregate(&aggregate)?;
@@ -178,17 +201,16 @@ impl Machine {
             count: batch_size,
             single: false,
         };
-        self.names.prepare(self.alloc);
-        first_batch(self.alloc, &self.names, &mut self.cursors, first, rows)
+        first_batch(self.alloc, &mut self.cursors, first, rows)
     }
 
-    fn get_more(&mut self, session: u32, asked: GetMore) -> Result<Document, Refusal>
+    fn get_more(&mut self, session: u32, asked: GetMore) -> Result<Batch, Refusal>
         ensures catalog { self.new.catalog ≡ self.old.catalog }
-        ensures reply { GivesAndLeaves (more.next_batch session (get_more_seen asked) self.old.cursors) self.old.cursors result self.new.cursors }
+        ensures reply { GivesAndLeaves (more.next_batch session (get_more_seen asked) self.old.cursors) self.old.cursors (reply_told result) self.new.cursors }
+        ensures id { IfOk result (λ batch. batch.id < 2 ^ 63) }
         ensures marks { self.new.marks ≡ self.old.marks }
     {
-        self.names.prepare(self.alloc);
-        next_batch(self.alloc, &self.names, &mut self.cursors, session, asked)
+        next_batch(&mut self.cursors, session, asked)
     }
 
     fn kill_cursors(&mut self, session: u32, asked: KillCursors, reserve: &mut Reserve) -> Outcome
@@ -300,7 +322,7 @@ impl Machine {
         Ok(())
     }
 
-    /// The rows that the view of a namespace keeps, in their order. None where no view stands there, or a stale one.
+    /// The rows that the view of a namespace keeps, in their order. None if there is no view there, or a stale one.
     pub fn stored_rows(&self, namespace: &str) -> Option<Rows<'_>>
         ensures { result ≡ stored_of namespace.now (marked self.now) }
     {

@@ -5,14 +5,13 @@ ghost use Rattle.std.specs.Option.{option_map};
 ghost use Rattle.dv_command.specs.View.{get_more_seen, kill_cursors_seen};
 ghost use Rattle.dv_core.specs.More as more;
 ghost use Rattle.dv_command.specs.Replies as replies;
-ghost use Rattle.dv_core.specs.StepParts.{Ends, GivesAndLeaves};
+ghost use Rattle.dv_core.specs.StepParts.{Ends, GivesAndLeaves, reply_told};
 
 use crate::answers::{refuse, told};
-use crate::find::values_of;
-use crate::outcome::Outcome;
+use crate::outcome::{Batch, Outcome};
 use crate::reserve::Reserve;
-use dv_command::replies::{kill_cursors_reply, next_batch_reply};
-use dv_command::{GetMore, KillCursors, Refusal, ReplyNames};
+use dv_command::replies::kill_cursors_reply;
+use dv_command::{GetMore, KillCursors, Refusal};
 use dv_cursor::{Cursors, Rows};
 use dv_value::{Document, List, NoMemory, Value};
 use std::alloc::Global;
@@ -20,13 +19,12 @@ use std::alloc::Global;
 /// The reply with the next rows of a cursor, which goes when its rows are out. Refused with `CursorNotFound` where the
 /// session has no such cursor over the namespace, and with `WantOfMemory`; then nothing is changed.
 pub(crate) fn next_batch(
-    alloc: Global,
-    names: &ReplyNames,
     cursors: &mut Cursors,
     session: u32,
     asked: GetMore,
-) -> Result<Document, Refusal>
-    ensures { GivesAndLeaves (more.next_batch session (get_more_seen asked) cursors.old) cursors.old result cursors.new }
+) -> Result<Batch, Refusal>
+    ensures reply { GivesAndLeaves (more.next_batch session (get_more_seen asked) cursors.old) cursors.old (reply_told result) cursors.new }
+    ensures id { IfOk result (λ batch. batch.id < 2 ^ 63) }
 {
     let GetMore {
         id,
@@ -40,10 +38,13 @@ pub(crate) fn next_batch(
     let taken = batch.len();
     let id = number_of(id);
     let told = if taken < rows.len() { id } else { 0 };
-    // Behind the change nothing may want memory.
-    let reply = next_batch_reply(alloc, names, namespace, told, values_of(alloc, batch)?)?;
     cursors.advance(session, id, taken);
-    Ok(reply)
+    Ok(Batch {
+        is_first: false,
+        namespace,
+        id: told,
+        rows: batch,
+    })
 }
 
 /// Ends the cursors of a session over a namespace that have one of these ids, and tells which went and which weren't there.

@@ -15,8 +15,8 @@ const SMALLEST: usize = 1_024;
 /// How many bytes beside these are enough for a command that stores nothing.
 const ENOUGH: usize = 65_536;
 
-/// Bytes that nothing uses, in as few pieces as they can be had. They are given back where memory is wanting for a command that
-/// stores nothing, for a message or for a reply, and taken again for the next command that stores something.
+/// Bytes that nothing uses, in as few pieces as they can be had. They are given back if memory runs out for a command that stores
+/// nothing, for a message or for a reply, and taken again for the next command that stores something.
 #[derive(Debug, Drop)]
 pub struct Reserve {
     alloc: Global,

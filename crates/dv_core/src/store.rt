@@ -1,9 +1,9 @@
 //! The store: the machine, and what is true of it at every moment.
 
-use crate::answers::refuse;
+use crate::answers::{refuse, told};
 use crate::laws::states_stay_orderly;
 use crate::machine::Machine;
-use crate::outcome::Outcome;
+use crate::outcome::{Outcome, Told};
 use crate::reserve::{Reserve, keeps};
 use dv_command::{Command, Refusal};
 use dv_value::Document;
@@ -11,10 +11,10 @@ use dv_views::Rows;
 use std::alloc::Global;
 use std::marker::Model;
 
-/// All that commands read and change: collections, and views, each of which keeps at every moment the rows of its pipeline
-/// over documents of collections and rows of older views, or, where it is stale, none. And the cursors of all sessions,
-/// with the rows that they have still to tell. The documents of a collection stand in the order of their `_id`s, no two of
-/// which are equal, and no key of a unique index stands in two of them.
+/// All that commands read and change: collections, and views, each of which keeps at every moment the rows of its pipeline over
+/// documents of collections and rows of older views, or none if it is stale. And the cursors of all sessions, with the rows that
+/// they have not returned yet. The documents of a collection are in the order of their `_id`s, no two of which are equal, and no
+/// key of a unique index is in two of them.
 #[derive(Debug, Drop)]
 pub struct Store {
     alloc: Global,
@@ -44,6 +44,8 @@ impl Store {
     ghost use Rattle.dv_core.specs.Load as loading;
     ghost use Rattle.dv_core.specs.State.{empty_store_state, marked};
     ghost use Rattle.dv_core.specs.Step.{MemoryStep, TellsOfWant, end_session};
+    ghost use Rattle.dv_core.specs.StepParts.{IsMadeOf};
+    ghost use Rattle.dv_core.specs.Told.{HasId, outcome_told};
 
     /// A store without any collection.
     pub fn new(alloc: Global) -> Self
@@ -57,37 +59,66 @@ impl Store {
         }
     }
 
-    /// Carries out one command of a session: one step of the machine. A command that is refused is answered so and
-    /// changes nothing. Where memory is wanting, it is refused for that, or a write ends at the statement that finds
-    /// none; and after any of these the reply may be left out. 1,048,576 bytes are kept from the start for commands that store
-    /// nothing and for replies that tell of want of memory: while these can't be had again, one that stores something is refused.
+    /// Carries out one command of a session: one step of the machine. A command that is refused changes nothing, and its reply says
+    /// why. If memory runs out, the command is refused for that, or a write ends at the statement that ran out of memory; and after
+    /// any of these there may be no reply. 1,048,576 bytes are kept from the start for commands that store nothing and for replies
+    /// that report that memory ran out. While these can't be reserved again, a command that stores something is refused.
     pub fn execute(&mut self, session: u32, command: &Command) -> Outcome
         ensures step { MemoryStep self.old session command.now result self.new }
         // A command for which memory was wanting as it was read is told so.
         ensures unread { command.now ≡ Invalid NoMemory → TellsOfWant result }
     {
+        let told = self.carry_out(session, command);
+        self.made_of(told)
+    }
+
+    /// Carries out one command of a session as `execute` does, but makes no body of a reply with rows, and takes no memory for
+    /// it: what such a reply tells is given in its place.
+    pub fn carry_out(&mut self, session: u32, command: &Command) -> Told
+        ensures step { MemoryStep self.old session command.now (outcome_told result) self.new }
+        ensures unread { command.now ≡ Invalid NoMemory → TellsOfWant (outcome_told result) }
+        // The id of a batch is below 2^63.
+        ensures id { HasId result }
+    {
         states_stay_orderly();
         if !keeps(command) {
             self.reserve.make_room();
         } else if !self.reserve.take() {
-            return refuse(self.alloc, &mut self.reserve, Refusal::WantOfMemory);
+            return Told::Outcome(refuse(self.alloc, &mut self.reserve, Refusal::WantOfMemory));
         }
-        self.machine.execute(session, command, &mut self.reserve)
+        self.machine.carry_out(session, command, &mut self.reserve)
     }
 
-    /// Gives back the memory that is kept, until the next command: for the bytes of a message, or of its reply, that find none.
+    /// The outcome that is told. Where memory is wanting for the body of a batch, with some of the reserve given back for it,
+    /// there is no reply.
+    fn made_of(&mut self, outcome: Told) -> Outcome
+        requires { HasId outcome }
+        ensures made { IsMadeOf outcome result }
+        ensures state { self.new ≡ self.old }
+    {
+        match outcome {
+            Told::Batch(batch) => {
+                self.reserve.make_room();
+                told(self.machine.body_of(batch))
+            }
+            Told::Outcome(outcome) => outcome,
+        }
+    }
+
+    /// Frees the memory that is kept, until the next command: for the bytes of a message, or of its reply, for which there was no
+    /// memory.
     pub fn give_back(&mut self)
         ensures { self.new ≡ self.old }
     {
         self.reserve.give_back();
     }
 
-    /// Loads a document into the collection of a namespace, which is made where it isn't there: what an insert of that
-    /// document alone does, beside any session. Refused with a code, the first of these that holds: 2 where the text is no
-    /// namespace, which is the name of a database, a dot and the name of a collection, at most 120 bytes in all; 902 where a
-    /// view stands there; 2 where the document can't be stored for its names or its `_id`; 901 where it is over 16,777,216
-    /// bytes or 100 levels; 11000 where a document has an equal `_id`, or one has a key of it under the path of a unique index;
-    /// and 900 where memory is wanting. Then nothing is changed.
+    /// Loads a document into the collection of a namespace, which is made if it doesn't exist: what an insert of only that document
+    /// does, outside any session. Refused with a code, the first of these that holds: 2 if the text is no namespace, which is the
+    /// name of a database, a dot and the name of a collection, at most 120 bytes in all; 902 if there is a view; 2 if the document
+    /// can't be stored because of its names or its `_id`; 901 if it is over 16,777,216 bytes or 100 levels; 11000 if a document has
+    /// an equal `_id`, or one has a key of it under the path of a unique index; and 900 if memory runs out. Then nothing is
+    /// changed.
     pub fn load(&mut self, namespace: &str, document: Document) -> Result<(), i32>
         ensures loaded { OnOk result (loading.IsLoaded namespace.now document self.old self.new) }
         ensures code { IfErr result (λ code. loading.IsCodeOf (loading.loaded namespace.now document self.old) code) }
@@ -97,8 +128,8 @@ impl Store {
         self.machine.load(namespace, document)
     }
 
-    /// The rows that the view of a namespace keeps, in their order: at every moment those of its pipeline, run anew over what it
-    /// reads. None where no view stands there, or a stale one. Takes no memory.
+    /// The rows that the view of a namespace keeps, in their order: at every moment those of its pipeline, run from scratch over
+    /// what it reads. None if there is no view there, or a stale one. Takes no memory.
     pub fn stored_rows(&self, namespace: &str) -> Option<Rows<'_>>
         ensures { result ≡ stored_of namespace.now (marked self.now) }
     {

@@ -14,3 +14,4 @@ mod Spelled
 mod Bring
 mod Worked
 mod Measured
+mod Batches

@@ -9,3 +9,4 @@ pub mod Examples
 pub mod SectionsView
 pub mod CommandsView
 pub mod View
+pub mod Batches

@@ -19,9 +19,9 @@ use dv_value::{BsonFault, Document, Str};
 use std::alloc::Global;
 
 /// The command that a message's sections bring, with no more of its lists than it needs, or the first fault in all of their
-/// documents; or that memory is wanting to read them. Documents of the given shapes share their names. The shapes of these
-/// documents are kept where it is time for others, each before what stands behind it is read: so no memory is left behind a
-/// large message for what was made last.
+/// documents; or that memory ran out while they were read. Documents of the given shapes share their names. The shapes of these
+/// documents are kept when it is time for others, each before what follows it is read. So after a large message no memory is left
+/// in use for what was made last.
 pub fn command_in(alloc: Global, sections: &[Section<'_>], shapes: &mut Shapes) -> Command
     ensures { (needed (brings.command_from (brings.read_in (map section_seen sections.now))) ≡ result) ⊎ (result ≡ Command.Invalid BsonFault.NoMemory) }
 {

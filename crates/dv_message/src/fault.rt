@@ -16,9 +16,9 @@ pub enum CloseFault {
     BadFlag,
     /// The flag checksumPresent is set.
     Checksum,
-    /// The sections are no body and what may stand beside it.
+    /// The sections are no body and what may come beside it.
     BadSection,
-    /// Memory is wanting for a session's bytes, for a reply, or for a command whose reply moreToCome leaves out.
+    /// Memory ran out for a session's bytes, for a reply, or for a command whose reply moreToCome leaves out.
     NoMemory,
 }
 

@@ -6,7 +6,7 @@ ghost use Rattle.dv_message.specs.SectionsView.{framed_seen};
 
 use crate::sections::number_behind;
 
-/// The bytes of documents, one behind the other.
+/// The bytes of documents, one after the other.
 #[derive(Clone, Copy)]
 pub struct Framed<'a> {
     bytes: &'a [u8],
@@ -27,7 +27,7 @@ impl<'a> Framed<'a> {
         Some(Framed { bytes })
     }
 
-    /// The bytes of the first document, and the others; `None` where there is none.
+    /// The bytes of the first document, and the others; `None` if there is none.
     pub fn split_first(self) -> Option<(&'a [u8], Self)>
         ensures { MatchOption result (framed_seen self.entry ≡ []) (λ found. framed_seen self.entry ≡ found.0.now ∷ framed_seen found.1) }
     {

@@ -26,12 +26,12 @@ pub struct Message<'a> {
     pub sections: Vec<Section<'a>>,
 }
 
-/// What stands at the front of a stream.
+/// What is at the front of a stream.
 #[derive(Drop)]
 pub enum Front<'a> {
     /// Less than a message.
     Unfinished,
-    /// A fault that the bytes show already, or want of memory to look at the sections.
+    /// A fault that the bytes show already, or that memory ran out for looking at the sections.
     Closing(CloseFault),
     /// A message, and the bytes that follow it.
     Whole {
@@ -40,8 +40,8 @@ pub enum Front<'a> {
     },
 }
 
-/// Looks at the front of a stream. A message's length is shown by its fourth byte, its code by the sixteenth, its
-/// flags by the twentieth, its sections by its last. Where memory is wanting to look at the sections, that closes.
+/// Looks at the front of a stream. A message's length is shown by its fourth byte, its code by the sixteenth, its flags by the
+/// twentieth, its sections by its last. If memory runs out for looking at the sections, that is a closing fault.
 #[tactic(auto, unfolding(crate::specs::Message::stream_front))]
 pub fn front_of(alloc: Global, bytes: &[u8]) -> Front<'_>
     ensures { (front_seen result ≡ wire.stream_front bytes.now) ⊎ (result ≡ Front.Closing CloseFault.NoMemory) }
@@ -87,9 +87,9 @@ pub fn front_of(alloc: Global, bytes: &[u8]) -> Front<'_>
     }
 }
 
-/// How many bytes of a piece come up to the end of the message that the bytes `kept` in front of it begin, or that the piece
-/// begins where none are kept: so many bring one message at most. As long as the message doesn't show its length, which its
-/// fourth byte does, they come up to that byte. At least 1, and at most all of them.
+/// How many bytes of a piece come up to the end of the message that the bytes `kept` before it begin, or that the piece begins if
+/// none are kept: so many bring at most one message. As long as the message doesn't show its length, which its fourth byte does,
+/// they come up to that byte. At least 1, and at most all of them.
 pub fn front_length(kept: &[u8], piece: &[u8]) -> usize
     requires { 0 < length piece.now }
     ensures { result ≡ wire.front_length kept.now piece.now }

@@ -6,20 +6,20 @@ ghost use Rattle.dv_message.specs.Bytes.{IsByteSplit};
 ghost use Rattle.dv_message.specs.Examples as examples;
 ghost use Rattle.dv_message.specs.Message as wire;
 
-/// A stream splits as its front shows: into nothing where that is no message or a fault, and else into the message and what
-/// those bytes split into that follow it, which are fewer.
+/// A stream splits as its front shows: into nothing if that is no message or a fault, and else into the message and what the bytes
+/// after it split into, which are fewer.
 pub fn streams_split_by_their_fronts()
     ensures front { (bytes : List ℕ) → wire.split bytes ≡ wire.split_from bytes (wire.stream_front bytes) wire.split }
     ensures whole { (bytes : List ℕ) (message : wire.Message) (following : List ℕ) → wire.stream_front bytes ≡ wire.whole message following
         → (taken : List ℕ) × (bytes ≡ taken ++ following) × (length following < length bytes) }
 {}
 
-/// A stream of which more comes splits as before, and then as its rest with what comes; behind a fault nothing does.
+/// A stream of which more comes splits as before, and then as its rest with what comes; after a fault it is split no further.
 pub fn splitting_goes_on()
     ensures { (bytes more : List ℕ) → wire.split (bytes ++ more) ≡ wire.continuation (wire.split bytes) more }
 {}
 
-/// A message is split off exactly where its spelling begins the stream.
+/// A message is split off exactly if its encoding begins the stream.
 pub fn messages_are_spelled()
     ensures { (bytes following : List ℕ) (message : wire.Message) → IsBytes bytes
         → (wire.stream_front bytes ≡ wire.whole message following) ↔ ((spelled : List ℕ) × wire.IsMessage message spelled × (bytes ≡ spelled ++ following)) }
@@ -30,12 +30,12 @@ pub fn messages_are_no_more_than_bytes()
     ensures { (bytes : List ℕ) → length (wire.split bytes).messages ≤ length bytes }
 {}
 
-/// Bytes bring messages of bytes, and bytes are kept behind them.
+/// Bytes bring messages of bytes, and bytes are kept after them.
 pub fn bytes_bring_bytes()
     ensures { (bytes : List ℕ) → IsBytes bytes → IsByteSplit (wire.split bytes) }
 {}
 
-/// Where a message's length, code and flags close its session, by worked examples.
+/// When a message's length, code and flags close its session, by worked examples.
 pub fn headers_by_example()
     ensures { examples.HeaderExamples }
 {}

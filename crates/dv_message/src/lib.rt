@@ -1,6 +1,7 @@
 //! OP_MSG messages: where one ends in a stream of bytes, what its sections bring, and how a reply is spelled.
 #![tactic(auto)]
 
+mod batch;
 mod commands;
 mod fault;
 mod framed;
@@ -10,6 +11,7 @@ mod reply;
 mod sections;
 mod shapes;
 
+pub use batch::append_batch;
 pub use commands::command_in;
 pub use fault::CloseFault;
 pub use framed::Framed;

@@ -11,7 +11,7 @@ use dv_bson::write_document;
 use dv_value::{Document, NoMemory};
 use std::alloc::AllocError;
 
-/// Appends a message with this body as the reply to a request. Where memory is wanting nothing is appended.
+/// Appends a message with this body as the reply to a request. If memory runs out nothing is appended.
 pub fn append_reply(request_id: u32, reply: &Document, out: &mut Vec<u8>) -> Result<(), NoMemory>
     ensures ok { OnOk result (out.new.items ≡ out.old.items ++ message_spelling 0 request_id 0 (0 ∷ spelling reply.now)) }
     ensures err { OnErr result (out.new.items ≡ out.old.items) }
@@ -39,7 +39,7 @@ fn append_unmeasured(request_id: u32, reply: &Document, out: &mut Vec<u8>) -> Re
 }
 
 /// The bytes in front of a reply's body: the header, with 0 as its length, the flags and the kind of the section.
-fn header(request_id: u32) -> [u8; 21]
+pub(crate) fn header(request_id: u32) -> [u8; 21]
     ensures { result ≡ unmeasured request_id (0 ∷ []) }
 {
     let id = request_id.to_le_bytes();
@@ -51,7 +51,7 @@ fn header(request_id: u32) -> [u8; 21]
 }
 
 /// Puts the length of the message that begins at `start` and ends with the bytes into its first four bytes.
-fn put_length(out: &mut [u8], start: usize)
+pub(crate) fn put_length(out: &mut [u8], start: usize)
     requires room { start + 4 ≤ length out.old }
     requires fits { length out.old < start + 2 ^ 32 }
     ensures { out.new ≡ take start out.old ++ (to_le_bytes w32 (length out.old - start) ++ drop (start + 4) out.old) }

@@ -16,7 +16,7 @@ use std::collections::BTreeSet;
 pub enum Section<'a> {
     /// Kind 0: the bytes of the document that is the message's body.
     Body(&'a [u8]),
-    /// Kind 1: a name, and the documents that stand under it.
+    /// Kind 1: a name, and the documents under it.
     Named {
         name: &'a str,
         documents: Framed<'a>,

@@ -14,6 +14,9 @@ use Rattle.dv_wire.specs.declared.session.Counts.{Counts}
 use Rattle.dv_message.specs.Sections.{body, section_spelling}
 use Rattle.dv_message.specs.Message.{Message, message_spelling, Conversation, reading, closed}
 use Rattle.dv_core.specs.State.{State}
+use Rattle.dv_core.specs.Told.{batch_told}
+use Rattle.dv_wire.specs.declared.reply.Body.{Body}
+use Rattle.dv_wire.specs.declared.reply.Body.TheVariants as bodies
 use Rattle.dv_wire.specs.Schedule.{CarriesOutMessages, Comes, Hears, Run, World, bytes_of, world_behind}
 use Rattle.dv_wire.specs.Service.{closing_of, most_reads, reply_count}
 use Rattle.dv_wire.specs.declared.fault.RunFault.{RunFault}
@@ -42,9 +45,14 @@ left_or_closed (Err fault) stream = closed fault
 abbrev pub GoesOn : ℕ → State → List Message → List (List ℕ) → State → Type 0
 GoesOn session old messages answers new = CarriesOutMessages session old messages (reading []) (record { answers = answers; state = new; conversation = reading [] })
 
+-- the document that a reply's body is
+abbrev pub body_seen : Body → List Field
+body_seen (bodies.Whole document) = document
+body_seen (bodies.Batch batch) = batch_told batch
+
 -- the bytes that are sent to a message: this reply, or nothing; or there are none
-abbrev pub bytes_seen : {E : Type 0} → Message → Result (Option (List Field)) E → Option (List ℕ)
-bytes_seen message (Ok (Some reply)) = Some (message_spelling 0 message.request_id 0 (section_spelling (body (spelling reply))))
+abbrev pub bytes_seen : {E : Type 0} → Message → Result (Option Body) E → Option (List ℕ)
+bytes_seen message (Ok (Some reply)) = Some (message_spelling 0 message.request_id 0 (section_spelling (body (spelling (body_seen reply)))))
 bytes_seen message (Ok None) = Some []
 bytes_seen message (Err e) = None
 

@@ -11,7 +11,7 @@ use std::alloc::{AllocError, AllocFailed};
 pub enum HubFault {
     /// As many sessions as may be are opened and not ended, or no number is left.
     TooManySessions,
-    /// Memory is wanting.
+    /// Memory ran out.
     NoMemory,
 }
 
@@ -29,7 +29,7 @@ impl HubFault {
     }
 }
 
-/// Why a whole session over a reader and a writer ends before the end of input, but for a closing fault.
+/// Why a whole session over a reader and a writer ends before the end of input, except for a closing fault.
 #[derive(Clone, Copy, Debug, PartialEq, Eq)]
 pub enum RunFault {
     /// The reader failed.
@@ -38,7 +38,7 @@ pub enum RunFault {
     Write,
     /// As many reads as may be were made.
     TooManyReads,
-    /// No session is opened, or memory is wanting for what is read.
+    /// No session is opened, or memory ran out for what is read.
     Hub(HubFault),
 }
 

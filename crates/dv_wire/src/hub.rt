@@ -87,8 +87,8 @@ impl Hub {
         }
     }
 
-    /// Opens a session, and answers its number. Refused with `TooManySessions` where 1,000 were opened and haven't
-    /// ended, be they closed, or no number is left, and with `NoMemory`; then nothing is changed.
+    /// Opens a session, and returns its number. Refused with `TooManySessions` if 1,000 were opened and haven't ended, be they
+    /// closed, or no number is left, and with `NoMemory`; then nothing is changed.
     pub fn open(&mut self) -> Result<SessionId, HubFault>
         ensures opened { Opens self.old result self.new }
         ensures state { self.new.state ≡ self.old.state }
@@ -109,10 +109,10 @@ impl Hub {
         Ok(SessionId { number })
     }
 
-    /// Takes the next piece of a session's bytes: carries out the messages that are whole now, in order, and
-    /// appends their replies to `out`, each of them whole. A fault in the bytes closes the session as soon as they
-    /// show it, and so does want of memory for the bytes, for a reply, or for a command whose reply moreToCome leaves
-    /// out. A session that is closed takes no more.
+    /// Takes the next piece of a session's bytes: carries out the messages that are whole now, in order, and appends their replies
+    /// to `out`, each of them whole. A fault in the bytes closes the session as soon as they show it. Running out of memory also
+    /// closes it: for the bytes, for a reply, or for a command whose reply moreToCome leaves out. A closed session takes no more
+    /// bytes.
     pub fn feed(&mut self, session: SessionId, piece: &[u8], out: &mut Vec<u8>) -> Fed
         ensures fed { Appends out.old.items out.new.items (λ bytes. Feeds self.old session.number piece.now bytes result self.new) }
         ensures numbers { self.new.next ≡ self.old.next }
@@ -120,9 +120,9 @@ impl Hub {
         self.feed_counted(session, piece, out, &mut Counts::none())
     }
 
-    /// How many bytes of a session's next piece come up to the end of its next message: so many bring one message at most,
-    /// so its reply can be sent before the next one is made. At least 1, and at most all of them: all where the message isn't
-    /// whole with the piece, or the session takes none.
+    /// How many bytes of a session's next piece come up to the end of its next message: so many bring at most one message, so its
+    /// reply can be sent before the next one is made. At least 1, and at most all of them: all if the message isn't whole with the
+    /// piece, or the session takes none.
     pub fn whole_front(&self, session: SessionId, piece: &[u8]) -> usize
         requires { 0 < length piece.now }
         ensures front { result ≡ whole_front (conversation_of session.number self.now.sessions) piece.now }
@@ -152,7 +152,7 @@ impl Hub {
         session.hear(self.alloc, &mut self.store, piece, out, counts)
     }
 
-    /// How many bytes of an unfinished message a session keeps; none where it was never opened, has ended or is closed.
+    /// How many bytes of an unfinished message a session keeps; none if it was never opened, has ended or is closed.
     pub fn unfinished(&self, session: SessionId) -> usize
         ensures { result ≡ unfinished_in (conversation_of session.number self.now.sessions) }
     {
@@ -162,8 +162,8 @@ impl Hub {
         }
     }
 
-    /// Ends a session and its cursors, and answers how many bytes of an unfinished message are dropped with it. A
-    /// session that was never opened, or has ended, has none of these. Takes no memory.
+    /// Ends a session and its cursors, and returns how many bytes of an unfinished message are dropped with it. A session that was
+    /// never opened, or has ended, has none of these. Takes no memory.
     pub fn end(&mut self, session: SessionId) -> usize
         ensures unfinished { result ≡ unfinished_in (conversation_of session.number self.old.sessions) }
         ensures ended { self.new ≡ end_of session.number self.old }
@@ -178,9 +178,9 @@ impl Hub {
         session.conversation.unfinished_len()
     }
 
-    /// Lets events happen in order, as `open`, `feed` and `end` do, and puts what they answer behind what `out` holds.
-    /// Fails where memory is wanting to hold as many answers; then nothing happens. Want of memory for a reply's bytes
-    /// closes its session, as in `feed`.
+    /// Lets events happen in order, as `open`, `feed` and `end` do, and appends what they answer to `out`. Fails with `NoMemory`
+    /// when memory runs out for as many answers; then nothing happens. If memory runs out for a reply's bytes, its session is
+    /// closed, as in `feed`.
     pub fn play(&mut self, events: &[Event], out: &mut Vec<Said>) -> Result<(), NoMemory>
         ensures played { OnOk result ((said : List heard.Said) × (out.new.items ≡ out.old.items ++ said) × Plays self.old events.now said self.new) }
         ensures refused { OnErr result ((out.new.items ≡ out.old.items) × (self.new ≡ self.old)) }

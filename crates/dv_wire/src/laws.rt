@@ -42,9 +42,9 @@ pub fn cuts_do_not_matter()
     splitting_goes_on();
 }
 
-/// Wherever in a schedule a piece of a session's bytes is cut in two, the same may be answered, event by event, and the
-/// same world left: the whole piece may answer what its two parts may answer one behind the other, and what is told of the
-/// second part may be told of the whole.
+/// Wherever in a schedule a piece of a session's bytes is cut in two, the same may be answered, event by event, and the same world
+/// left: the whole piece may answer what its two parts may answer one after the other, and what is said of the second part may be
+/// said of the whole.
 pub fn a_piece_may_come_in_two()
     ensures { (old new : World) (before after : List Event) (session : SessionId) (piece more : List ℕ) (answers behind : List Said) (told : Fed) (bytes : List ℕ) → length before ≡ length answers
         → Plays old (before ++ events.Piece session (piece ++ more) ∷ after) (answers ++ said.Fed told bytes ∷ behind) new
@@ -53,8 +53,8 @@ pub fn a_piece_may_come_in_two()
     splitting_goes_on();
 }
 
-/// A schedule in two parts is a schedule: what may be said of the first, and behind it of the second, is what may be said of
-/// both as one, and nothing else. So the calls that a program makes one after the other are one play of all their events.
+/// A schedule in two parts is a schedule: what may be said of the first, and after it of the second, is what may be said of both as
+/// one, and nothing else. So the calls that a program makes one after the other are one play of all their events.
 pub fn schedules_may_be_joined()
     ensures { (old new : World) (first second : List Event) (all : List Said)
         → Plays old (first ++ second) all new
@@ -76,11 +76,10 @@ pub fn a_whole_session_is_a_schedule()
         (said.Opened (Ok whole.session) ∷ said.Fed (fed_of run.conversation) (bytes_of run) ∷ said.Ended (unfinished_in (Some run.conversation)) ∷ []) new }
 {}
 
-/// Where memory is never wanting, only the order counts in which sessions are opened and end and their messages become
-/// whole: the state that a schedule leaves, and what it answers to each session, are those of a machine that in that order
-/// takes one message after the other, and ends the cursors of each session that ends. So two schedules of one order answer
-/// the same to each session and leave the same state, however their bytes are cut and interleaved. Such a run is one of
-/// those that are allowed.
+/// If memory never runs out, only the order counts in which sessions are opened and end and their messages become whole: the state
+/// that a schedule leaves, and what it answers to each session, are those of a machine that in that order takes one message after
+/// the other, and ends the cursors of each session that ends. So two schedules of one order answer the same to each session and
+/// leave the same state, however their bytes are cut and interleaved. Such a run is one of those that are allowed.
 pub fn only_the_order_counts()
     ensures state { (world : World) (all : List Event) → (plain_play world all).world.state ≡ state_left world.state (order world.next world.sessions all) }
     ensures answers { (session : ℕ) (world : World) (all : List Event) → answers session all (plain_play world all).said ≡ replies_behind session world.state (order world.next world.sessions all) }
@@ -92,11 +91,10 @@ pub fn only_the_order_counts()
     dv_core::laws::the_counted_step_is_allowed();
 }
 
-/// A play without want of memory, be it for a view, is the plain one: where nothing that is said tells of it, as no session is
-/// refused or closed for it and no reply tells of it, and each step leaves all views live, all is said that the plain run says,
-/// and nothing else, and the world that is left is the plain run's. So the state, and what is answered to each session, are
-/// those of the machine that takes one message after the other. The plain run itself is such a play, where views are live
-/// before it.
+/// A play in which memory never runs out, not even for a view, is the plain one: if nothing that is said reports it, as no session
+/// is refused or closed for it and no reply reports it, and each step leaves all views live, then all is said that the plain run
+/// says, and nothing else, and the world that is left is the plain run's. So the state, and what is answered to each session, are
+/// those of the machine that takes one message after the other. The plain run itself is such a play, if views are live before it.
 pub fn a_play_without_want_of_memory_is_the_plain_one()
     ensures plain { (old new : World) (all : List Event) (told : List Said) → PlaysBy LiveStep old all told new → AllByRecursion (λ s. SaysWant s → ⊥) told
         → (told ≡ (plain_play old all).said) × (new ≡ (plain_play old all).world) }
@@ -108,9 +106,9 @@ pub fn a_play_without_want_of_memory_is_the_plain_one()
     dv_core::laws::the_counted_step_is_allowed();
 }
 
-/// How views stand matters to viewStats alone. A view for which memory was wanting becomes stale without a reply that tells of
-/// it; but where nothing that is said tells of want of memory, and no message asks viewStats, all is said that the plain run
-/// says, and nothing else, and the world that is left is the plain run's, but that views may stand otherwise.
+/// The states of views matter only to viewStats. A view for which memory ran out becomes stale without a reply that reports it. But
+/// if nothing that is said reports that memory ran out, and no message asks viewStats, then all is said that the plain run says,
+/// and nothing else, and the world that is left is the plain run's, except that views may be in other states.
 pub fn how_views_stand_matters_to_view_stats_alone()
     ensures plain { (old new : World) (all : List Event) (told : List Said) → Plays old all told new → AllByRecursion (λ s. SaysWant s → ⊥) told
         → OfCommands AsksNoStats (order old.next old.sessions all)
@@ -121,8 +119,8 @@ pub fn how_views_stand_matters_to_view_stats_alone()
         × ((session : ℕ) → answers session all told ≡ replies_behind session old.state (order old.next old.sessions all)) }
 {}
 
-/// The plain run is allowed: whatever the pieces are, a session that is open may answer what the steps of its messages
-/// answer, one after the other, those left out that moreToCome leaves out, and may then stand as its stream says.
+/// The plain run is allowed: whatever the pieces are, an open session may answer what the steps of its messages answer, one after
+/// the other, without those that moreToCome leaves out, and its state may then be as its stream says.
 pub fn the_plain_run_is_allowed()
     ensures { (world : World) (session : ℕ) (kept piece : List ℕ) (pieces : List (List ℕ)) → conversation_of session world.sessions ≡ Some (wire.reading kept)
         → let run = plain_run session world.state (wire.split (kept ++ stream_of piece pieces)) in
@@ -132,15 +130,15 @@ pub fn the_plain_run_is_allowed()
     dv_core::laws::the_counted_step_is_allowed();
 }
 
-/// What moreToCome leaves untold was done: where a session goes on behind such a message, the message was carried out by
-/// its step, and nothing is answered. How views stand behind it is left open here, as memory may have been wanting for one.
+/// What moreToCome leaves unanswered was done: if a session goes on after such a message, the message was carried out by its step,
+/// and nothing is answered. The states of views after it are left open here, as memory may have run out for one.
 pub fn what_is_untold_is_done()
     ensures { (session : ℕ) (old : State) (message : wire.Message) (kept : List ℕ) (run : Run) → message.more_to_come ≡ true → CarriesOutMessages session old (message ∷ []) (wire.reading kept) run
         → run.conversation ≡ wire.reading kept → run ≡ unanswered (standing run.state.marks (step old session (command_of message)).state) (wire.reading kept) }
 {}
 
-/// No number is used again: sessions ascend by their numbers, which are below the next one. So it is before the first
-/// session is opened, and so after each event, and the next number grows where a session is opened and stays else.
+/// No number is used again: sessions ascend by their numbers, which are below the next one. So it is before the first session is
+/// opened, and so after each event, and the next number grows if a session is opened and otherwise stays.
 pub fn numbers_are_never_used_again()
     ensures before { (state : State) → IsNumbered (world_of state) }
     ensures opened { (old new : World) (session : SessionId) → IsNumbered old → Opens old (Ok session) new → IsNumbered new × (session.number ≡ old.next) × (new.next ≡ suc old.next) }
@@ -165,8 +163,8 @@ pub fn sessions_keep_to_themselves()
     ensures ended { (old : World) (session other : ℕ) → session ≢ other → conversation_of other (end session old).sessions ≡ conversation_of other old.sessions }
 {}
 
-/// Documents change only where a session that is open takes its bytes: not where one is opened or ends, which leaves all
-/// but its cursors, nor where bytes come for one that is closed, which stays closed by the same fault, or that isn't there.
+/// Documents change only when an open session takes its bytes: not when one is opened or ends, which leaves all except its cursors,
+/// nor when bytes come for one that is closed, which stays closed by the same fault, or that doesn't exist.
 pub fn only_open_sessions_change_documents()
     ensures opened { (old new : World) (result : Result SessionId HubFault) → Opens old result new → new.state ≡ old.state }
     ensures ended { (old : World) (session : ℕ) → (end session old).state.catalog ≡ old.state.catalog }
@@ -195,7 +193,7 @@ pub fn sessions_by_example()
     ensures { examples.SessionExamples }
 {}
 
-/// What is sent where memory is wanting, by worked examples.
+/// What is sent if memory runs out, by worked examples.
 pub fn want_of_memory_by_example()
     ensures { examples.WantOverBytes }
 {}

@@ -6,6 +6,7 @@ mod fault;
 mod hosted;
 mod hub;
 pub mod laws;
+mod reply;
 mod service;
 mod session;
 

@@ -23,7 +23,7 @@ const PIECE: usize = 65_536;
 /// How many bytes of replies are enough to be written before the next message is looked at.
 const ENOUGH: usize = 65_536;
 
-/// What is told of a session that ended.
+/// What is reported of a session that ended.
 #[derive(Clone, Copy, Debug, PartialEq, Eq)]
 pub struct Done {
     /// How many messages were carried out.
@@ -36,16 +36,15 @@ pub struct Done {
     pub unfinished: usize,
 }
 
-/// Has a whole session: opens it, reads to the end of input in pieces of at most 65,536 bytes, feeds each to it, writes
-/// its replies, and ends it. Many messages of one read are answered by one write, if the writer takes that much; else the
-/// rest is given to it. Replies are written as soon as they are 65,536 bytes or more, before the next message is carried
-/// out, so no more than one reply is held beside so many bytes. At a closing fault it stops reading. Answers only there
-/// and at the end of input.
+/// Carries out a whole session: opens it, reads to the end of input in pieces of at most 65,536 bytes, feeds each to it, writes its
+/// replies, and ends it. Many messages of one read are answered by one write, if the writer takes that much; else the rest is given
+/// to it. Replies are written as soon as they are 65,536 bytes or more, before the next message is carried out, so no more than one
+/// reply is held beside so many bytes. At a closing fault it stops reading. Returns only then and at the end of input.
 ///
-/// Fails with `Read` or `Write` where the reader or the writer does (one that takes 0 bytes has failed), with
-/// `TooManyReads` after 4,294,967,296 reads, and with `Hub` where no session is opened or memory is wanting for a
-/// piece; in the last case nothing is changed or read. The session has ended then too; what its messages changed
-/// stands. What was read is carried out, be its replies written or not.
+/// Fails with `Read` or `Write` if the reader or the writer does (one that takes 0 bytes has failed), with `TooManyReads` after
+/// 4,294,967,296 reads, and with `Hub` if no session is opened or memory runs out for a piece; in the last case nothing is changed
+/// or read. The session has ended then too; what its messages changed stays changed. What was read is carried out, whether its
+/// replies are written or not.
 pub fn run<R: ByteIn, W: ByteOut>(
     alloc: Global,
     hub: &mut Hub,

@@ -6,16 +6,16 @@ ghost use Rattle.dv_command.specs.Needed.{needed};
 ghost use Rattle.dv_message.specs.Commands.{command_of};
 ghost use Rattle.dv_wire.specs.Schedule.{TakesSplit, bytes_to};
 ghost use Rattle.dv_core.specs.Step.{MemoryStep};
+ghost use Rattle.dv_core.specs.Told.{outcome_told};
 ghost use Rattle.dv_message.specs.Message.{message_spelling, split, stream_front};
 ghost use Rattle.dv_message.specs.View.{front_seen, message_seen};
-ghost use Rattle.dv_wire.specs.View.{kept_or_closed, left_or_closed, bytes_seen, Answered, Carries};
+ghost use Rattle.dv_wire.specs.View.{kept_or_closed, left_or_closed, body_seen, bytes_seen, Answered, Carries};
 
 use crate::hub::Fed;
-use dv_core::{Command, Outcome, Store};
-use dv_message::{
-    CloseFault, Front, Message, Shapes, append_reply, command_in, front_length, front_of, laws,
-};
-use dv_value::{BsonFault, Document, NoMemory};
+use crate::reply::Body;
+use dv_core::{Command, Outcome, Store, Told};
+use dv_message::{CloseFault, Front, Message, Shapes, command_in, front_length, front_of, laws};
+use dv_value::{BsonFault, NoMemory};
 use std::alloc::{AllocError, Global};
 
 /// The most room that is kept for bytes to come, once a session's messages are done and its replies written.
@@ -245,37 +245,43 @@ fn carry_out(
     Ok(())
 }
 
-/// The reply that is to be sent to a message, or none where moreToCome leaves it out. An error says that the session
-/// is to be closed: there is no reply, or moreToCome would leave one out that tells of want of memory.
-fn reply_to(message: &Message<'_>, outcome: Outcome) -> Result<Option<Document>, NoMemory>
+/// The body of the reply that is to be sent to a message, or none where moreToCome leaves it out. An error says that the
+/// session is to be closed: there is no reply, or moreToCome would leave one out that tells of want of memory.
+fn reply_to(message: &Message<'_>, told: Told) -> Result<Option<Body>, NoMemory>
+    ensures { bytes_seen (message_seen message.now) result ≡ bytes_to (message_seen message.now) (outcome_told told) }
+{
+    match told {
+        Told::Batch(_) if message.more_to_come => Ok(None),
+        Told::Batch(batch) => Ok(Some(Body::Batch(batch))),
+        Told::Outcome(outcome) => other_reply_to(message, outcome),
+    }
+}
+
+/// The same where it isn't a reply with rows.
+fn other_reply_to(message: &Message<'_>, outcome: Outcome) -> Result<Option<Body>, NoMemory>
     ensures { bytes_seen (message_seen message.now) result ≡ bytes_to (message_seen message.now) outcome }
 {
     match outcome {
         Outcome::Reply(_) if message.more_to_come => Ok(None),
         // Who waits for no reply is told of want of memory by the end of the session.
         Outcome::Wanting(_) if message.more_to_come => Err(AllocError),
-        Outcome::Reply(reply) | Outcome::Wanting(reply) => Ok(Some(reply)),
+        Outcome::Reply(reply) | Outcome::Wanting(reply) => Ok(Some(Body::Whole(reply))),
         Outcome::NoReply => Err(AllocError),
     }
 }
 
 /// Appends the reply to a request. Where memory is wanting, the store's reserve is given back for it; where it is wanting still,
 /// nothing is appended.
-fn send(
-    store: &mut Store,
-    request_id: u32,
-    reply: &Document,
-    out: &mut Vec<u8>,
-) -> Result<(), NoMemory>
-    ensures ok { OnOk result (out.new.items ≡ out.old.items ++ message_spelling 0 request_id 0 (0 ∷ spelling reply.now)) }
+fn send(store: &mut Store, request_id: u32, reply: &Body, out: &mut Vec<u8>) -> Result<(), NoMemory>
+    ensures ok { OnOk result (out.new.items ≡ out.old.items ++ message_spelling 0 request_id 0 (0 ∷ spelling (body_seen reply.now))) }
     ensures err { OnErr result (out.new.items ≡ out.old.items) }
     ensures store { store.new ≡ store.old }
 {
-    if append_reply(request_id, reply, out).is_ok() {
+    if reply.append(request_id, out).is_ok() {
         return Ok(());
     }
     store.give_back();
-    append_reply(request_id, reply, out)
+    reply.append(request_id, out)
 }
 
 /// The command that a message's sections bring, with no more of its lists than it needs, or that memory is wanting to read it,
@@ -299,10 +305,10 @@ fn step(
     session: u32,
     shapes: &mut Shapes,
     message: &Message<'_>,
-) -> Outcome
-    ensures { MemoryStep store.old session (command_of (message_seen message.now)) result store.new }
+) -> Told
+    ensures { MemoryStep store.old session (command_of (message_seen message.now)) (outcome_told result) store.new }
 {
     dv_command::laws::a_command_needs_no_more();
     let command = read(alloc, store, shapes, message);
-    store.execute(session, &command)
+    store.carry_out(session, &command)
 }

@@ -1,7 +1,7 @@
 use mir.Syntax.{w64}
 use mir.Val.{SFits}
 use Rattle.std.proofs.lemmas.Int.{to_z-of_z}
-use Rattle.std.proofs.Common.{◌≡◌, ◌∙◌, ap, sym, rules, length, map, nat_lt, cond, Some}
+use Rattle.std.proofs.Common.{◌≡◌, ◌∙◌, ap, sym, arith, rules, length, map, nat_lt, cond, Some}
 use Rattle.std.specs.String.{string_bytes}
 use Rattle.dv_command.specs.Replies.{document_of, next_batch_reply}
 use Rattle.dv_cursor.specs.Batch.{batch}
@@ -11,8 +11,8 @@ use Rattle.dv_core.proofs.Mores.{Rows, more_given, told_some, told_none}
 use Rattle.dv_core.proofs.more.next_batch.Goals as goal
 use Rattle.dv_core.proofs.more.next_batch.Goals.{then-taken-len, else-taken-len}
 
-pub returns : goal.returns
-returns c =
+pub returns-clause-reply : goal.returns-clause-reply
+returns-clause-reply c =
     let asked = c.args.asked in
     let rows : Rows = c.in-Some.rows.now in
     let taken : Rows = batch (rows_wanted asked.batch_size rows) rows in
@@ -27,6 +27,13 @@ returns c =
       | then-taken-len w ↦ told_some (length taken) (length rows) c.len-taken.result c.len.result (cursor_number asked.id) c.if-taken-len.told many long w.if-taken-len.true (w.told-is ∙ number)
       | else-taken-len w ↦ told_none (length taken) (length rows) c.len-taken.result c.len.result (cursor_number asked.id) c.if-taken-len.told many long w.if-taken-len.false w.told-is
     ] in
-    let reply : c.in_ok-reply.reply ≡ next_batch_reply (string_bytes asked.namespace) c.if-taken-len.told (map document_of taken) = cc (c.in_ok-reply.ensures, c.in_ok-values_of.ensures) in
+    let reply = ap (λ (rs : Rows). next_batch_reply (string_bytes asked.namespace) c.if-taken-len.told (map document_of rs)) items in
     let left : c.advance.new.self ≡ advanced c.args.session (cursor_number asked.id) (length taken) c.args.cursors.now = cc (c.advance.ensures, number, many) in
-    more_given c.args.session (string_bytes asked.namespace) asked.id asked.batch_size rows c.args.cursors.now there c.if-taken-len.told told c.in_ok-reply.reply reply c.advance.new.self left
+    more_given c.args.session (string_bytes asked.namespace) asked.id asked.batch_size rows c.args.cursors.now there c.if-taken-len.told told _ reply c.advance.new.self left
+
+pub returns-clause-id : goal.returns-clause-id
+returns-clause-id c =
+    elim c.if-taken-len.branch [
+      | then-taken-len w ↦ omega (arith, w.told-is, c.number_of-id.ensures.fits)
+      | else-taken-len w ↦ omega (arith, w.told-is)
+    ]

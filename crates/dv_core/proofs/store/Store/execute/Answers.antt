@@ -1,7 +1,14 @@
-use Rattle.std.proofs.Common.{inr, refl}
-use Rattle.dv_fields.specs.declared.refusal.Refusal.TheVariants.{WantOfMemory}
-use Rattle.dv_core.proofs.Steps.{refusal_steps}
+use Rattle.std.proofs.Common.{sym, subst}
+use Rattle.dv_core.specs.State.{State}
+use Rattle.dv_core.specs.Step.{MemoryStep}
+use Rattle.dv_core.specs.Told.{outcome_told}
+use Rattle.dv_core.proofs.Steps.{made_steps, made_wants}
 use Rattle.dv_core.proofs.store.Store.execute.Goals as goal
 
-pub returns-then-not-take-clause-step : goal.returns-then-not-take-clause-step
-returns-then-not-take-clause-step c = rw (← c.self.view_is) (refusal_steps c.self.inside.machine c.args.session c.args.command.now WantOfMemory c.refuse.result (inr refl) c.refuse.ensures)
+pub returns-clause-step : goal.returns-clause-step
+returns-clause-step c =
+    made_steps c.args.self.now c.args.session c.args.command.now c.made_of.new.self c.carry_out-told.result c.made_of.result
+    (subst (λ (s : State). MemoryStep c.args.self.now c.args.session c.args.command.now (outcome_told c.carry_out-told.result) s) (sym c.made_of.ensures.state) c.carry_out-told.ensures.step) c.made_of.ensures.made
+
+pub returns-clause-unread : goal.returns-clause-unread
+returns-clause-unread c = λ unread. made_wants c.carry_out-told.result c.made_of.result c.made_of.ensures.made (c.carry_out-told.ensures.unread unread)

@@ -9,8 +9,10 @@ use Rattle.dv_core.specs.More.{killed, next_batch}
 use Rattle.dv_core.specs.State.{marked}
 use Rattle.dv_core.specs.Stats.{view_told}
 use Rattle.dv_core.specs.Step.{replying}
-use Rattle.dv_core.proofs.Steps.{catalog_ended, catalog_given, create_stands, cursors_ended, cursors_given, drop_stands, read_by_so, read_steps, refusal_steps, same_by, write_steps}
-use Rattle.dv_core.proofs.machine.Machine.execute.Goals as goal
+use Rattle.dv_core.specs.StepParts.{reply_told}
+use Rattle.dv_core.specs.Told.{outcome_told}
+use Rattle.dv_core.proofs.Steps.{catalog_ended, catalog_given, create_stands, cursors_ended, cursors_given, drop_stands, read_by_so, read_steps, read_told, refusal_steps, same_by, write_steps}
+use Rattle.dv_core.proofs.machine.Machine.carry_out.Goals as goal
 
 pub returns-in-Ok-Write-clause-step : goal.returns-in-Ok-Write-clause-step
 returns-in-Ok-Write-clause-step c =
@@ -25,27 +27,27 @@ returns-in-Ok-Find-clause-step c =
     let asks = rw c.in-Ok-Find.field-0-is at c.in-Ok-Find.ensures in
     let x = find_seen c.in-Ok-Find.find in
     let old = c.args.self.now in
-    let stand = read_by_so old c.args.session c.args.command.now (find x) asks c.find.result c.find.new.self.marks c.find.ensures.marks (λ is. is) in
-    cursors_given old c.args.session c.args.command.now (find x) asks c.find.new.self (reply_to_find c.args.session x old.catalog old.cursors) c.find.result c.outcome_of-in-Ok-Find.result refl c.find.ensures.catalog c.find.ensures.reply
-    c.outcome_of-in-Ok-Find.ensures stand
+    let stand = read_by_so old c.args.session c.args.command.now (find x) asks (reply_told c.find.result) c.find.new.self.marks (read_told old (find x) c.find.result c.find.new.self.marks c.find.ensures.marks) (λ is. is) in
+    cursors_given old c.args.session c.args.command.now (find x) asks c.find.new.self (reply_to_find c.args.session x old.catalog old.cursors) (reply_told c.find.result) (outcome_told c.batch_or_refusal.result) refl c.find.ensures.catalog
+    c.find.ensures.reply c.batch_or_refusal.ensures.reply stand
 
 pub returns-in-Ok-Aggregate-clause-step : goal.returns-in-Ok-Aggregate-clause-step
 returns-in-Ok-Aggregate-clause-step c =
     let asks = rw c.in-Ok-Aggregate.field-0-is at c.in-Ok-Aggregate.ensures in
     let x = aggregate_seen c.in-Ok-Aggregate.aggregate in
     let old = c.args.self.now in
-    let stand = read_by_so old c.args.session c.args.command.now (aggregate x) asks c.aggregate.result c.aggregate.new.self.marks c.aggregate.ensures.marks (λ is. is) in
-    cursors_given old c.args.session c.args.command.now (aggregate x) asks c.aggregate.new.self (reply_to_aggregate c.args.session x old.catalog old.cursors) c.aggregate.result c.outcome_of-in-Ok-Aggregate.result refl
-    c.aggregate.ensures.catalog c.aggregate.ensures.reply c.outcome_of-in-Ok-Aggregate.ensures stand
+    let stand = read_by_so old c.args.session c.args.command.now (aggregate x) asks (reply_told c.aggregate.result) c.aggregate.new.self.marks (read_told old (aggregate x) c.aggregate.result c.aggregate.new.self.marks c.aggregate.ensures.marks) (λ is. is) in
+    cursors_given old c.args.session c.args.command.now (aggregate x) asks c.aggregate.new.self (reply_to_aggregate c.args.session x old.catalog old.cursors) (reply_told c.aggregate.result) (outcome_told c.batch_or_refusal-in-Ok-Aggregate.result) refl
+    c.aggregate.ensures.catalog c.aggregate.ensures.reply c.batch_or_refusal-in-Ok-Aggregate.ensures.reply stand
 
 pub returns-in-Ok-GetMore-clause-step : goal.returns-in-Ok-GetMore-clause-step
 returns-in-Ok-GetMore-clause-step c =
     let asks = rw c.in-Ok-GetMore.field-0-is at c.in-Ok-GetMore.ensures in
     let x = get_more_seen c.in-Ok-GetMore.asked in
     let old = c.args.self.now in
-    let stand = same_by old c.args.session c.args.command.now (get_more x) asks c.get_more.result c.get_more.new.self.marks c.get_more.ensures.marks (λ is. is) in
-    cursors_given old c.args.session c.args.command.now (get_more x) asks c.get_more.new.self (next_batch c.args.session x old.cursors) c.get_more.result c.outcome_of-in-Ok-GetMore.result refl c.get_more.ensures.catalog
-    c.get_more.ensures.reply c.outcome_of-in-Ok-GetMore.ensures stand
+    let stand = same_by old c.args.session c.args.command.now (get_more x) asks (reply_told c.get_more.result) c.get_more.new.self.marks c.get_more.ensures.marks (λ is. is) in
+    cursors_given old c.args.session c.args.command.now (get_more x) asks c.get_more.new.self (next_batch c.args.session x old.cursors) (reply_told c.get_more.result) (outcome_told c.batch_or_refusal-in-Ok-GetMore.result) refl
+    c.get_more.ensures.catalog c.get_more.ensures.reply c.batch_or_refusal-in-Ok-GetMore.ensures.reply stand
 
 pub returns-in-Ok-KillCursors-clause-step : goal.returns-in-Ok-KillCursors-clause-step
 returns-in-Ok-KillCursors-clause-step c =
