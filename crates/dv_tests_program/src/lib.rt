@@ -2,6 +2,8 @@
 #![tactic(auto)]
 
 #[cfg(test)]
+mod hosting;
+#[cfg(test)]
 mod scripts;
 #[cfg(test)]
 mod serving;
