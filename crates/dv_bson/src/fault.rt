@@ -9,7 +9,7 @@ use std::alloc::{AllocError, AllocFailed};
 /// Why reading stopped.
 #[derive(Debug, Drop)]
 pub enum ReadError {
-    /// Memory is wanting.
+    /// Memory ran out.
     Memory,
     /// The bytes have a fault.
     Fault(BsonFault),

@@ -10,17 +10,17 @@ pub use dv_value::laws::{
     where_a_field_stands_is_no_matter,
 };
 
-/// No spelling begins another one, and a spelling has one document: so what was written is read again, whatever follows it.
+/// No encoding begins another one, and an encoding has one document: so what was written is read again, whatever follows it.
 pub fn no_spelling_begins_another()
     ensures { (d e : List Field) (a b x y : List ℕ) → Spells d a → Spells e b → a ++ x ≡ b ++ y → (a ≡ b) × (d ≡ e) }
 {}
 
-/// What reading gives at the front of bytes is spelled there, and fits.
+/// If reading returns a document, the bytes begin with its encoding, and it fits.
 pub fn what_is_read_is_spelled()
     ensures { (bytes : List ℕ) (d : List Field) (n : ℕ) → IsBytes bytes → document_at bytes ≡ Ok (d, n) → (n ≤ length bytes) × Spells d (take n bytes) × Fits d }
 {}
 
-/// There is a first fault exactly where the front of the bytes spells no document that fits.
+/// There is a first fault exactly if the bytes begin with the encoding of no document that fits.
 pub fn a_fault_where_nothing_is_spelled()
     ensures { (bytes : List ℕ) → IsBytes bytes → (first_fault bytes ≡ None) ↔ ((d : List Field) × (n : ℕ) × (n ≤ length bytes) × Spells d (take n bytes) × Fits d) }
 {}

@@ -236,24 +236,24 @@ fn outermost_of(
     Ok((document, len))
 }
 
-/// Reads the document that the bytes begin with, in the spelling of BSON 1.1 ("Specification Version 1.1",
-/// bsonspec.org), and answers it with its length in bytes. What follows is unread.
+/// Reads the document that the bytes begin with, in the encoding of BSON 1.1 ("Specification Version 1.1", bsonspec.org), and
+/// returns it with its length in bytes. What follows is unread.
 ///
-/// A document of at most 16,777,216 bytes and 100 levels is read, a document or an array being one level more
-/// than what it holds. What is read holds the standard's types string, document, array, binary, ObjectId,
-/// boolean, UTC datetime, null, int32, timestamp, int64, min key and max key; names are distinct, and texts and names
-/// are UTF-8. Else the first fault from the left is returned:
+/// A document of at most 16,777,216 bytes and 100 levels is read, a document or an array being one level more than what it holds.
+/// What is read holds the standard's types string, document, array, binary, ObjectId, boolean, UTC datetime, null, int32,
+/// timestamp, int64, min key and max key; names are distinct, and texts and names are UTF-8. Otherwise the first fault from the
+/// left is returned:
 ///
 /// - `Truncated`: there are fewer than four bytes, or fewer than the document's length says;
 /// - `TooLarge`: the document's length is over 16,777,216;
 /// - `TooDeep`: a document or an array is at level 101;
-/// - `BadLength`: a length or a count is too small or leads out of the document around it, a name or a value
-///   doesn't end in its document, or a closing zero is missing or out of place;
+/// - `BadLength`: a length or a count is too small or leads out of the document around it, a name or a value doesn't end in its
+///   document, or a closing zero is missing or out of place;
 /// - `RefusedType`: a type byte is of another type, with its place in `bytes`;
 /// - `BadUtf8`, `BadBool`: a name or a text isn't UTF-8, a boolean is neither 0 nor 1;
-/// - `RepeatedName`, `BadArrayName`: an earlier field of the document has the name, an element of an array isn't
-///   named by its index;
-/// - `NoMemory`: memory is wanting, at any time.
+/// - `RepeatedName`, `BadArrayName`: an earlier field of the document has the name, an element of an array isn't named by its
+///   index;
+/// - `NoMemory`: memory ran out, at any time.
 pub fn read_document(alloc: Global, bytes: &[u8]) -> Result<(Document, usize), BsonFault>
     // What is read is spelled so, and fits.
     ensures found { IfOk result (λ read. (read.1 ≤ length bytes.now) × Spells read.0 (take read.1 bytes.now) × Fits read.0) }
@@ -267,9 +267,9 @@ pub fn read_document(alloc: Global, bytes: &[u8]) -> Result<(Document, usize), B
     Ok(outermost_of(alloc, None, bytes)?)
 }
 
-/// Reads as `read_document` does, with the same limits and the same faults. Fields that have the names of `like`, in its
-/// order, share its names, and so do documents inside it: that saves time and memory where many documents of one shape are
-/// read. What is read is the same whatever `like` is.
+/// Reads as `read_document` does, with the same limits and the same faults. Fields that have the names of `like`, in its order,
+/// share its names, and so do documents inside it. That saves time and memory if many documents of one shape are read. What is read
+/// is the same whatever `like` is.
 pub fn read_document_like(
     alloc: Global,
     bytes: &[u8],

@@ -169,8 +169,8 @@ fn outermost_len(alloc: Global, bytes: &[u8]) -> Result<usize, ReadError>
     Ok(len)
 }
 
-/// Checks the document that the bytes begin with, and answers its length in bytes: as `read_document`, with the same
-/// limits and the same faults, but nothing is made of it. Memory is taken for the names of the fields alone.
+/// Checks the document that the bytes begin with, and returns its length in bytes: as `read_document`, with the same limits and the
+/// same faults, but no document is made. Memory is taken only for the names of the fields.
 pub fn check_document(alloc: Global, bytes: &[u8]) -> Result<usize, BsonFault>
     // What passes is the spelling of a document, which fits.
     ensures found { IfOk result (λ len. (d : Entries Field) × (len ≤ length bytes.now) × Spells d (take len bytes.now) × Fits d) }

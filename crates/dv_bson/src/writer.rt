@@ -10,8 +10,8 @@ ghost use Rattle.dv_bson.specs.Writing.{IsPut};
 use dv_value::{BsonFault, Document, List, Value, document_size};
 use itoa::Buffer;
 
-/// Appends the spelling of the document (BSON 1.1, "document"). Refused with `TooLarge` where that is
-/// longer than 2,147,483,647 bytes, and with `NoMemory`; then nothing is appended.
+/// Appends the encoding of the document (BSON 1.1, "document"). Refused with `TooLarge` if that is longer than 2,147,483,647 bytes,
+/// and with `NoMemory`; then nothing is appended.
 pub fn write_document(document: &Document, out: &mut Vec<u8>) -> Result<(), BsonFault>
     ensures ok { OnOk result (out.new.items ≡ out.old.items ++ spelling document.now) }
     ensures spelled { OnOk result (Spells document.now (spelling document.now)) }

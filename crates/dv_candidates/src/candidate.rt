@@ -7,6 +7,6 @@ use dv_value::Value;
 pub enum Candidate<'a> {
     /// To a value.
     Found(&'a Value),
-    /// To a place where nothing is.
+    /// To nothing.
     Missing,
 }

@@ -7,7 +7,7 @@ use std::alloc::{AllocError, AllocFailed};
 use std::error::Error;
 use std::fmt;
 
-/// Why a text is no path, or a value can't be put where a path leads. Its text is its name.
+/// Why a text is no path, or why a value can't be put at a path. Its text is its name.
 #[derive(Clone, Copy, Debug, PartialEq, Eq)]
 pub enum PathFault {
     /// A component that is empty or holds a zero byte.
@@ -17,7 +17,7 @@ pub enum PathFault {
     NotViable,
     /// The path leads beyond the end of an array, past index 100,000.
     IndexTooLarge,
-    /// Memory is wanting.
+    /// Memory ran out.
     NoMemory,
 }
 

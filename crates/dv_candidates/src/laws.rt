@@ -6,7 +6,7 @@ ghost use Rattle.dv_value.specs.Short.{int, one, doc, list};
 ghost use Rattle.dv_candidates.specs.Candidates.{whole, leaves};
 ghost use Rattle.dv_candidates.specs.Path.{path_of, index_of};
 
-/// What is a path, and what is a place in an array: at most ten digits, without a 0 in front.
+/// What is a path, and what is a place in an array: at most ten digits, without a leading 0.
 #[tactic(auto, unfolding(crate::specs::Path::path_of, crate::specs::Path::index_of))]
 pub fn examples_of_paths()
     ensures two_components { path_of (codes "a.b") ≡ Some (codes "a" ∷ codes "b" ∷ []) }

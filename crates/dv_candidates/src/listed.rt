@@ -16,12 +16,12 @@ use crate::walk::behind;
 use dv_value::{Document, List, NoMemory, Value};
 use std::alloc::Global;
 
-/// The candidates of the path, in order: where it leads in the document.
+/// The candidates of the path, in order: the places to which it leads in the document.
 ///
-/// A document is entered by a component, and gives Missing where no field has that name. In an array a whole number
-/// picks an element, and each element that is a document is entered, the one that is picked first; an array that gives
-/// nothing adds no candidate. Any other value on the way gives Missing. There can be as many candidates as 2 to the
-/// power of half the path's length; `fold_whole` and `any_whole` look at each value once. Fails where memory is wanting.
+/// In a document, a component leads to the field of that name, and to Missing if there is none. In an array a whole number picks an
+/// element, and each element that is a document is entered, the one that is picked first; an array in which nothing is found adds
+/// no candidate. In any other value a component leads to Missing. There can be as many candidates as 2 to the power of half the
+/// path's length; `fold_whole` and `any_whole` look at each value once. Fails with `NoMemory` when memory runs out.
 pub fn whole<'a>(
     alloc: Global,
     document: &'a Document,
@@ -38,7 +38,7 @@ pub fn whole<'a>(
     Ok(found)
 }
 
-/// As `whole`, each array followed by its elements. Fails where memory is wanting.
+/// As `whole`, each array followed by its elements. Fails with `NoMemory` when memory runs out.
 pub fn leaves<'a>(
     alloc: Global,
     document: &'a Document,

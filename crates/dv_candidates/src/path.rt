@@ -27,8 +27,8 @@ impl Model for Path {
 }
 
 impl Path {
-    /// The path that the text is, cut at its dots. Refused with `EmptyComponent` where a component is empty or holds a
-    /// zero byte, and with `NoMemory`.
+    /// The path that the text is, cut at its dots. Refused with `EmptyComponent` if a component is empty or holds a zero byte, and
+    /// with `NoMemory`.
     pub fn parse(alloc: Global, text: &str) -> Result<Path, PathFault>
         ensures { MatchResult result (λ path. path_of text.now ≡ Some path) (λ e. (e ≡ PathFault.NoMemory) ⊎ ((e ≡ PathFault.EmptyComponent) × (path_of text.now ≡ None))) }
     {
@@ -50,7 +50,7 @@ impl Path {
         self.components.as_slice()
     }
 
-    /// A copy of its own. Fails where memory is wanting.
+    /// A copy of its own. Fails with `NoMemory` when memory runs out.
     pub fn try_clone(&self) -> Result<Self, NoMemory>
         ensures { IfOk result (λ copy. copy ≡ self.now) }
     {

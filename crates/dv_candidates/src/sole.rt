@@ -13,8 +13,8 @@ use crate::path::Path;
 use crate::walk::behind;
 use dv_value::{Document, Value};
 
-/// The one candidate of the path in the document, where no array stands on the way, at its end at most; `None` where one
-/// does. Takes no memory.
+/// The one candidate of the path in the document, if there is no array on the way, except at its end; `None` if there is one. Takes
+/// no memory.
 pub fn sole_candidate<'a>(document: &'a Document, path: &Path) -> Option<Candidate<'a>>
     ensures sole { IfSome result (λ candidate. whole document.now path.now ≡ seen candidate ∷ []) }
     ensures some { HasNoArray path.now (Some (tree_of (fields_of document.now))) → IsSome result }

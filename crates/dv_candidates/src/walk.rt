@@ -177,7 +177,7 @@ where
     fold_value(behind(components), picking, element, so_far, f)
 }
 
-/// The components behind the first one; none where there is none.
+/// The components after the first one; none if there is none.
 pub fn behind(components: &[Component]) -> &[Component]
     ensures { result.now ≡ drop 1 components.now }
 {

@@ -24,8 +24,8 @@ use std::collections::btree_map::{Entry, Values};
 use std::marker::Model;
 use std::ops::Bound;
 
-/// Documents in the order of their `_id`s, no two of which are equal but for the width of integers. `_id` is the first
-/// field of each, and its value no array.
+/// Documents in the order of their `_id`s. No two `_id`s are equal, whatever the width of their integers. `_id` is the first field
+/// of each, and its value no array.
 ///
 /// A document is found in time logarithmic in their number.
 #[derive(Debug, Drop)]
@@ -76,7 +76,7 @@ impl Collection {
         self.documents.is_empty()
     }
 
-    /// The document under the key of its `_id`, where there is one. Takes no memory.
+    /// The document under the key of its `_id`, if there is one. Takes no memory.
     #[tactic(auto, using(crate::proofs::Places::places))]
     pub fn get(&self, key: &Key) -> Option<&Document>
         ensures { option_map (λ document. document.now) result ≡ found key.now self.now }
@@ -95,7 +95,7 @@ impl Collection {
         }
     }
 
-    /// The documents whose `_id`s' keys stand between two ends, in the order of their `_id`s. Takes no memory.
+    /// The documents whose `_id`s' keys are between two ends, in the order of their `_id`s. Takes no memory.
     pub fn between(&self, low: Bound<Key>, high: Bound<Key>) -> Walk<'_>
         requires { IsForward (IsLeBy key_order) (IsLtBy key_order) low high }
         ensures { result ≡ filter (λ d. range_contains key_order low high (id_key d)) self.now }
@@ -111,9 +111,8 @@ impl Collection {
         Walk::of(self.documents.range((low, high)), true)
     }
 
-    /// Puts the document in its place. Refused with `Duplicate` where a document has an equal `_id`, and with
-    /// `NoMemory` where memory is wanting, be it to look the `_id` up; then nothing is changed, and the document is
-    /// dropped.
+    /// Puts the document in its place. Refused with `Duplicate` if a document has an equal `_id`, and with `NoMemory` when memory
+    /// runs out, also for looking the `_id` up; then nothing is changed, and the document is dropped.
     #[tactic(auto, using(crate::proofs::Places::places))]
     pub fn insert(&mut self, mut document: Document) -> Result<(), InsertFault>
         requires { HasId document }
@@ -133,8 +132,8 @@ impl Collection {
         self.insert_under(key, document)
     }
 
-    /// Puts the document in place of the one with an equal `_id`, and answers whether there is one. Where there is none,
-    /// nothing is changed, and the document is dropped. Takes no memory.
+    /// Puts the document in place of the one with an equal `_id`, and returns whether there is one. If there is none, nothing is
+    /// changed, and the document is dropped. Takes no memory.
     #[tactic(auto, using(crate::proofs::Replaced::replacements))]
     pub fn replace(&mut self, mut document: Document) -> bool
         requires { HasId document }
@@ -146,10 +145,10 @@ impl Collection {
         replace_under_first(&mut self.documents, document)
     }
 
-    /// Makes the change of the field under the name, in the document under the key of its `_id`, and answers whether there is
-    /// such a document. Where there is none, nothing is changed, and the value is dropped. The document is changed in place,
-    /// unless a copy shares its fields: then these are copied first. Fails where memory is wanting for that, or for a field or
-    /// an element that comes; then nothing is changed. The name is not `_id`, and holds no zero byte.
+    /// Makes the change of the field under the name, in the document under the key of its `_id`, and returns whether there is such
+    /// a document. If there is none, nothing is changed, and the value is dropped. The document is changed in place, unless a copy
+    /// shares its fields: then these are copied first. Fails with `NoMemory` when memory runs out for that, or for a new field or
+    /// element; then nothing is changed. The name is not `_id`, and holds no zero byte.
     #[tactic(auto, using(crate::proofs::Changed::changed))]
     pub fn change_field(
         &mut self,
@@ -167,7 +166,7 @@ impl Collection {
         change_in_document(&mut self.documents, key, name, change)
     }
 
-    /// Takes out the document under the key of its `_id`, where there is one, and answers it. Takes no memory.
+    /// Takes out the document under the key of its `_id`, if there is one, and returns it. Takes no memory.
     #[tactic(auto, using(crate::proofs::Places::places, crate::proofs::Removed::removals))]
     pub fn remove(&mut self, key: &Key) -> Option<Document>
         ensures document { result ≡ found key.now self.old }

@@ -12,7 +12,7 @@ use std::fmt;
 pub enum InsertFault {
     /// A document of the collection has an equal `_id`.
     Duplicate,
-    /// Memory is wanting.
+    /// Memory ran out.
     NoMemory,
 }
 

@@ -61,8 +61,8 @@ pub fn replaced_documents_begin_with_ids()
     ensures { (d : List Field) (ds : List (List Field)) → HasId d → AllByRecursion HasId ds → AllByRecursion HasId (replaced d ds) }
 {}
 
-/// A document is found under its `_id` after it is put in place of one with an equal `_id`, and under each other key
-/// what was found before. Where there is no such document, nothing changes.
+/// A document is found under its `_id` after it is put in place of one with an equal `_id`, and under each other key what was found
+/// before. If there is no such document, nothing changes.
 #[tactic(auto, using(crate::proofs::Replaced::found_replaced))]
 pub fn replaced_document_is_found()
     ensures { (k : KeyTree) (d : List Field) (ds : List (List Field)) → found k (replaced d ds) ≡ (if has_key k d then option_map (λ e. d) (found k ds) else found k ds) }
@@ -75,15 +75,15 @@ pub fn a_change_of_another_field_leaves_the_id()
     ensures key { (name : List ℕ) (c : FieldChange) (d : List Field) → bytes_eq name (codes "_id") ≡ false → HasId d → id_key (with_field_changed name c d) ≡ id_key d }
 {}
 
-/// A document that is found under a key has it, and begins with an `_id` where all documents do.
+/// A document that is found under a key has it, and begins with an `_id` if all documents do.
 #[tactic(auto, using(crate::proofs::Changed::found_with_key))]
 pub fn what_is_found_has_the_key()
     ensures key { (k : KeyTree) (d : List Field) (ds : List (List Field)) → found k ds ≡ Some d → has_key k d ≡ true }
     ensures begins { (k : KeyTree) (d : List Field) (ds : List (List Field)) → AllByRecursion HasId ds → found k ds ≡ Some d → HasId d }
 {}
 
-/// Documents that ascend stand where they are found; so do those of them that pass a test, and the first; and so do the others
-/// after one comes in place of the first.
+/// Documents that ascend are at the places where they are found; so are those of them that pass a test, and the first; and so are
+/// the others after one comes in place of the first.
 #[tactic(auto, using(crate::proofs::Standing::standing))]
 pub fn documents_stand_where_they_are_found()
     ensures all { (ds : List (List Field)) → IsAscending ds → AreStanding ds ds }

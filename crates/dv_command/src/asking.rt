@@ -55,7 +55,7 @@ pub struct Find {
     pub namespace: String,
     pub filter: Filter,
     pub sort: Option<SortSpec>,
-    /// How many documents are left out in front.
+    /// How many of the first documents are left out.
     pub skip: u64,
     /// How many documents there are at most; 0 is no limit.
     pub limit: u64,
@@ -77,7 +77,7 @@ pub struct Aggregate {
 /// The next rows of a cursor over a namespace.
 #[derive(Drop)]
 pub struct GetMore {
-    /// The cursor's, where there is such a cursor.
+    /// The cursor's, if there is such a cursor.
     pub id: i64,
     pub namespace: String,
     /// How many rows come at most; 0 is as many as a reply may hold.
@@ -88,7 +88,7 @@ pub struct GetMore {
 #[derive(Drop)]
 pub struct KillCursors {
     pub namespace: String,
-    /// Those of the cursors, where there are such cursors.
+    /// Those of the cursors, if there are such cursors.
     pub ids: Vec<i64>,
 }
 
@@ -107,7 +107,7 @@ pub struct ViewOn {
     pub pipeline: Pipeline,
 }
 
-/// What stands under a namespace goes.
+/// A drop: what is under the namespace is removed.
 #[derive(Drop)]
 pub struct DropNamespace {
     pub namespace: String,
@@ -125,7 +125,7 @@ pub struct CreateIndexes {
 pub struct IndexAsked {
     pub name: Str,
     pub path: Path,
-    /// Whether no key of it may stand in two documents.
+    /// Whether no key of it may be in two documents.
     pub unique: bool,
 }
 
@@ -143,7 +143,7 @@ pub struct Explain {
     pub find: Find,
 }
 
-/// How the view of this namespace stands.
+/// The state of the view of this namespace is asked for.
 #[derive(Drop)]
 pub struct ViewStats {
     pub namespace: String,

@@ -23,7 +23,7 @@ pub enum Command {
     Invalid(BsonFault),
 }
 
-/// Documents that stand beside a body, under a name of their own.
+/// Documents beside a body, under a name of their own.
 #[derive(Debug, Drop)]
 pub struct DocumentList {
     pub name: Str,
@@ -71,7 +71,7 @@ impl DocumentLists {
         DocumentLists { lists }
     }
 
-    /// The documents of the first list of a name; `None` where there is no such list.
+    /// The documents of the first list of a name; `None` if there is no such list.
     pub fn under(&self, name: &str) -> Option<&[Document]>
         ensures { option_map (λ documents. documents.now) result ≡ defined.list_under name.now self.now }
     {

@@ -31,9 +31,8 @@ pub struct Deletion {
     pub only_first: bool,
 }
 
-/// What an entry of a delete asks, or the first refusal: for its fields in the order in which they stand, for those
-/// that are missing (`FailedToParse`), and for its filter (`BadValue`). It may be refused with `WantOfMemory` in place
-/// of any of these.
+/// What an entry of a delete asks, or the first refusal: for its fields in written order, for those that are missing
+/// (`FailedToParse`), and for its filter (`BadValue`). It may be refused with `WantOfMemory` in place of any of these.
 pub fn deletion_of(alloc: Global, entry: &Document) -> Result<Deletion, Refusal>
     ensures { UnlessWanting deletion_seen (entries.deletion_of entry.now) result }
 {
@@ -53,9 +52,9 @@ pub struct Updating {
     pub multi: bool,
 }
 
-/// What an entry of an update asks, or the first refusal: for its fields in the order in which they stand, for those
-/// that are missing (`FailedToParse`), for a replacement of many (`FailedToParse`), for its filter (`BadValue`), and for
-/// its update. It may be refused with `WantOfMemory` in place of any of these.
+/// What an entry of an update asks, or the first refusal: for its fields in written order, for those that are missing
+/// (`FailedToParse`), for a replacement of many (`FailedToParse`), for its filter (`BadValue`), and for its update. It may be
+/// refused with `WantOfMemory` in place of any of these.
 pub fn updating_of(alloc: Global, entry: &Document) -> Result<Updating, Refusal>
     ensures { UnlessWanting updating_seen (entries.updating_of entry.now) result }
 {

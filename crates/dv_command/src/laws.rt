@@ -11,21 +11,21 @@ ghost use Rattle.dv_command.specs.Entries.{Updating, updating_of};
 ghost use Rattle.dv_command.specs.Needed.{needed};
 ghost use Rattle.dv_command.specs.Sound.{AreValidLists, IsSoundRequest, IsSoundUpdate};
 
-/// What a command asks is sound where the fields of its body and the lists beside it are: the documents in its list, how
-/// many they are, the names of its collections and of its indexes, its pipeline, and the ids of its cursors, of which there
-/// are no more than the body has bytes.
+/// What a command asks is sound if the fields of its body and the lists beside it are: the documents in its list, how many they
+/// are, the names of its collections and of its indexes, its pipeline, and the ids of its cursors, of which there are no more than
+/// the body has bytes.
 pub fn what_is_asked_is_sound()
     ensures { (body : List Field) (lists : CommandLists) (asked : Asked) → AreFields (fields_of body) → AreValidLists lists → asked_under (command_name body) body lists ≡ Ok asked → IsSoundRequest (length (spelling body)) asked }
 {
     dv_value::laws::what_a_field_adds();
 }
 
-/// The update that an entry asks is that of a document with valid fields, where the entry's fields are.
+/// The update that an entry asks is that of a document with valid fields, if the entry's fields are valid.
 pub fn the_update_of_an_entry_is_sound()
     ensures { (entry : List Field) (asked : Updating) → AreFields (fields_of entry) → updating_of entry ≡ Ok asked → IsSoundUpdate asked.update }
 {}
 
-/// Every number that a reply counts has a spelling.
+/// Every number that a reply counts has an encoding.
 pub fn a_count_has_a_spelling()
     ensures { (n : ℕ) → IsValue (count n) }
 {}

@@ -16,13 +16,12 @@ use dv_fields::namespaces::database;
 use dv_value::Document;
 use std::alloc::Global;
 
-/// What a command asks, or the first refusal: of a document that can't be read (`InvalidBson`), of a command that
-/// there isn't (`CommandNotFound`), for its database, for its other fields in the order in which they stand, for those
-/// that are missing, for its collection's name, with `LimitReached` for over 100,000 statements, and for its filter and
-/// its sort (`BadValue`), the name that its view reads (`BadValue`), its pipeline (`FailedToParse`, `BadValue` for a
-/// filter in it, `ConflictingUpdateOperators`, `LimitReached` for over 16 stages), and its indexes. A list of statements
-/// may stand in the body or beside it; one in both, or beside a body whose command has no such list, is refused with
-/// `FailedToParse`. It may be refused with `WantOfMemory` in place of any of these.
+/// What a command asks, or the first refusal: of a document that can't be read (`InvalidBson`), of a command that doesn't exist
+/// (`CommandNotFound`), for its database, for its other fields in written order, for those that are missing, for its collection's
+/// name, with `LimitReached` for over 100,000 statements, and for its filter and its sort (`BadValue`), the name that its view
+/// reads (`BadValue`), its pipeline (`FailedToParse`, `BadValue` for a filter in it, `ConflictingUpdateOperators`, `LimitReached`
+/// for over 16 stages), and its indexes. A list of statements may be in the body or beside it; one in both, or beside a body whose
+/// command has no such list, is refused with `FailedToParse`. It may be refused with `WantOfMemory` in place of any of these.
 pub fn parse(alloc: Global, command: &Command) -> Result<Asked<'_>, Refusal>
     ensures { UnlessWanting asked_seen (asking.asked_by command.now) result }
 {

@@ -14,7 +14,7 @@ use dv_fields::Refusal;
 use dv_value::{Document, List, NoMemory, Str, Value};
 use std::alloc::{AllocError, Global};
 
-/// The reply to a command that was carried out: these fields, and `ok: 1`. Fails where memory is wanting.
+/// The reply to a command that was carried out: these fields, and `ok: 1`. Fails with `NoMemory` when memory runs out.
 pub fn reply_of(mut fields: Document) -> Result<Document, NoMemory>
     requires { has_name (codes "ok") fields ≡ false }
     ensures { IfOk result (λ reply. reply ≡ replies.reply_of fields) }
@@ -23,8 +23,8 @@ pub fn reply_of(mut fields: Document) -> Result<Document, NoMemory>
     Ok(fields)
 }
 
-/// The reply to a greeting: what this server takes at most, and the versions of the wire that it speaks. Fails where
-/// memory is wanting.
+/// The reply to a greeting: what this server takes at most, and the versions of the wire that it speaks. Fails with `NoMemory` when
+/// memory runs out.
 pub fn hello_reply(alloc: Global) -> Result<Document, NoMemory>
     ensures { IfOk result (λ reply. reply ≡ replies.hello_reply) }
 {
@@ -39,7 +39,7 @@ pub fn hello_reply(alloc: Global) -> Result<Document, NoMemory>
     reply_of(fields)
 }
 
-/// The reply to a command that is refused. Fails where memory is wanting.
+/// The reply to a command that is refused. Fails with `NoMemory` when memory runs out.
 pub fn refusal_reply(alloc: Global, refusal: &Refusal) -> Result<Document, NoMemory>
     ensures { IfOk result (λ reply. reply ≡ replies.refusal_reply refusal.now) }
 {
@@ -53,7 +53,7 @@ pub fn refusal_reply(alloc: Global, refusal: &Refusal) -> Result<Document, NoMem
     Ok(reply)
 }
 
-/// The error of the statement at a place, counted from 0 and below 2^31. Fails where memory is wanting.
+/// The error of the statement at a place, counted from 0 and below 2^31. Fails with `NoMemory` when memory runs out.
 pub fn write_error(alloc: Global, place: usize, refusal: &Refusal) -> Result<Document, NoMemory>
     requires { place < 2 ^ 31 }
     ensures { IfOk result (λ error. error ≡ replies.write_error place refusal.now) }
@@ -66,8 +66,8 @@ pub fn write_error(alloc: Global, place: usize, refusal: &Refusal) -> Result<Doc
     Ok(error)
 }
 
-/// The error of the statement at a place, counted from 0 and below 2^31, that found no memory behind so many of its
-/// changes. Fails where memory is wanting.
+/// The error of the statement at a place, counted from 0 and below 2^31, that ran out of memory after so many of its changes. Fails
+/// with `NoMemory` when memory runs out.
 pub fn cut_error(alloc: Global, place: usize, changes: usize) -> Result<Document, NoMemory>
     requires { place < 2 ^ 31 }
     ensures { IfOk result (λ error. error ≡ replies.cut_error place changes) }
@@ -77,8 +77,8 @@ pub fn cut_error(alloc: Global, place: usize, changes: usize) -> Result<Document
     Ok(error)
 }
 
-/// The reply to a write: the number that it counts, and the errors of its statements where there are any. Fails where
-/// memory is wanting.
+/// The reply to a write: the number that it counts, and the errors of its statements if there are any. Fails with `NoMemory` when
+/// memory runs out.
 #[tactic(auto, using(crate::proofs::Errors::none_is_ok))]
 pub fn write_reply(
     alloc: Global,
@@ -94,8 +94,8 @@ pub fn write_reply(
     reply_of(fields)
 }
 
-/// The reply to an update: how many documents matched, how many of them changed, and the errors of its statements where
-/// there are any. Fails where memory is wanting.
+/// The reply to an update: how many documents matched, how many of them changed, and the errors of its statements if there are any.
+/// Fails with `NoMemory` when memory runs out.
 #[tactic(auto, using(crate::proofs::Errors::none_is_ok))]
 pub fn update_reply(
     alloc: Global,
@@ -125,7 +125,7 @@ fn add_errors(fields: &mut Document, errors: Vec<Value>) -> Result<(), NoMemory>
     Ok(())
 }
 
-/// The reply to a drop: the namespace of what went. Fails where memory is wanting.
+/// The reply to a drop: the namespace of what went. Fails with `NoMemory` when memory runs out.
 pub fn drop_reply(alloc: Global, namespace: String) -> Result<Document, NoMemory>
     ensures { IfOk result (λ reply. reply ≡ replies.drop_reply (string_bytes namespace)) }
 {
@@ -134,8 +134,8 @@ pub fn drop_reply(alloc: Global, namespace: String) -> Result<Document, NoMemory
     reply_of(fields)
 }
 
-/// The reply to a find or an aggregation: the first of its rows, and the cursor that has the others, 0 where there is none.
-/// Fails where memory is wanting.
+/// The reply to a find or an aggregation: the first of its rows, and the cursor that has the others, 0 if there is none. Fails with
+/// `NoMemory` when memory runs out.
 pub fn first_batch_reply(
     alloc: Global,
     names: &ReplyNames,
@@ -150,8 +150,8 @@ pub fn first_batch_reply(
     cursor_reply(alloc, names, cursor)
 }
 
-/// The reply to what asks for the next rows of a cursor: these rows, and the cursor that has the others, 0 where there is
-/// none. Fails where memory is wanting.
+/// The reply to what asks for the next rows of a cursor: these rows, and the cursor that has the others, 0 if there is none. Fails
+/// with `NoMemory` when memory runs out.
 pub fn next_batch_reply(
     alloc: Global,
     names: &ReplyNames,
@@ -198,8 +198,8 @@ fn cursor_reply(alloc: Global, names: &ReplyNames, cursor: Document) -> Result<D
     reply_of(fields)
 }
 
-/// The reply to what ends cursors: the ids of those that went, and those of which there was none. Fails where memory is
-/// wanting.
+/// The reply to what ends cursors: the ids of those that went, and those of which there was none. Fails with `NoMemory` when memory
+/// runs out.
 pub fn kill_cursors_reply(alloc: Global, killed: List, missing: List) -> Result<Document, NoMemory>
     ensures { IfOk result (λ reply. reply ≡ replies.kill_cursors_reply killed missing) }
 {
@@ -209,7 +209,7 @@ pub fn kill_cursors_reply(alloc: Global, killed: List, missing: List) -> Result<
     reply_of(fields)
 }
 
-/// The reply to what makes indexes: how many the collection had, and how many it has. Fails where memory is wanting.
+/// The reply to what makes indexes: how many the collection had, and how many it has. Fails with `NoMemory` when memory runs out.
 pub fn create_indexes_reply(
     alloc: Global,
     before: usize,
@@ -223,7 +223,7 @@ pub fn create_indexes_reply(
     reply_of(fields)
 }
 
-/// The reply to what takes indexes out: how many the collection had. Fails where memory is wanting.
+/// The reply to what takes indexes out: how many the collection had. Fails with `NoMemory` when memory runs out.
 pub fn drop_indexes_reply(alloc: Global, before: usize) -> Result<Document, NoMemory>
     ensures { IfOk result (λ reply. reply ≡ replies.drop_indexes_reply before) }
 {
@@ -232,8 +232,8 @@ pub fn drop_indexes_reply(alloc: Global, before: usize) -> Result<Document, NoMe
     reply_of(fields)
 }
 
-/// The reply to an explain: the stage that finds the documents, the index by which it does where there is one, and how many
-/// documents it covers. Fails where memory is wanting.
+/// The reply to an explain: the stage that finds the documents, the index by which it does if there is one, and how many documents
+/// it covers. Fails with `NoMemory` when memory runs out.
 pub fn explain_reply(
     alloc: Global,
     stage: &str,
@@ -251,11 +251,11 @@ pub fn explain_reply(
     reply_of(fields)
 }
 
-/// The reply to what asks how a view stands. `state` is `live` where it has its rows, and `stale` where it has none and is
-/// made anew when it is read. `rows` is how many rows it has, and `ticks` the count of the work that changes of what it reads
-/// took since it was made: for each stage, 1 for each change that came to it, and 1 for each that it handed on. Of a stale
-/// view both are 0, which the caller sees to. They are told as int64, one beyond the greatest as that. Fails where memory is
-/// wanting.
+/// The reply to what asks for a view's state. `state` is `live` if it has its rows, and `stale` if it has none and is recomputed
+/// when it is read. `rows` is how many rows it has, and `ticks` the count of the work that changes of what it reads took since it
+/// was made: for each stage, 1 for each change that it took in, and 1 for each that it returned. For a stale view the caller gives
+/// 0 for both. They are returned as int64; a number beyond the greatest int64 is returned as that. Fails with `NoMemory` when
+/// memory runs out.
 pub fn view_stats_reply(
     alloc: Global,
     is_live: bool,
@@ -303,8 +303,8 @@ fn long_count(number: u128) -> Value
     Value::Int64(number.min(i64::MAX as u128) as i64)
 }
 
-/// Adds a field whose name is known to be new and without a zero byte. Fails where memory is wanting; then the fields are as
-/// they were.
+/// Adds a field whose name is known to be new and without a zero byte. Fails with `NoMemory` when memory runs out; then the fields
+/// are as they were.
 pub fn add(document: &mut Document, name: &str, value: Value) -> Result<(), NoMemory>
     requires whole { has_zero name.now ≡ false }
     requires fresh { has_name name.now document.old ≡ false }

@@ -31,7 +31,7 @@ impl ReplyNames {
         }
     }
 
-    /// Makes those that aren't there. Where memory is wanting some are left out, and replies take names of their own.
+    /// Makes those that aren't there. If memory runs out some are left out, and replies take names of their own.
     pub fn prepare(&mut self, alloc: Global) {
         if self.update.is_empty() {
             self.first_batch = nulls(alloc, &["firstBatch", "id", "ns"]);

@@ -59,8 +59,7 @@ impl Cursors {
         self.cursors.len()
     }
 
-    /// The id of the next cursor. None where 1,000 are open, or where the ids up to 9,223,372,036,854,775,807 are used
-    /// up.
+    /// The id of the next cursor. None if 1,000 are open, or if the ids up to 9,223,372,036,854,775,807 are used up.
     pub fn free_id(&self) -> Option<u64>
         ensures { result ≡ free_id self.now }
     {
@@ -71,8 +70,8 @@ impl Cursors {
         }
     }
 
-    /// Adds a cursor of a session over these rows of a namespace, under the id that `free_id` answers. Fails where memory
-    /// is wanting; then nothing is changed.
+    /// Adds a cursor of a session over these rows of a namespace, under the id that `free_id` returns. Fails with `NoMemory` when
+    /// memory runs out; then nothing is changed.
     pub fn add(&mut self, session: u32, namespace: String, rows: Rows) -> Result<(), NoMemory>
         requires { IsSome (free_id self.old) }
         ensures ok { OnOk result (self.new ≡ added session (string_bytes namespace) rows self.old) }
@@ -84,7 +83,7 @@ impl Cursors {
         Ok(())
     }
 
-    /// The rows that are still to come of the cursor of a session and a namespace, where there is one. Takes no memory.
+    /// The rows that are still to come of the cursor of a session and a namespace, if there is one. Takes no memory.
     pub fn rows(&self, session: u32, namespace: &str, id: u64) -> Option<&Rows>
         ensures { option_map (λ rows. rows.now) result ≡ rows_to_come session namespace.now id self.now }
     {
@@ -103,7 +102,7 @@ impl Cursors {
         }
     }
 
-    /// Takes out the cursor of a session and a namespace, and answers whether there was one. Takes no memory.
+    /// Takes out the cursor of a session and a namespace, and returns whether there was one. Takes no memory.
     pub fn kill(&mut self, session: u32, namespace: &str, id: u64) -> bool
         ensures found { result ≡ is_some (rows_to_come session namespace.now id self.old) }
         ensures cursors { self.new ≡ (if result then closed session id self.old else self.old) }

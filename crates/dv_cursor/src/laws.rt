@@ -9,25 +9,25 @@ ghost use Rattle.dv_cursor.specs.Batch.{batch, rows_behind, can_hold};
 ghost use Rattle.dv_cursor.specs.Cursors.{Cursors, added, advanced, closed, cursor_behind, free_id, without_session};
 ghost use Rattle.dv_cursor.specs.Runs.{Event, IsWithinBatch, behind_all, ids_given, is_cursor_place, batches_joined};
 
-/// A batch and the rows behind it are the rows.
+/// A batch and the rows after it are the rows.
 pub fn a_batch_is_a_front()
     ensures { (count : ℕ) (rows : List (List Field)) → batch count rows ++ rows_behind count rows ≡ rows }
 {}
 
-/// A batch is within its bounds: no more rows than `count`, and where there is more than one no more bytes than the limit. No
-/// longer front is, and where any row may go into it, one does.
+/// A batch is within its bounds: no more rows than `count`, and if there is more than one no more bytes than the limit. No longer
+/// prefix is, and if any row may go into it, one does.
 pub fn a_batch_is_full()
     ensures within { (count : ℕ) (rows : List (List Field)) → IsWithinBatch count (batch count rows) }
     ensures longest { (count n : ℕ) (rows : List (List Field)) → length (batch count rows) < n → n ≤ length rows → can_hold count (take n rows) ≡ false }
     ensures some { (count : ℕ) (row : List Field) (rows : List (List Field)) → 0 < count → batch count (row ∷ rows) ≢ [] }
 {}
 
-/// A batch of at most so many rows needs no row behind these.
+/// A batch of at most so many rows needs no row after these.
 pub fn a_batch_needs_no_later_row()
     ensures { (count : ℕ) (rows : List (List Field)) → batch count (take count rows) ≡ batch count rows }
 {}
 
-/// Batches that are had one after the other, joined, are a front of the rows.
+/// Batches that are returned one after the other, joined, are a prefix of the rows.
 pub fn batches_are_a_front()
     ensures { (counts : List ℕ) (rows : List (List Field)) → batches_joined counts rows ++ behind_all counts rows ≡ rows }
 {}
@@ -37,8 +37,8 @@ pub fn ids_are_given_once()
     ensures { (events : List Event) (cursors : Cursors) → IsStrictlySortedBy nat_cmp (ids_given events cursors) }
 {}
 
-/// What stands under a session and an id after cursors are changed: each change is of one cursor, or of a session's, and
-/// leaves the others.
+/// What is under a session and an id after cursors are changed: each change is of one cursor, or of a session's, and leaves the
+/// others.
 pub fn a_change_leaves_other_cursors()
     ensures added { (session id other : ℕ) (namespace : List ℕ) (rows : List (List Field)) (cursors : Cursors)
         → finite.get (added other namespace rows cursors).kept (session, id) ≡ (if is_cursor_place other cursors.next session id then Some (record { namespace = namespace; rows = rows }) else finite.get cursors.kept (session, id)) }

@@ -53,8 +53,8 @@ impl Rows {
         self.rows.is_empty()
     }
 
-    /// The batch of the first rows: of at most `count`, and of at most 16,777,216 bytes where there is more than one. The
-    /// rows stay. Fails where memory is wanting.
+    /// The batch of the first rows: at most `count`, and at most 16,777,216 bytes if there is more than one. The rows stay. Fails
+    /// with `NoMemory` when memory runs out.
     pub fn batch(&self, count: u64) -> Result<Vec<Document>, NoMemory>
         ensures { IfOk result (λ rows. rows.items ≡ batch count self.now) }
     {

@@ -41,7 +41,7 @@ impl<'a> Model for Documents<'a> {
 }
 
 impl<'a> Documents<'a> {
-    /// The documents of an array. Refused with `TypeMismatch` where another value stands among them.
+    /// The documents of an array. Refused with `TypeMismatch` if another value is among them.
     pub fn of(list: &'a List) -> Result<Self, Refusal>
         ensures { MatchResult result (λ documents. fields.each_document (elements_of list.now) ≡ Ok documents) (λ refusal. fields.each_document (elements_of list.now) ≡ Err refusal) }
     {

@@ -37,9 +37,8 @@ fn is_database_name(name: &str) -> bool
     !name.is_empty() && !has_dot(name) && !name.as_bytes().contains(&0)
 }
 
-/// The namespace of a database's collection: the two names joined by a dot. Refused with `BadValue` where the
-/// collection's name is empty, holds a zero byte or begins with a dollar sign, or the namespace is over 120 bytes;
-/// and with `WantOfMemory`.
+/// The namespace of a database's collection: the two names joined by a dot. Refused with `BadValue` if the collection's name is
+/// empty, holds a zero byte or begins with a dollar sign, or the namespace is over 120 bytes; and with `WantOfMemory`.
 pub fn namespace(alloc: Global, database: &str, collection: &str) -> Result<String, Refusal>
     ensures { UnlessWanting string_bytes (names.namespace database.now collection.now) result }
 {

@@ -23,7 +23,7 @@ pub enum Refusal {
     TypeMismatch,
     /// A document of the message can't be read (22).
     InvalidBson(BsonFault),
-    /// Nothing stands under a namespace, or no view where one is asked for (26).
+    /// There is nothing under a namespace, or no view where one is asked for (26).
     NamespaceNotFound,
     /// A collection has no index of a name (27).
     IndexNotFound,
@@ -34,21 +34,21 @@ pub enum Refusal {
     ConflictingUpdateOperators,
     /// A session has no cursor of an id over a namespace (43).
     CursorNotFound,
-    /// Something stands under a namespace (48).
+    /// There is something under a namespace (48).
     NamespaceExists,
     /// There is no such command, or it is an explain of anything but a find (59).
     CommandNotFound,
-    /// An update changes a document's `_id`, or its spelling (66).
+    /// An update changes a document's `_id`, or its encoding (66).
     ImmutableField,
     /// A document has an equal `_id`, or a key of a unique index would come under two (11000).
     DuplicateKey,
-    /// Memory is wanting (900).
+    /// Memory ran out (900).
     WantOfMemory,
     /// A document, or what a reply would hold, is over a limit (901).
     TooLarge,
-    /// A view stands where only a collection may (902).
+    /// There is a view where only a collection may be (902).
     OnView,
-    /// There are more statements, stages, views, indexes or cursors than there may be, or a view would stand too high (903).
+    /// There are more statements, stages, views, indexes or cursors than there may be, or a view would be too high (903).
     LimitReached,
     /// A view reads the namespace of a view that is to be made or dropped, or would read itself (904).
     ReadByView,
@@ -107,8 +107,8 @@ impl Refusal {
         }
     }
 
-    /// The refusal in words: the code's name, and behind it why a document can't be read. Fails where memory is
-    /// wanting.
+    /// The refusal in words: the code's name, and after it why a document can't be read. Fails with `NoMemory` when memory runs
+    /// out.
     pub fn message(&self, alloc: Global) -> Result<String, AllocError>
         ensures { IfOk result (λ message. string_bytes message ≡ refusals.message_of self.now) }
     {

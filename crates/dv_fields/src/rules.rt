@@ -16,10 +16,10 @@ use crate::values::{
 };
 use dv_value::{Document, Value};
 
-/// Where fields stand.
+/// Where fields are.
 #[derive(Clone, Copy)]
 pub enum Place {
-    /// In a command, where some are ignored.
+    /// In a command, in which some are ignored.
     Command,
     /// In an entry of its list.
     Entry,
@@ -59,9 +59,9 @@ pub enum Kind {
 #[derive(Clone, Copy)]
 pub struct Rule(pub &'static str, pub Kind);
 
-/// Looks at fields as they stand: the first that is unknown (`FailedToParse`) or has a value of another kind is told,
-/// this with `TypeMismatch` where the value is of another type, and with `BadValue` where it is a number out of its
-/// rules. Of what may only be an empty document, or false, and isn't `FailedToParse` is told.
+/// Checks fields in written order. The first one is returned that is unknown (`FailedToParse`) or has a value of another kind:
+/// `TypeMismatch` if the value is of another type, and `BadValue` if it is a number out of its rules. For a value that may only be
+/// an empty document, or false, and isn't, `FailedToParse` is returned.
 pub fn check_fields(place: Place, rules: &[Rule], document: &Document) -> Result<(), Refusal>
     ensures { result ≡ defined.check_fields (place_seen place) (map rule_seen rules.now) document.now }
 {

@@ -11,7 +11,7 @@ use crate::refusal::Refusal;
 use dv_value::{Document, List, Value};
 use std::alloc::Global;
 
-/// The text that a value is. Refused with `TypeMismatch` where it is another value.
+/// The text that a value is. Refused with `TypeMismatch` if it is another value.
 pub fn text_of(value: &Value) -> Result<&str, Refusal>
     ensures { MatchResult result (λ text. defined.text_field (tree value.now) ≡ Ok text.now) (λ refusal. defined.text_field (tree value.now) ≡ Err refusal) }
 {
@@ -31,7 +31,7 @@ pub(crate) fn boolean_of(value: &Value) -> Result<bool, Refusal>
     }
 }
 
-/// The document that a value is. Refused with `TypeMismatch` where it is another value.
+/// The document that a value is. Refused with `TypeMismatch` if it is another value.
 #[tactic(auto, using(crate::proofs::Among::same_fields))]
 pub fn document_of(value: &Value) -> Result<&Document, Refusal>
     ensures { MatchResult result (λ document. defined.document_in (tree value.now) ≡ Ok document.now) (λ refusal. defined.document_in (tree value.now) ≡ Err refusal) }
@@ -42,8 +42,8 @@ pub fn document_of(value: &Value) -> Result<&Document, Refusal>
     }
 }
 
-/// The documents of the array that a value is. Refused with `TypeMismatch` where it is another value, or an array with
-/// another value in it.
+/// The documents of the array that a value is. Refused with `TypeMismatch` if it is another value, or an array with another value
+/// in it.
 pub fn documents_of(value: &Value) -> Result<Documents<'_>, Refusal>
     ensures { MatchResult result (λ documents. defined.documents_in (tree value.now) ≡ Ok documents) (λ refusal. defined.documents_in (tree value.now) ≡ Err refusal) }
 {
@@ -53,7 +53,7 @@ pub fn documents_of(value: &Value) -> Result<Documents<'_>, Refusal>
     }
 }
 
-/// The list that an array is. Refused with `TypeMismatch` where it is another value.
+/// The list that an array is. Refused with `TypeMismatch` if it is another value.
 #[tactic(auto, using(crate::proofs::Among::same_elements))]
 pub fn array_of(value: &Value) -> Result<&List, Refusal>
     ensures { MatchResult result (λ list. defined.array_field (tree value.now) ≡ Ok list.now) (λ refusal. defined.array_field (tree value.now) ≡ Err refusal) }

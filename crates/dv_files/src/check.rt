@@ -21,7 +21,7 @@ pub enum CheckFault {
     Read,
     /// The writer failed.
     Write,
-    /// A document has a fault, and those in front of it have none.
+    /// A document has a fault, and those before it have none.
     Document {
         /// Which document it is, from 1.
         number: usize,
@@ -31,7 +31,7 @@ pub enum CheckFault {
     },
     /// The file has more than 1,073,741,824 bytes.
     TooLarge,
-    /// Memory is wanting.
+    /// Memory ran out.
     NoMemory,
 }
 
@@ -66,9 +66,9 @@ impl From<FileFault> for CheckFault {
     }
 }
 
-/// Writes `ok N` as a line, where the file is N documents that fit, one behind the other. Otherwise nothing is written, and
-/// the fault is that of the first document that has one. The file is read to its end before its documents are, and nothing is
-/// tried to be written before these are found to fit.
+/// Writes `ok N` as a line, if the file is N documents that fit, one after the other. Otherwise nothing is written, and the fault
+/// is that of the first document that has one. The file is read to its end before its documents are read, and nothing is written
+/// before these are found to fit.
 pub fn check<R: ByteIn, W: TextOut>(
     alloc: Global,
     reader: &mut R,

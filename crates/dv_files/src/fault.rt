@@ -29,7 +29,7 @@ pub enum LoadFault {
         /// The code of the refusal.
         code: i32,
     },
-    /// Memory is wanting.
+    /// Memory ran out.
     NoMemory,
 }
 

@@ -21,7 +21,7 @@ pub enum FileFault {
     Read,
     /// The file has more than 1,073,741,824 bytes.
     TooLarge,
-    /// Memory is wanting for its bytes.
+    /// Memory ran out for its bytes.
     NoMemory,
 }
 
@@ -56,7 +56,7 @@ pub fn read_file<R: ByteIn>(alloc: Global, reader: &mut R) -> Result<Vec<u8>, Fi
     Err(FileFault::TooLarge)
 }
 
-/// The first document of the bytes, and what stands behind it.
+/// The first document of the bytes, and the bytes after it.
 pub fn first_document(alloc: Global, bytes: &[u8]) -> Result<(Document, &[u8]), BsonFault>
     ensures found { IfOk result (λ found. Begins bytes.now found.0 found.1.now) }
     ensures only { (document : List Field) (behind : List ℕ) → Begins bytes.now document behind
@@ -67,7 +67,7 @@ pub fn first_document(alloc: Global, bytes: &[u8]) -> Result<(Document, &[u8]), 
     Ok((document, &bytes[length..]))
 }
 
-/// What stands behind the first document of the bytes, of which nothing is made.
+/// The bytes after the first document of the bytes, which is not built.
 pub fn behind_document(alloc: Global, bytes: &[u8]) -> Result<&[u8], BsonFault>
     ensures found { IfOk result (λ behind. (document : List Field) × Begins bytes.now document behind.now) }
     ensures only { (document : List Field) (behind : List ℕ) → Begins bytes.now document behind

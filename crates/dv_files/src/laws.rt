@@ -7,7 +7,7 @@ ghost use Rattle.dv_files.specs.File.{Begins, Holds};
 
 use dv_value::laws::what_a_field_adds;
 
-/// Bytes that are documents, and those of one document more, are all of these; and behind a document fewer bytes stand.
+/// Bytes that are documents, and those of one more document, are all of these documents; and after a document fewer bytes are left.
 pub fn documents_come_one_by_one()
     ensures more { (documents : List (List Field)) (d : List Field) (front next : List ℕ) → Holds documents front → Spells d next → Fits d
         → Holds (documents ++ d ∷ []) (front ++ next) }

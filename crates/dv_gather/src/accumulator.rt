@@ -5,9 +5,9 @@
 pub enum Accumulator {
     /// `$sum`: the sum of the numbers among them.
     Sum,
-    /// `$min`: the least but null, and null where there is none.
+    /// `$min`: the least value except null, or null if there is none.
     Min,
-    /// `$max`: the greatest but null, and null where there is none.
+    /// `$max`: the greatest value except null, or null if there is none.
     Max,
     /// `$push`: all of them, in their order.
     Push,

@@ -70,8 +70,8 @@ pub fn is_int64(value: &Value) -> bool
     }
 }
 
-/// A sum as a value: an int32 where it fits and `narrow` says that none of its numbers was an int64; else an int64 where it fits;
-/// else a document with its decimal digits under `$sum128`. Fails where memory is wanting.
+/// A sum as a value: an int32 if it fits and `narrow` says that none of its numbers was an int64; else an int64 if it fits; else a
+/// document with its decimal digits under `$sum128`. Fails with `NoMemory` when memory runs out.
 #[tactic(auto, unfolding(crate::specs::Sums::spelled))]
 pub fn sum_value(alloc: Global, narrow: bool, total: i128) -> Result<Value, NoMemory>
     ensures { IfOk result (λ sum. tree sum ≡ defined.spelled narrow total) }

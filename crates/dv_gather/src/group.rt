@@ -27,7 +27,7 @@ pub struct GroupField {
     pub name: Str,
     /// What comes of the values.
     pub accumulator: Accumulator,
-    /// What gives a row's value.
+    /// The expression of a row's value.
     pub expr: Expr,
 }
 
@@ -55,7 +55,7 @@ impl Model for Group {
 }
 
 impl GroupField {
-    /// A copy of its own. Fails where memory is wanting.
+    /// A copy of its own. Fails with `NoMemory` when memory runs out.
     pub fn try_clone(&self) -> Result<Self, NoMemory>
         ensures { IfOk result (λ copy. copy ≡ self.now) }
     {
@@ -75,7 +75,7 @@ impl Group {
         Group { key, fields }
     }
 
-    /// What gives a row's key. Takes no memory.
+    /// The expression of a row's key. Takes no memory.
     pub fn key(&self) -> &Expr
         ensures { expression_seen result.now ≡ self.now.key }
     {
@@ -89,9 +89,9 @@ impl Group {
         self.fields.as_slice()
     }
 
-    /// A row for each group of the rows, ascending by their keys. Rows whose keys compare equal are one group, and a missing
-    /// key counts as null. Its row has `_id`, spelled as in the group's first row, and behind it the fields. In time n log n
-    /// for each field. Fails where memory is wanting.
+    /// A row for each group of the rows, ascending by their keys. Rows whose keys compare equal are one group, and a missing key
+    /// counts as null. A group's row has `_id`, in the encoding of the group's first row, and then the fields. In time n log n for
+    /// each field. Fails with `NoMemory` when memory runs out.
     pub fn rows(&self, alloc: Global, rows: &[&Document]) -> Result<Vec<Document>, NoMemory>
         ensures { IfOk result (λ left. left.items ≡ defined.grouped self.now (referred rows.now)) }
     {
@@ -128,7 +128,7 @@ impl Group {
         tally.add(alloc, key, self.fields(), row)
     }
 
-    /// The row's key, null where it is missing. Fails where memory is wanting.
+    /// The row's key, null if it is missing. Fails with `NoMemory` when memory runs out.
     pub fn key_in<'a>(&'a self, alloc: Global, row: &'a Document) -> Result<RowValue<'a>, NoMemory>
         ensures { IfOk result (λ key. row_value key ≡ defined.key_in self.now row.now) }
     {
@@ -154,7 +154,7 @@ impl Group {
         Ok(left)
     }
 
-    /// A copy of its own. Fails where memory is wanting.
+    /// A copy of its own. Fails with `NoMemory` when memory runs out.
     pub fn try_clone(&self) -> Result<Self, NoMemory>
         ensures { IfOk result (λ copy. copy ≡ self.now) }
     {

@@ -17,8 +17,8 @@ use std::alloc::Global;
 use std::collections::BTreeSet;
 
 impl Lookup {
-    /// The keys by which a row is looked up: those of what `local` leads to in it, an array giving those of its elements
-    /// alone, and Missing that of null. Fails where memory is wanting.
+    /// The keys by which a row is looked up: those of what `local` leads to in it. An array has only those of its elements, and
+    /// Missing has that of null. Fails with `NoMemory` when memory runs out.
     pub fn local_keys(&self, alloc: Global, row: &Document) -> Result<BTreeSet<Key>, NoMemory>
         ensures { IfOk result (λ keys. (k : KeyTree) → contains key_order keys k ≡ is_some_key k (joined_by self.now.local row.now)) }
     {
@@ -28,8 +28,8 @@ impl Lookup {
         Ok(keys)
     }
 
-    /// The keys under which a document is found: those of its leaves under `foreign`, Missing having that of null. Fails
-    /// where memory is wanting.
+    /// The keys under which a document is found: those of its leaves under `foreign`, Missing having that of null. Fails with
+    /// `NoMemory` when memory runs out.
     #[tactic(auto, unfolding(dv_path::specs::LeafKeys::is_leaf_key))]
     pub fn foreign_keys(
         &self,

@@ -25,7 +25,7 @@ ghost use Rattle.dv_gather.specs.Sums.{sum_of};
 
 use crate::accumulator::Accumulator;
 
-/// The keys of the groups ascend and are apart, and each row's key is one of them alone: so it is in one group.
+/// The keys of the groups ascend and are distinct, and each row's key is exactly one of them: so it is in one group.
 #[tactic(auto, using(crate::specs::GroupLaws::keys_ascend, crate::proofs::GatherLaws::one_key))]
 pub fn each_row_is_in_one_group()
     ensures ascending { (rows : List Keyed) → IsStrictlySortedBy order (group_keys rows) }
@@ -46,14 +46,14 @@ pub fn only_numbers_count()
     ensures { (vs : List Tree) → accumulated Accumulator.Sum vs ≡ accumulated Accumulator.Sum (filter is_number vs) }
 {}
 
-/// `$push` puts the value of each row behind those of the rows before it, and a row without a value counts nowhere.
+/// `$push` puts the value of each row after those of the rows before it, and a row without a value counts nowhere.
 #[tactic(auto, using(crate::proofs::Parted::pushed_last, crate::proofs::Parted::missing_left_out))]
 pub fn values_are_pushed_in_order()
     ensures pushed { (e : Expression) (rows : List Row) (row : Row) (v : Tree) → value_of e row ≡ Some v → accumulated Accumulator.Push (values_over e (rows ++ row ∷ [])) ≡ array (elements_of (values_over e rows ++ v ∷ [])) }
     ensures left_out { (e : Expression) (rows : List Row) (row : Row) → value_of e row ≡ None → values_over e (rows ++ row ∷ []) ≡ values_over e rows }
 {}
 
-/// Values of four classes, "x", 3, true and [5]: each class counts for the least and the greatest, and numbers alone in a sum.
+/// Values of four classes, "x", 3, true and [5]: each class counts for the least and the greatest, and only numbers in a sum.
 #[tactic(auto, using(crate::proofs::Worked::mixed_least, crate::proofs::Worked::mixed_greatest, crate::proofs::Worked::mixed_sum))]
 pub fn values_of_four_classes()
     ensures least { accumulated Accumulator.Min examples.mixed ≡ short.int 3 }
@@ -74,7 +74,7 @@ pub fn a_sum_of_ones_counts()
     ensures { (rows : List Row) → length rows < 2 ^ 31 → accumulated Accumulator.Sum (values_over (constant (int32 (pos 1))) rows) ≡ int32 (pos (length rows)) }
 {}
 
-/// `$min` is the first of the least values and `$max` the first of the greatest, null left out; of null alone, or of nothing, it is
+/// `$min` is the first of the least values and `$max` the first of the greatest, null left out; of only null, or of nothing, it is
 /// null.
 #[tactic(auto, using(crate::proofs::Leaders::least_leads, crate::proofs::Leaders::greatest_leads))]
 pub fn extremes_lead()
@@ -88,20 +88,20 @@ pub fn opposites_sum_up_to_zero()
     ensures { (n : ℤ) → sum_of (int64 n ∷ int64 (pos 0 -ℤ n) ∷ []) ≡ int64 (pos 0) }
 {}
 
-/// A lookup into nothing gives empty arrays.
+/// A lookup into nothing returns empty arrays.
 #[tactic(auto, using(crate::proofs::GatherLaws::nothing_found))]
 pub fn nothing_is_found_in_nothing()
     ensures { (lookup : lookups.Lookup) (rows : List Row) → looked_up lookup rows [] ≡ map (set_field lookup.target (array no_elements)) rows }
 {}
 
-/// What a group or a lookup makes of valid rows is valid, where it was read from a valid value.
+/// What a group or a lookup makes of valid rows is valid, if it was read from a valid value.
 #[tactic(auto, using(crate::proofs::GatherLaws::grouped_valid, crate::proofs::GatherLaws::looked_up_valid))]
 pub fn what_comes_of_valid_rows_is_valid()
     ensures grouped { (v : Tree) (group : Grouping) (rows : List Row) → IsValue v → group_in v ≡ Ok group → AreValid rows → AreValid (grouped group rows) }
     ensures looked_up { (v : Tree) (lookup : lookups.Lookup) (rows others : List Row) → IsValue v → lookup_in v ≡ Ok lookup → AreValid rows → AreValid others → AreValid (looked_up lookup rows others) }
 {}
 
-/// Rows by a key that two of them share, that one spells, and that one lacks.
+/// Rows in three groups: two rows share a key, one has another key, and one has none.
 #[tactic(auto, using(crate::proofs::Worked::rows_in_groups))]
 pub fn rows_in_three_groups()
     ensures { examples.after_group examples.a_group examples.group_rows ≡ Ok (examples.group_row null (short.int 2) (short.int 2 ∷ []) (short.int 2) ∷ examples.group_row (short.text (codes "a")) (short.int 3) (short.int 3 ∷ null ∷ []) (short.int 3) ∷ examples.group_row (short.text (codes "b")) null [] (short.int 0) ∷ []) }

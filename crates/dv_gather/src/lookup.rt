@@ -14,9 +14,8 @@ use std::alloc::Global;
 use std::collections::BTreeMap;
 use std::marker::Model;
 
-/// The documents of another collection that a row is joined with, put into it: those that have a leaf at `foreign` which
-/// compares equal to a value of the row at `local`, an array of the row standing for its elements, and what is missing
-/// counting as null.
+/// The documents of another collection that a row is joined with, put into it: those that have a leaf at `foreign` which compares
+/// equal to a value of the row at `local`. An array of the row counts as its elements, and what is missing counts as null.
 #[derive(Debug, Drop)]
 pub struct Lookup {
     /// The name of the other collection.
@@ -60,8 +59,8 @@ impl<'a> Model for Join<'a> {
 }
 
 impl Lookup {
-    /// The look-up into these documents, which stand in it by their values at `foreign`. Takes time of these values, times a
-    /// logarithm. Fails where memory is wanting.
+    /// The look-up into these documents, which are found by their values at `foreign`. Takes time of these values, times a
+    /// logarithm. Fails with `NoMemory` when memory runs out.
     pub fn join<'a>(
         &'a self,
         alloc: Global,
@@ -77,7 +76,7 @@ impl Lookup {
         })
     }
 
-    /// A copy of its own. Fails where memory is wanting.
+    /// A copy of its own. Fails with `NoMemory` when memory runs out.
     pub fn try_clone(&self) -> Result<Self, NoMemory>
         ensures { IfOk result (λ copy. copy ≡ self.now) }
     {
@@ -91,10 +90,10 @@ impl Lookup {
 }
 
 impl<'a> Join<'a> {
-    /// The row with the documents that it is joined with, an array in their order, each once, in place of the field of the
-    /// target's name or behind the others. They share their memory with the documents. What was made of the row before it
-    /// lends its names, where there is one. Takes time of the row's values and of the matches, times a logarithm. Fails where
-    /// memory is wanting.
+    /// The row with the documents that it is joined with, an array in their order, each once, in place of the field of the target's
+    /// name or after the others. They share their memory with the documents. It shares names with what was made of the row before
+    /// it, if there is one. Takes time of the row's values and of the matches, times a logarithm. Fails with `NoMemory` when memory
+    /// runs out.
     pub fn row_behind(
         &self,
         alloc: Global,

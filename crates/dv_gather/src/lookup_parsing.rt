@@ -14,10 +14,10 @@ use dv_value::{Document, Str, Value, begins_with_dollar};
 use std::alloc::Global;
 
 impl Lookup {
-    /// The look-up that the value is: a document with the texts `from`, `localField`, `foreignField` and `as`, and nothing
-    /// else. The name of a collection isn't empty, begins with no dollar sign and holds no zero byte, the name of a field
-    /// begins with no dollar sign and holds no dot and no zero byte, and the others are paths. Refused with `BadSpec` where
-    /// it is none, and with `NoMemory`.
+    /// The look-up that the value is: a document with the texts `from`, `localField`, `foreignField` and `as`, and nothing else.
+    /// The name of a collection isn't empty, begins with no dollar sign and holds no zero byte, the name of a field begins with no
+    /// dollar sign and holds no dot and no zero byte, and the others are paths. Refused with `BadSpec` if it is none, and with
+    /// `NoMemory`.
     #[tactic(auto, unfolding(crate::specs::Lookups::lookup_in))]
     pub fn parse(alloc: Global, value: &Value) -> Result<Lookup, PipelineFault>
         ensures { Gives (λ lookup. lookup) result (defined.lookup_in (tree value.now)) }

@@ -33,11 +33,11 @@ pub trait Channel {
     // Its number, which never changes.
     ghost number: { Self → ℕ };
 
-    /// The number under which it is told to be ready.
+    /// The number under which it is reported as ready.
     fn number(&self) -> u64
         ensures { result ≡ number self.now };
 
-    /// Puts the next bytes at the front of the piece. Fails where it can't tell; then no byte is lost.
+    /// Puts the next bytes at the front of the piece. Fails if the connection fails; then no byte is lost.
     fn take(&mut self, piece: &mut [u8]) -> Result<Taken, Failed>
         requires { 0 < length piece.old }
         ensures taken { IfOk result (λ taken. Takes taken (remaining self.old) (remaining self.new) piece.new) }
@@ -45,7 +45,7 @@ pub trait Channel {
         ensures contents { contents self.new ≡ contents self.old }
         ensures number { number self.new ≡ number self.old };
 
-    /// Takes some of the bytes, from the front, and answers how many: 0 where it takes none now.
+    /// Takes some of the bytes, from the front, and returns how many: 0 if it takes none now.
     fn give(&mut self, bytes: &[u8]) -> Result<usize, Failed>
         requires { 0 < length bytes.now }
         ensures few { IfOk result (λ count. count ≤ length bytes.now) }

@@ -25,9 +25,9 @@ const BUDGET: usize = 268_435_456;
 /// Why serving ends before all is served.
 #[derive(Clone, Copy, Debug, PartialEq, Eq)]
 pub enum HostFault {
-    /// It can't be told what is ready.
+    /// Waiting for what is ready failed.
     Wait,
-    /// Memory is wanting to begin.
+    /// Memory ran out to begin.
     NoMemory,
     /// There were as many turns as may be.
     Turns,
@@ -229,17 +229,17 @@ fn room(alloc: Global, size: usize) -> Result<Vec<u8>, AllocError>
     vec![in alloc; 0u8; size]
 }
 
-/// Serves so many connections, many of them at once, each by a session of its own from its first byte to its last; `Ok` where all
-/// came and went. What happens to the sessions is a schedule of their pieces. It takes at most `turns` turns.
+/// Serves so many connections, many of them at once, each by a session of its own from its first byte to its last. Returns `Ok` if
+/// all came and went. What happens to the sessions is a schedule of their pieces. It takes at most `turns` turns.
 ///
 /// At most 1,000 connections are open; further ones wait. In a turn at most 65,536 bytes of one connection are taken, once it has
-/// taken all answers and all its bytes are fed. They are fed message by message while fewer than 65,536 bytes of answers are unsent;
-/// the others stay for its next turn. So a connection holds one reply, one unfinished message and a constant. Where all sessions
-/// together keep more than 268,435,456 bytes of unfinished messages, a connection that has more than 262,144 of them is closed as
-/// `Full` in place of its next piece; so is one where memory is wanting for a piece.
+/// taken all answers and all its bytes are fed. They are fed message by message while fewer than 65,536 bytes of answers are
+/// unsent; the others stay for its next turn. So a connection holds one reply, one unfinished message and a constant. If all
+/// sessions together keep more than 268,435,456 bytes of unfinished messages, a connection that has more than 262,144 of them is
+/// closed as `Full` in place of its next piece. So is a connection if memory runs out for a piece.
 ///
-/// Fails with `NoMemory` where memory is wanting to begin, with `Wait` where it can't be told what is ready, and with `Turns` behind so many turns. Then
-/// the connections that were open are closed too, as `Failed`, and their sessions ended.
+/// Fails with `NoMemory` when there is no memory to begin, with `Wait` if waiting for what is ready fails, and with `Turns` after
+/// so many turns. Then the connections that were open are closed too, as `Failed`, and their sessions ended.
 pub fn host<O: Outside, S: Sessions>(
     alloc: Global,
     sessions: &mut S,

@@ -19,8 +19,8 @@ pub trait Outside {
     // How many connections were accepted.
     ghost came: { Self → ℕ };
 
-    /// Waits until some connection may be ready, or one may be accepted, and answers how many may be ready. Doesn't wait where
-    /// `again` was called since.
+    /// Waits until some connection may be ready, or one may be accepted, and returns how many may be ready. Doesn't wait if `again`
+    /// was called since the last wait.
     fn wait(&mut self) -> Result<usize, Failed>
         ensures coming { coming self.new ≡ coming self.old }
         ensures closed { closed self.new ≡ closed self.old }
@@ -35,7 +35,7 @@ pub trait Outside {
         ensures closed { closed self.new ≡ closed self.old }
         ensures came { came self.new ≡ came self.old };
 
-    /// The next connection, where one waits. Connections are numbered from 1 in the order in which they are accepted.
+    /// The next connection, if one waits. Connections are numbered from 1 in the order in which they are accepted.
     fn accept(&mut self) -> Result<Option<Self::Channel>, Failed>
         ensures accepted { IfOk result (λ one. MayAccept Self.Channel.remaining Self.Channel.contents one (coming self.old) (coming self.new)) }
         ensures kept { OnErr result (coming self.new ≡ coming self.old) }

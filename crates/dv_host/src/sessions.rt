@@ -28,7 +28,7 @@ pub trait Sessions {
     // The number of the next session.
     ghost next: { Self → ℕ };
 
-    /// Opens a session, and answers its number. Refused where there are too many, or memory is wanting.
+    /// Opens a session, and returns its number. Refused if there are too many, or when memory runs out.
     fn open(&mut self) -> Option<u32>
         ensures opened { opens self.old result self.new }
         ensures numbers { MatchOption result (next self.new ≡ next self.old) (λ n. (n ≡ next self.old) × (next self.new ≡ next self.old + 1)) };

@@ -25,7 +25,7 @@ use dv_value::{Document, List, NoMemory, Value};
 use std::alloc::Global;
 use std::ops::Bound;
 
-/// Whether the path sorts the document before a bar, in its direction. Fails where memory is wanting.
+/// Whether the path sorts the document before a bar, in its direction. Fails with `NoMemory` when memory runs out.
 pub fn is_ahead(document: &Document, by: &SortPart, bar: &Key) -> Result<bool, NoMemory>
     ensures { IfOk result (λ ahead. ahead ≡ defined.is_ahead (part by.now) bar.now document.now) }
 {
@@ -43,8 +43,8 @@ fn stands_first(direction: Direction, key: &Key, other: &Key) -> bool
     }
 }
 
-/// In a direction, the first key behind `least` `_id`s or more of those that stand in all ranges which the filter sets, unless
-/// more than `most` stand before it. Fails where memory is wanting.
+/// In a direction, the first key after `least` `_id`s or more of those in all ranges which the filter sets, unless more than `most`
+/// come before it. Fails with `NoMemory` when memory runs out.
 pub fn bar_behind<'i>(
     alloc: Global,
     index: &'i Index,
@@ -58,8 +58,8 @@ pub fn bar_behind<'i>(
     Ok(pairs.key_behind(ends, direction, least, most))
 }
 
-/// Whether null is in all ranges that the filter sets under the path, and is sorted before the bar. Fails where memory is
-/// wanting.
+/// Whether null is in all ranges that the filter sets under the path, and is sorted before the bar. Fails with `NoMemory` when
+/// memory runs out.
 pub fn is_null_ahead(
     alloc: Global,
     path: &Path,
@@ -74,8 +74,8 @@ pub fn is_null_ahead(
     Ok(ends.contains(&null))
 }
 
-/// The `_id`s' keys of the pairs of leaves that are sorted by keys before the bar, in no order; an `_id` that has only one key
-/// may be left out, unless this is in all ranges that the filter sets. Fails where memory is wanting.
+/// The `_id`s' keys of the pairs of leaves that are sorted by keys before the bar, in no order; an `_id` that has only one key may
+/// be left out, unless this is in all ranges that the filter sets. Fails with `NoMemory` when memory runs out.
 pub fn ids_ahead<'i>(
     alloc: Global,
     index: &'i Index,

@@ -17,7 +17,7 @@ use dv_value::{Bytes, Document, List, NoMemory, Str, Value};
 use std::alloc::Global;
 use std::ops::Bound;
 
-/// The ends between which stand all keys of the value's class that stand so to its key. Fails where memory is wanting.
+/// The ends between which are all keys of the value's class that compare so to its key. Fails with `NoMemory` when memory runs out.
 pub fn ends_within(
     alloc: Global,
     range: Range,

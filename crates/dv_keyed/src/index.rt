@@ -61,22 +61,22 @@ impl Index {
         &self.path
     }
 
-    /// Whether no key of it is to stand in two documents.
+    /// Whether no key of it may be in two documents.
     pub fn is_unique(&self) -> bool
         ensures { result ≡ self.now.unique }
     {
         self.unique
     }
 
-    /// The pairs. The index on `_id` has none: the documents themselves stand in the order of their `_id`s.
+    /// The pairs. The index on `_id` has none: the documents themselves are in the order of their `_id`s.
     pub fn pairs(&self) -> &MultiIndex
         ensures { result.now ≡ self.now.pairs }
     {
         &self.pairs
     }
 
-    /// Adds a pair for each key, none of which is there, to an `_id` that has no keys but those that it holds. Where memory is
-    /// wanting, the pairs are those that there were.
+    /// Adds a pair for each key, none of which is there, to an `_id` that has no keys but those that it holds. If memory runs out,
+    /// the pairs are those that there were.
     pub fn add(&mut self, keys: &[&Key], id: &Key, held: &Keys) -> Result<(), NoMemory>
         requires held { (k : KeyTree) → has_pair k id.now self.old.pairs ≡ true → has_key k held.now ≡ true }
         requires absent { (k : KeyTree) → has_key k (map (λ l. l.now) keys.now) ≡ true → has_pair k id.now self.old.pairs ≡ false }
@@ -87,7 +87,7 @@ impl Index {
         self.pairs.add_fresh(keys, id, held)
     }
 
-    /// Takes out the pair of each key, where it is there, of an `_id` that then has no keys but those that are left. Takes no
+    /// Takes out the pair of each key, if it is there, of an `_id` that then has no keys except those that are left. Takes no
     /// memory.
     pub fn take_out(&mut self, keys: &[&Key], id: &Key, left: &Keys)
         requires { (k : KeyTree) → (has_pair k id.now self.old.pairs && not (has_key k (map (λ l. l.now) keys.now))) ≡ true → has_key k left.now ≡ true }
@@ -98,7 +98,7 @@ impl Index {
     }
 }
 
-/// An index that isn't made yet: its name, its path, and whether no key of it is to stand in two documents.
+/// An index that isn't made yet: its name, its path, and whether no key of it may be in two documents.
 #[derive(Debug, Drop)]
 pub struct NewIndex {
     pub name: Str,

@@ -20,18 +20,18 @@ use dv_value::{NoMemory, Value};
 use std::alloc::Global;
 use std::ops::Bound;
 
-/// Two ends, between which keys stand.
+/// Two ends, between which keys are.
 #[derive(Debug, Drop)]
 pub struct Interval {
-    /// Before which none stands.
+    /// No key is before this.
     pub low: Bound<Key>,
-    /// Behind which none stands.
+    /// No key is after this.
     pub high: Bound<Key>,
 }
 
 impl Interval {
-    /// The ends between which stand all keys that are in each range that the filter's top conjunction sets under the path.
-    /// Fails where memory is wanting.
+    /// The ends between which are all keys that are in each range that the filter's top conjunction sets under the path. Fails with
+    /// `NoMemory` when memory runs out.
     pub fn of(alloc: Global, path: &Path, filter: &Filter) -> Result<Self, NoMemory>
         ensures { IfOk result (λ ends. (k : KeyTree) → is_in_all k path.now filter.now ≡ true → is_between ends k ≡ true) }
     {
@@ -68,7 +68,7 @@ impl Interval {
         is_from_start(&self.low, key) && !is_past_end(&self.high, key)
     }
 
-    /// Whether the first end stands before the other one; else no key stands between them.
+    /// Whether the first end comes before the other one; else there is no key between them.
     pub fn is_forward(&self) -> bool
         ensures forward { IsTrue result → IsForward (IsLeBy key_order) (IsLtBy key_order) self.now.low self.now.high }
         ensures empty { result ≡ false → (k : KeyTree) → is_between self.now k ≡ false }

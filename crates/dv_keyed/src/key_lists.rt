@@ -11,7 +11,7 @@ use dv_order::{Key, key_of};
 use dv_value::{NoMemory, Value};
 use std::alloc::Global;
 
-/// The keys of the values. Fails where memory is wanting.
+/// The keys of the values. Fails with `NoMemory` when memory runs out.
 pub fn keys_of_each(alloc: Global, values: &[Value]) -> Result<Vec<Key>, NoMemory>
     ensures { IfOk result (λ keys. keys.items ≡ map (λ v. key_of_tree (canon (tree v))) values.now) }
 {
@@ -22,15 +22,15 @@ pub fn keys_of_each(alloc: Global, values: &[Value]) -> Result<Vec<Key>, NoMemor
     Ok(keys)
 }
 
-/// References to the keys. Fails where memory is wanting.
+/// References to the keys. Fails with `NoMemory` when memory runs out.
 pub fn lent(alloc: Global, keys: &[Key]) -> Result<Vec<&Key>, NoMemory>
     ensures { IfOk result (λ lent. map (λ k. k.now) lent.items ≡ keys.now) }
 {
     keys.iter().collect(alloc)
 }
 
-/// The keys in their order, and of equal ones one. Those of one index key stand in order already, so there are few runs to
-/// merge. Fails where memory is wanting.
+/// The keys in their order, each of several equal ones once. Those of one index key are in order already, so there are few runs to
+/// merge. Fails with `NoMemory` when memory runs out.
 pub fn in_order(mut keys: Vec<&Key>) -> Result<Vec<&Key>, NoMemory>
     ensures ascending { IfOk result (λ ordered. IsStrictlySortedBy key_order (map (λ k. k.now) ordered.items)) }
     ensures same { IfOk result (λ ordered. (k : KeyTree) → has_key k (map (λ l. l.now) ordered.items) ≡ has_key k (map (λ l. l.now) keys.entry.items)) }

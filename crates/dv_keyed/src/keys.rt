@@ -56,9 +56,9 @@ impl Keys {
     }
 }
 
-/// The keys of the document's leaves under the path, Missing having that of null: a leaf is what the path leads to, or an
-/// element of it where that is an array. Looks at each value of the document at most once for each of the path's
-/// components. Fails where memory is wanting.
+/// The keys of the document's leaves under the path, Missing having that of null: a leaf is what the path leads to, or if that is
+/// an array, an element of it. Looks at each value of the document at most once for each of the path's components. Fails with
+/// `NoMemory` when memory runs out.
 pub fn keys_of(alloc: Global, path: &Path, document: &Document) -> Result<Keys, NoMemory>
     ensures { IfOk result (λ keys. (k : KeyTree) → has_key k keys ≡ is_leaf_key k path.now document.now) }
 {
@@ -67,7 +67,7 @@ pub fn keys_of(alloc: Global, path: &Path, document: &Document) -> Result<Keys, 
     })
 }
 
-/// The keys that aren't among others. Fails where memory is wanting.
+/// The keys that aren't among others. Fails with `NoMemory` when memory runs out.
 pub fn keys_without<'k>(
     alloc: Global,
     keys: &'k Keys,

@@ -22,8 +22,8 @@ pub fn what_matches_is_in_the_bounds()
     ensures { (filter : Members) (paths : List (List (List ℕ))) (place : ℕ) (bounds : Condition) → chosen filter paths ≡ Some (place, bounds) → (path : List (List ℕ)) × (slice_get paths place ≡ Some path) × ((d : List Field) → matches filter d ≡ true → has_within bounds path d ≡ true) }
 {}
 
-/// What matches is tried: where a document that matches a filter has only one key under a path, this one is in all bounds that
-/// the filter's top conjunction sets under the path.
+/// What matches is tried: if a document that matches a filter has only one key under a path, this key is in all bounds that the
+/// filter's top conjunction sets under the path.
 pub fn an_only_key_is_in_all_bounds()
     ensures { (filter : Members) (path : List (List ℕ)) (d : List Field) (v : Tree) → ((l : KeyTree) → is_leaf_key l path d ≡ true → is_eq (key_order l (value (canon v))) ≡ true) → matches filter d ≡ true → is_in_all (value (canon v)) path filter ≡ true }
 {
@@ -31,7 +31,7 @@ pub fn an_only_key_is_in_all_bounds()
     dv_order::laws::equal_is_same_but_for_widths();
 }
 
-/// A document has a leaf in the bounds exactly where it has a key in them.
+/// A document has a leaf in the bounds exactly if it has a key in them.
 pub fn leaves_are_found_by_keys()
     ensures { (bounds : Condition) (path : List (List ℕ)) (d : List Field) → (has_within bounds path d ≡ true) ↔ ((v : Tree) × (covers bounds (value (canon v)) ≡ true) × (is_leaf_key (value (canon v)) path d ≡ true)) }
 {
@@ -39,7 +39,7 @@ pub fn leaves_are_found_by_keys()
     dv_order::laws::equal_is_same_but_for_widths();
 }
 
-/// A candidate is in the bounds exactly where its key is.
+/// A candidate is in the bounds exactly if its key is.
 pub fn keys_are_in_the_bounds_of_their_values()
     ensures { (bounds : Condition) (c : Candidate) → covers bounds (value (canon (or_null c))) ≡ is_within bounds c }
 {

@@ -17,8 +17,8 @@ use std::alloc::Global;
 use std::marker::Model;
 use std::ops::Bound;
 
-/// A set of pairs: a key, and the key of the `_id` of a document that has it. Beside it stand the keys of the `_id`s that
-/// have several keys: of all others the one key tells which conditions they meet.
+/// A set of pairs: a key, and the key of the `_id` of a document that has it. It also has the keys of the `_id`s that have several
+/// keys: for all others the one key determines which conditions they meet.
 #[derive(Debug, Drop)]
 pub struct MultiIndex {
     alloc: Global,
@@ -53,7 +53,7 @@ impl MultiIndex {
         }
     }
 
-    /// Adds the pair of each of the keys and the `_id`'s key. Where memory is wanting, the pairs are those that there were.
+    /// Adds the pair of each of the keys and the `_id`'s key. If memory runs out, the pairs are those that there were.
     pub fn add(&mut self, keys: &Keys, id: &Key) -> Result<(), NoMemory>
         ensures ok { OnOk result ((k i : KeyTree) → has_pair k i self.new ≡ (has_pair k i self.old || (has_key k keys.now && is_eq (key_order i id.now)))) }
         ensures err { OnErr result ((k i : KeyTree) → has_pair k i self.new ≡ has_pair k i self.old) }
@@ -63,8 +63,8 @@ impl MultiIndex {
         self.pairs.add(keys, id)
     }
 
-    /// Adds the pair of each of the keys and of the key of an `_id` that has no key yet. Where memory is wanting, the pairs are
-    /// those that there were.
+    /// Adds the pair of each of the keys and of the key of an `_id` that has no key yet. If memory runs out, the pairs are those
+    /// that there were.
     pub fn add_first(&mut self, keys: &Keys, id: &Key) -> Result<(), NoMemory>
         requires { (k : KeyTree) → has_pair k id.now self.old ≡ false }
         ensures ok { OnOk result ((k i : KeyTree) → has_pair k i self.new ≡ (has_pair k i self.old || (has_key k keys.now && is_eq (key_order i id.now)))) }
@@ -100,7 +100,7 @@ impl MultiIndex {
         }
     }
 
-    /// Takes out the pair of each of the keys and the `_id`'s key, where it is there. Takes no memory.
+    /// Takes out the pair of each of the keys and the `_id`'s key, if it is there. Takes no memory.
     pub fn take_out(&mut self, keys: &Keys, id: &Key)
         ensures { (k i : KeyTree) → has_pair k i self.new ≡ (has_pair k i self.old && not (has_key k keys.now && is_eq (key_order i id.now))) }
     {
@@ -120,14 +120,14 @@ impl MultiIndex {
         self.settle(id, left);
     }
 
-    /// Whether one of the keys stands under another `_id`. Takes no memory.
+    /// Whether one of the keys is under another `_id`. Takes no memory.
     pub fn clash(&self, keys: &Keys, id: &Key) -> bool
         ensures { result ≡ is_under_another (λ k. has_key k keys.now) id.now self.now }
     {
         self.pairs.clash(keys, id)
     }
 
-    /// A copy of its own. Fails where memory is wanting.
+    /// A copy of its own. Fails with `NoMemory` when memory runs out.
     pub fn try_clone(&self) -> Result<Self, NoMemory>
         ensures { IfOk result (λ copy. copy ≡ self.now) }
     {

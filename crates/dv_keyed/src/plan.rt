@@ -19,7 +19,7 @@ pub enum Bounds<'f> {
     Equal(&'f Value),
     /// Those that compare equal to that of one of the values.
     Among(&'f Choices),
-    /// Those of the value's class that stand so to it.
+    /// Those of the value's class that compare so to it.
     Within(Range, &'f Value),
 }
 
@@ -45,10 +45,10 @@ enum Kind {
 pub struct Planner;
 
 impl Planner {
-    /// The plan for a filter by indexes, which stand in creation order. Its top conjunction are the conditions under its paths and, in their place, those of its
-    /// `$and` members, at any depth. The plan takes the first index whose path stands there under `$eq` or `$in`, with its
-    /// first such condition; else the first whose path stands there under a range operator, with that one bound; else it
-    /// is a scan. Takes no memory.
+    /// The plan for a filter by indexes, which are in creation order. Its top conjunction are the conditions under its paths and,
+    /// in their place, those of its `$and` members, at any depth. The plan takes the first index whose path is there under `$eq` or
+    /// `$in`, with its first such condition; else the first whose path is there under a range operator, with that one bound; else
+    /// it is a scan. Takes no memory.
     #[tactic(auto, unfolding(crate::specs::Choice::chosen))]
     pub fn choose<'f>(filter: &'f Filter, indexes: &[Index]) -> Plan<'f>
         ensures { plan_seen result ≡ chosen filter.now (map (λ i. i.path) indexes.now) }

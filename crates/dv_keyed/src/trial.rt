@@ -13,7 +13,7 @@ use dv_order::Key;
 use dv_value::NoMemory;
 use std::alloc::Global;
 
-/// The keys under a path of a document as it was and as it will be, neither having keys where there is none.
+/// The keys under a path of a document as it was and as it will be; neither has keys if there is none.
 #[derive(Debug, Drop)]
 pub struct Moved {
     pub id: Key,
@@ -40,7 +40,7 @@ impl Trial {
         }
     }
 
-    /// Whether one of the new keys would stand under another `_id`. Takes no memory.
+    /// Whether one of the new keys would be under another `_id`. Takes no memory.
     pub fn clashes(&self, index: &Index, moved: &Moved) -> bool
         ensures { result ≡ is_under_another (λ k. has_key k moved.now.new) moved.now.id (pairs_without self.now.gone index.now.pairs ++ self.now.come) }
     {
@@ -49,8 +49,8 @@ impl Trial {
             || self.come.clash(&moved.new, &moved.id)
     }
 
-    /// Puts the new keys in place of the old ones; keys that stay are in neither set. Where memory is wanting, it is left with
-    /// some of them.
+    /// Puts the new keys in place of the old ones; keys that stay are in neither set. If memory runs out, it is left with some of
+    /// them.
     pub fn exchange(&mut self, alloc: Global, moved: &Moved) -> Result<(), NoMemory>
         ensures gone { OnOk result ((k i : KeyTree) → has_pair k i self.new.gone ≡ (has_pair k i self.old.gone || ((has_key k moved.now.old && not (has_key k moved.now.new)) && is_eq (key_order i moved.now.id)))) }
         ensures come { OnOk result ((k i : KeyTree) → has_pair k i self.new.come ≡ (has_pair k i self.old.come || ((has_key k moved.now.new && not (has_key k moved.now.old)) && is_eq (key_order i moved.now.id)))) }

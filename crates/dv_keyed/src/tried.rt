@@ -18,9 +18,9 @@ use dv_order::Key;
 use dv_value::NoMemory;
 use std::alloc::Global;
 
-/// The `_id`s' keys of the pairs whose keys are in the bounds; an `_id` that has only one key may be left out, unless this is
-/// in all ranges that the filter sets. Of the two ways to find them the one that looks at fewer. Fails where memory is
-/// wanting.
+/// The `_id`s' keys of the pairs whose keys are in the bounds; an `_id` that has only one key may be left out, unless this is in
+/// all ranges that the filter sets. Of the two ways to find them the one that looks at fewer. Fails with `NoMemory` when memory
+/// runs out.
 pub fn ids_tried<'i>(
     alloc: Global,
     index: &'i Index,

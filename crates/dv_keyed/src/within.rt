@@ -19,7 +19,7 @@ use dv_order::{Key, key_of};
 use dv_value::{List, NoMemory, Value};
 use std::alloc::Global;
 
-/// The `_id`s' keys of the pairs whose keys are in the bounds, in no order. Fails where memory is wanting.
+/// The `_id`s' keys of the pairs whose keys are in the bounds, in no order. Fails with `NoMemory` when memory runs out.
 pub fn ids_within<'i>(
     alloc: Global,
     index: &'i Pairs,

@@ -20,9 +20,9 @@ use std::alloc::Global;
 /// The code of a document that is refused for want of memory.
 const WANT_OF_MEMORY: i32 = 900;
 
-/// Loads the documents of a file, which stand one behind the other, under a namespace: each as an insert of it alone, in
-/// order. The first fault ends it, and the documents in front of it stand. The file is read to its end first, so where
-/// the reader fails and where the file is too large the store is as it was.
+/// Loads the documents of a file, one after the other, under a namespace: each as an insert of only that document, in order. The
+/// first fault ends it, and the documents before it stay. The file is read to its end first. So if the reader fails, or if the file
+/// is too large, the store is as it was.
 pub fn load_file<R: ByteIn>(
     alloc: Global,
     store: &mut Store,
@@ -35,7 +35,7 @@ pub fn load_file<R: ByteIn>(
     load_file_telling(alloc, store, namespace, reader, &mut Untold)
 }
 
-/// Loads a file as `load_file` does, and tells behind each document how many are loaded.
+/// Loads a file as `load_file` does, and reports after each document how many are loaded.
 pub fn load_file_telling<R: ByteIn, P: Progress>(
     alloc: Global,
     store: &mut Store,

@@ -11,8 +11,8 @@ use std::io::{BufWriter, IsTerminal};
 use std::rt::Files;
 use std::{fs, io};
 
-/// A store with the documents of these files, in their order. `CannotRead` where a file can't be opened or not be read to its
-/// end, and else the fault of the first load that has one. Where standard error is a terminal, it shows how far a long load is.
+/// A store with the documents of these files, in their order. `CannotRead` if a file can't be opened or not be read to its end, and
+/// else the fault of the first load that has one. If standard error is a terminal, it shows how far a long load is.
 pub fn loaded<R, E>(rt: &R, standard_error: &E, loads: Vec<Load>) -> Result<Store, DocdFault>
 where
     R: Files + AllocGlobal,
@@ -33,8 +33,8 @@ where
     Ok(store)
 }
 
-/// Writes how many documents a file holds to standard output, as `check` does. `CannotRead` where it can't be opened or not be
-/// read to its end, and else the fault of the check.
+/// Writes how many documents a file holds to standard output, as `check` does. `CannotRead` if it can't be opened or not be read to
+/// its end, and else the fault of the check.
 pub fn check_file<R: Files + Print + AllocGlobal>(rt: &R, file: String) -> Result<(), DocdFault> {
     let alloc = rt.alloc();
     let writer = BufWriter::new(alloc, io::writer(rt)).map_err(|_| DocdFault::NoMemory)?;

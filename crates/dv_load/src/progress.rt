@@ -5,13 +5,13 @@ use std::io::IsTerminal;
 /// How many documents are loaded from one telling to the next.
 const STEP: usize = 100_000;
 
-/// What is told how far the load of a file is.
+/// What is called to report how far the load of a file is.
 pub trait Progress {
     /// So many of its documents are loaded.
     fn loaded(&mut self, count: usize);
 }
 
-/// Nobody is told.
+/// Reports nothing.
 #[derive(Clone, Copy)]
 pub struct Untold;
 
@@ -19,8 +19,8 @@ impl Progress for Untold {
     fn loaded(&mut self, _count: usize) {}
 }
 
-/// A line of a terminal, written over in place: how many documents of a file are loaded so far, each 100,000 and at the end.
-/// Where it isn't a terminal, or takes none, there is none.
+/// A line of a terminal, written over in place: how many documents of a file are loaded so far, each 100,000 and at the end. If it
+/// isn't a terminal, or takes none, nothing is written.
 #[derive(Drop)]
 pub struct TerminalLine<'a, E> {
     terminal: &'a E,
@@ -44,7 +44,7 @@ impl<'a, E: Eprint + IsTerminal> TerminalLine<'a, E> {
         let _ = eprint!(self.terminal; "\r{}: {} documents", self.file, self.count);
     }
 
-    /// Ends it with the last count, where it was begun.
+    /// Ends it with the last count, if it was begun.
     pub fn end(self) {
         if self.has_begun {
             self.write();

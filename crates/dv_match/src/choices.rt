@@ -12,8 +12,8 @@ use dv_order::compare;
 use dv_value::{List, NoMemory, Value};
 use std::marker::Model;
 
-/// The values of `$in`, `$nin` or `$all`, in written order. Beside them stand copies in the order of values, of equal ones
-/// one, among which a value is looked up.
+/// The values of `$in`, `$nin` or `$all`, in written order. It also has copies in the order of values, each of several equal ones
+/// once, among which a value is looked up.
 #[derive(Debug, Drop)]
 pub struct Choices {
     values: List,
@@ -37,7 +37,7 @@ impl Model for Choices {
 }
 
 impl Choices {
-    /// These values. Costs comparisons of n log n for n values. Fails where memory is wanting.
+    /// These values. Costs comparisons of n log n for n values. Fails with `NoMemory` when memory runs out.
     pub fn of(values: List) -> Result<Self, NoMemory>
         ensures { IfOk result (λ choices. choices ≡ values) }
     {
@@ -69,7 +69,7 @@ impl Choices {
         place_of(self.ascending(), value).is_some()
     }
 
-    /// A copy of its own. Fails where memory is wanting.
+    /// A copy of its own. Fails with `NoMemory` when memory runs out.
     pub fn try_clone(&self) -> Result<Self, NoMemory>
         ensures { IfOk result (λ copy. copy ≡ self.now) }
     {

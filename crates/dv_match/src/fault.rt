@@ -11,7 +11,7 @@ use std::fmt;
 /// Why a document is no filter. Its text is its name.
 #[derive(Clone, Copy, Debug, PartialEq, Eq)]
 pub enum FilterFault {
-    /// A name that begins with `$` and is no operator where it stands, or another name among operators.
+    /// A name that begins with `$` and is no operator at this place, or another name among operators.
     UnknownOperator,
     /// A value that the operator before it doesn't take.
     BadOperand,
@@ -19,7 +19,7 @@ pub enum FilterFault {
     EmptyList,
     /// A name that is no path: a component is empty or holds a zero byte.
     BadPath,
-    /// Memory is wanting.
+    /// Memory ran out.
     NoMemory,
 }
 

@@ -33,7 +33,7 @@ pub enum Condition {
     Eq(Value),
     /// `$ne`: no leaf compares equal to the value.
     Ne(Value),
-    /// `$gt`, `$gte`, `$lt`, `$lte`: some leaf is of the value's class and stands so to it.
+    /// `$gt`, `$gte`, `$lt`, `$lte`: some leaf is of the value's class and compares so to it.
     Bound(Range, Value),
     /// `$in`: some leaf compares equal to one of the values.
     In(Choices),
@@ -145,7 +145,7 @@ impl Model for Conditions {
 }
 
 impl Member {
-    /// A copy of its own. Fails where memory is wanting.
+    /// A copy of its own. Fails with `NoMemory` when memory runs out.
     #[cycle(copying)]
     pub fn try_clone(&self) -> Result<Self, NoMemory>
         ensures { IfOk result (λ copy. copy ≡ self.now) }
@@ -162,7 +162,7 @@ impl Member {
 }
 
 impl Condition {
-    /// A copy of its own. Fails where memory is wanting.
+    /// A copy of its own. Fails with `NoMemory` when memory runs out.
     #[cycle(copying)]
     pub fn try_clone(&self) -> Result<Self, NoMemory>
         ensures { IfOk result (λ copy. copy ≡ self.now) }
@@ -183,7 +183,7 @@ impl Condition {
 }
 
 impl Test {
-    /// A copy of its own. Fails where memory is wanting.
+    /// A copy of its own. Fails with `NoMemory` when memory runs out.
     #[cycle(copying)]
     pub fn try_clone(&self) -> Result<Self, NoMemory>
         ensures { IfOk result (λ copy. copy ≡ self.now) }
@@ -210,7 +210,7 @@ impl Filter {
         self.members.as_slice()
     }
 
-    /// A copy of its own. Fails where memory is wanting.
+    /// A copy of its own. Fails with `NoMemory` when memory runs out.
     #[cycle(copying)]
     pub fn try_clone(&self) -> Result<Self, NoMemory>
         ensures { IfOk result (λ copy. copy ≡ self.now) }
@@ -238,7 +238,7 @@ impl Filters {
         self.filters.as_slice()
     }
 
-    /// A copy of its own. Fails where memory is wanting.
+    /// A copy of its own. Fails with `NoMemory` when memory runs out.
     #[cycle(copying)]
     pub fn try_clone(&self) -> Result<Self, NoMemory>
         ensures { IfOk result (λ copy. copy ≡ self.now) }
@@ -266,7 +266,7 @@ impl Conditions {
         self.conditions.as_slice()
     }
 
-    /// A copy of its own. Fails where memory is wanting.
+    /// A copy of its own. Fails with `NoMemory` when memory runs out.
     #[cycle(copying)]
     pub fn try_clone(&self) -> Result<Self, NoMemory>
         ensures { IfOk result (λ copy. copy ≡ self.now) }

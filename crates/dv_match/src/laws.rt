@@ -39,13 +39,13 @@ pub fn no_member_matches_all()
     ensures { (d : List Field) → matches no_members d ≡ true }
 {}
 
-/// Where a path leads to one leaf alone, two bounds on it are an interval.
+/// If a path leads to only one leaf, two bounds on it are an interval.
 #[tactic(auto, using(crate::proofs::Few::interval))]
 pub fn bounds_on_one_leaf()
     ensures { (r s : Range) (v w : Tree) (wholes : List Candidate) (c : Candidate) → meets_all (more_conditions (in_range r v) (more_conditions (in_range s w) no_conditions)) wholes (c ∷ []) ≡ (is_in_range r v c && is_in_range s w c) }
 {}
 
-/// Where no array stands on the way of a path nor at its end, two bounds on it are an interval.
+/// If there is no array on the way of a path nor at its end, two bounds on it are an interval.
 pub fn bounds_without_arrays()
     ensures { (path : List (List ℕ)) (d : List Field) → meets_no_array path (Some (document (fields_of d))) ≡ true → (r s : Range) (v w : Tree) → meets_all (more_conditions (in_range r v) (more_conditions (in_range s w) no_conditions)) (whole d path) (leaves d path) ≡ (is_in_range r v (end_of path (Some (document (fields_of d)))) && is_in_range s w (end_of path (Some (document (fields_of d))))) }
 {}

@@ -22,10 +22,9 @@ use std::alloc::Global;
 impl Filter {
     /// The filter that the document is, or its first fault in written order.
     ///
-    /// A name `$and`, `$or` or `$nor` takes an array of filters, which isn't empty (`EmptyList`); any other name that
-    /// begins with `$` is refused (`UnknownOperator`), and any other must be a path (`BadPath`). Under a path stands an
-    /// operator list, which is a document whose first name begins with `$`, or else a value to be equal to. Fails with
-    /// `NoMemory` where memory is wanting.
+    /// A name `$and`, `$or` or `$nor` takes an array of filters, which isn't empty (`EmptyList`); any other name that begins with
+    /// `$` is refused (`UnknownOperator`), and any other must be a path (`BadPath`). Under a path is an operator list, which is a
+    /// document whose first name begins with `$`, or else a value to be equal to. Fails with `NoMemory` when memory runs out.
     #[cycle(parsing)]
     pub fn parse(alloc: Global, document: &Document) -> Result<Filter, FilterFault>
         ensures { Gives (λ filter. filter) result (defined.filter_in (fields_of document.now)) }
@@ -39,9 +38,9 @@ impl Filter {
 }
 
 impl Test {
-    /// What `$elemMatch` asks of an element: the document's operators, where its first name begins with `$` and isn't
-    /// `$and`, `$or` or `$nor`, and else the filter that the document is; or the first fault in written order. Fails
-    /// with `NoMemory` where memory is wanting.
+    /// What `$elemMatch` asks of an element: the document's operators, if its first name begins with `$` and isn't `$and`, `$or` or
+    /// `$nor`, and else the filter that the document is; or the first fault in written order. Fails with `NoMemory` when memory
+    /// runs out.
     #[cycle(parsing)]
     #[tactic(auto, unfolding(crate::specs::Parsing::test_in))]
     pub fn parse(alloc: Global, document: &Document) -> Result<Test, FilterFault>

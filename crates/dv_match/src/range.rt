@@ -1,6 +1,6 @@
 //! How a range operator compares.
 
-/// How a value stands to a bound, within the bound's class.
+/// How a value compares to a bound, within the bound's class.
 #[derive(Clone, Copy, Debug, PartialEq, Eq)]
 pub enum Range {
     /// `$gt`.

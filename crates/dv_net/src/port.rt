@@ -65,8 +65,8 @@ impl Channel for Stream {
     }
 }
 
-/// A port of this machine, and what is ready of its connections. Sockets are told ready once for what comes, so each is read
-/// until less comes than there is room for, and written until it takes none.
+/// A port of this machine, and which of its connections are ready. A socket is reported once as ready for what comes, so each is
+/// read until less comes than there is room for, and written until it takes none.
 #[derive(Drop)]
 pub struct Port {
     listener: TcpListener,
@@ -80,7 +80,7 @@ pub struct Port {
     turn: u64,
     /// Those that may be ready, each once, in turn.
     ready: Vec<u64>,
-    /// Those that are to be told once more.
+    /// Those that are to be reported once more.
     again: Vec<u64>,
 }
 

@@ -12,11 +12,11 @@ use dv_candidates::{Component, Path, behind};
 use dv_value::{Document, List, NoMemory, Value};
 use std::alloc::Global;
 
-/// The value of the path in the document, as an expression means it; `None` where it is missing.
+/// The value of the path in the document, as an expression means it; `None` if it is missing.
 ///
-/// A document's field is entered, and an array gives the array of what its elements that are documents give, without
-/// those that give nothing. A component never picks an element. Any other value on the way gives nothing. Fails where
-/// memory is wanting.
+/// In a document, a component leads to the field of that name. An array returns the array of what its elements that are documents
+/// return, without those that return nothing. A component never picks an element. Any other value on the way returns nothing. Fails
+/// with `NoMemory` when memory runs out.
 pub fn expr_value(
     alloc: Global,
     document: &Document,

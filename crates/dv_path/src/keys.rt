@@ -16,9 +16,9 @@ use dv_value::{Document, List, NoMemory, Value};
 use std::alloc::Global;
 use std::collections::BTreeSet;
 
-/// The keys of the document's leaves under the path, Missing having that of null: a leaf is what the path leads to, or an
-/// element of it where that is an array. Looks at each value of the document at most once for each of the path's
-/// components. Fails where memory is wanting.
+/// The keys of the document's leaves under the path, Missing having that of null: a leaf is what the path leads to, or if that is
+/// an array, an element of it. Looks at each value of the document at most once for each of the path's components. Fails with
+/// `NoMemory` when memory runs out.
 pub fn leaf_keys(alloc: Global, document: &Document, path: &Path) -> Result<BTreeSet<Key>, NoMemory>
     ensures { IfOk result (λ keys. (k : KeyTree) → contains key_order keys k ≡ is_leaf_key k path.now document.now) }
 {
@@ -40,7 +40,7 @@ fn with_leaves(mut keys: BTreeSet<Key>, candidate: Candidate<'_>) -> Result<BTre
     Ok(keys)
 }
 
-/// Adds the keys of the list's values to a set. Where memory is wanting, those of the first values are added, or none.
+/// Adds the keys of the list's values to a set. If memory runs out, those of the first values are added, or none.
 pub fn add_element_keys(keys: &mut BTreeSet<Key>, list: &List) -> Result<(), NoMemory>
     ensures ok { OnOk result ((k : KeyTree) → contains key_order keys.new k ≡ (contains key_order keys.old k || is_some_key k list.now)) }
     ensures part { OnErr result ((n : ℕ) × ((k : KeyTree) → contains key_order keys.new k ≡ (contains key_order keys.old k || is_some_key k (take n list.now)))) }
@@ -51,7 +51,7 @@ pub fn add_element_keys(keys: &mut BTreeSet<Key>, list: &List) -> Result<(), NoM
     Ok(())
 }
 
-/// Adds the candidate's key to a set. Where memory is wanting, nothing changes.
+/// Adds the candidate's key to a set. If memory runs out, nothing changes.
 pub fn add_key(keys: &mut BTreeSet<Key>, candidate: Candidate<'_>) -> Result<(), NoMemory>
     ensures ok { OnOk result ((k : KeyTree) → contains key_order keys.new k ≡ (contains key_order keys.old k || is_key_of k (or_null (seen candidate.entry)))) }
     ensures err { OnErr result ((k : KeyTree) → contains key_order keys.new k ≡ contains key_order keys.old k) }
@@ -60,7 +60,7 @@ pub fn add_key(keys: &mut BTreeSet<Key>, candidate: Candidate<'_>) -> Result<(),
     Ok(())
 }
 
-/// The candidate's key, Missing having that of null. Fails where memory is wanting.
+/// The candidate's key, Missing having that of null. Fails with `NoMemory` when memory runs out.
 pub fn candidate_key(candidate: Candidate<'_>) -> Result<Key, NoMemory>
     ensures { IfOk result (λ key. key ≡ value (canon (or_null (seen candidate.entry)))) }
 {
@@ -70,7 +70,7 @@ pub fn candidate_key(candidate: Candidate<'_>) -> Result<Key, NoMemory>
     }
 }
 
-/// The array that the candidate is; `None` where it is none.
+/// The array that the candidate is; `None` if it is none.
 pub fn array_in(candidate: Candidate<'_>) -> Option<&List>
     ensures { option_map (λ list. list.now) result ≡ candidates.array_in (seen candidate.entry) }
 {

@@ -17,7 +17,7 @@ ghost use Rattle.dv_path.specs.Slots.{slot, taken, blocked};
 ghost use Rattle.dv_candidates.specs.Path.{index_of};
 ghost use Rattle.dv_candidates.specs.Ways.{HasNoArray};
 
-/// What was put stands where its path leads.
+/// What was put is found where its path leads.
 #[tactic(auto, using(crate::proofs::Placed::slot_put, crate::proofs::Placed::whole_put))]
 pub fn what_was_put_is_there()
     ensures there { (fields : List Field) (name : List ℕ) (path : List (List ℕ)) (v : Tree) (after : List Field) → put fields (name ∷ path) v ≡ Ok after → slot after (name ∷ path) ≡ taken v }
@@ -31,7 +31,7 @@ pub fn slots_tell_what_is_put()
     ensures blocked { (fields : List Field) (path : List (List ℕ)) (v : Tree) → slot fields path ≡ blocked → put fields path v ≡ Err NotViable }
 {}
 
-/// Where no value is, nothing is taken away.
+/// If there is no value, nothing is taken away.
 pub fn what_is_not_there_is_not_removed()
     ensures { (fields : List Field) (path : List (List ℕ)) → ((there : Tree) → slot fields path ≢ taken there) → remove fields path ≡ fields }
 {}
@@ -42,34 +42,33 @@ pub fn other_fields_stay()
     ensures removed { (fields : List Field) (name : List ℕ) (path : List (List ℕ)) (other : List ℕ) → other ≢ name → value_under other (remove fields (name ∷ path)) ≡ value_under other fields }
 {}
 
-/// Where neither of two paths begins or equals the other, what the one leads to is no matter to what stands, or is put, where
-/// the other leads.
+/// If neither of two paths begins or equals the other, what is or is put where the one leads does not affect what is where the
+/// other leads.
 pub fn paths_that_part_are_independent()
     ensures slot { (fields : List Field) (p q : List (List ℕ)) → AreApart p q → slot (remove fields p) q ≡ slot fields q }
     ensures put { (fields : List Field) (p q : List (List ℕ)) (v : Tree) → AreApart p q → put (remove fields p) q v ≡ result_map (λ after. remove after p) (put fields q v) }
 {}
 
-/// The first field keeps its name and its place where a value is put, and stays as it is under a path that begins with
-/// another name.
+/// The first field keeps its name and its place when a value is put, and stays as it is under a path that begins with another name.
 pub fn the_first_field_stays_first()
     ensures named { (f : Field) (fs : List Field) (name : List ℕ) (path : List (List ℕ)) (v : Tree) (after : List Field) → put (f ∷ fs) (name ∷ path) v ≡ Ok after → (g : Field) × (rest : List Field) × (after ≡ g ∷ rest) × (g.0 ≡ f.0) }
     ensures put { (f : Field) (fs : List Field) (name : List ℕ) (path : List (List ℕ)) (v : Tree) (after : List Field) → name ≢ f.0 → put (f ∷ fs) (name ∷ path) v ≡ Ok after → (rest : List Field) × (after ≡ f ∷ rest) }
     ensures removed { (f : Field) (fs : List Field) (name : List ℕ) (path : List (List ℕ)) → name ≢ f.0 → (rest : List Field) × (remove (f ∷ fs) (name ∷ path) ≡ f ∷ rest) }
 {}
 
-/// Where the way holds no array, an expression gives what a filter finds.
+/// If there is no array on the way, an expression returns what a filter finds.
 #[tactic(auto, using(crate::proofs::Placed::whole_expr))]
 pub fn expressions_find_what_filters_do()
     ensures { (fields : List Field) (path : List (List ℕ)) → HasNoArray path (Some (document (fields_of fields))) → whole fields path ≡ expr fields path ∷ [] }
 {}
 
-/// What an expression finds in an array: what its documents give.
+/// What an expression finds in an array: what its documents return.
 #[tactic(auto, unfolding(crate::specs::Expression::expr))]
 pub fn example_of_an_expression()
     ensures { expr (one (codes "a") (list (doc ((codes "b", int 1) ∷ (codes "c", int 2) ∷ []) ∷ int 7 ∷ list (doc (one (codes "b") (int 3)) ∷ []) ∷ []))) (codes "a" ∷ codes "b" ∷ []) ≡ Some (list (int 1 ∷ [])) }
 {}
 
-/// What is put where: new fields last, documents for what is missing, nulls beyond an array's end.
+/// Where values are put: new fields last, documents for what is missing, nulls beyond an array's end.
 #[tactic(auto, unfolding(dv_candidates::specs::Path::index_of, crate::specs::Placing::put))]
 pub fn examples_of_putting()
     ensures in_its_place { put ((codes "a", int 1) ∷ (codes "b", int 2) ∷ []) (codes "a" ∷ []) (int 3) ≡ Ok ((codes "a", int 3) ∷ (codes "b", int 2) ∷ []) }
@@ -82,7 +81,7 @@ pub fn examples_of_putting()
     ensures too_far { put (one (codes "a") (list [])) (codes "a" ∷ codes "100001" ∷ []) (int 1) ≡ Err IndexTooLarge }
 {}
 
-/// What is taken away: a field, or an element, for which null stands.
+/// What is taken away: a field, or an element, which becomes null.
 #[tactic(auto, unfolding(dv_candidates::specs::Path::index_of, crate::specs::Removing::remove))]
 pub fn examples_of_removing()
     ensures a_field { remove ((codes "a", int 1) ∷ (codes "b", int 2) ∷ []) (codes "a" ∷ []) ≡ one (codes "b") (int 2) }

@@ -32,7 +32,7 @@ fn has_dollar(document: &Document) -> bool
     false
 }
 
-/// Whether a dot stands in the name. Takes no memory.
+/// Whether the name has a dot. Takes no memory.
 pub fn has_dot(name: &str) -> bool
     ensures { result ≡ defined.has_dot name.now }
 {

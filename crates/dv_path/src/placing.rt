@@ -18,14 +18,14 @@ pub(crate) const MOST_BEYOND: usize = 100_000;
 
 /// The document with the value where the path leads.
 ///
-/// A field that is there keeps its place, and a new one stands last. A field that is missing on the way becomes a document,
-/// whatever the next component is. An array is entered by a whole number alone; nulls fill the places between its end and one
-/// beyond it. Refused with `NotViable` where another value is in the way, or an array and the component is no whole number;
-/// with `IndexTooLarge` where the place is beyond an array's end and over 100,000; and with `NoMemory`. What was moved in is
-/// then dropped. The first two are told before memory is asked for.
+/// An existing field keeps its place, and a new one comes last. A field that is missing on the way becomes a document, whatever the
+/// next component is. An array is entered only by a whole number; nulls fill the places between its end and one beyond it. Refused
+/// with `NotViable` if another value is in the way, or an array and the component is no whole number; with `IndexTooLarge` if the
+/// place is beyond an array's end and over 100,000; and with `NoMemory`. What was moved in is then dropped. The first two are
+/// reported before memory is taken.
 ///
-/// What is on the way is changed in place, but for fields that a copy shares, which are copied first. The stack that it takes
-/// grows with the levels of what is on the way, at most 100 in a document that is stored, and not with the path.
+/// What is on the way is changed in place, except for fields that a copy shares, which are copied first. The stack that it takes
+/// grows with the levels of what is on the way, at most 100 in a stored document, and not with the path.
 pub fn put_at(
     alloc: Global,
     document: Document,

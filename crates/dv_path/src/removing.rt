@@ -11,12 +11,12 @@ use crate::slot::{Slot, slot_at};
 use dv_candidates::{Component, Path, behind};
 use dv_value::{Document, List, NoMemory, Value};
 
-/// The document without what stands where the path leads: a field is taken away, an element of an array becomes null.
+/// The document without what is where the path leads: a field is taken away, an element of an array becomes null.
 ///
-/// Nothing is changed, and no memory taken, where nothing stands there, also where the path leads through another value, or
-/// through an array by a component that is no whole number. Fails where memory is wanting; what was moved in is then dropped.
-/// What is on the way is changed in place, but for fields that a copy shares, which are copied first. The stack that it takes
-/// grows with the levels of what is on the way, at most 100 in a document that is stored.
+/// If nothing is there, nothing is changed, and no memory taken; also if the path leads through another value, or through an array
+/// by a component that is no whole number. Fails with `NoMemory` when memory runs out; what was moved in is then dropped. What is
+/// on the way is changed in place, except for fields that a copy shares, which are copied first. The stack that it takes grows with
+/// the levels of what is on the way, at most 100 in a stored document.
 pub fn remove_at(document: Document, path: &Path) -> Result<Document, NoMemory>
     ensures { IfOk result (λ changed. changed ≡ remove document path.now) }
 {

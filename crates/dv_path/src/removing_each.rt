@@ -19,12 +19,12 @@ use dv_candidates::{Component, Path};
 use dv_value::{Document, List, NoMemory, Value};
 use std::alloc::Global;
 
-/// The document without what stands where each of the paths leads, of which none begins or equals another one: a field is
-/// taken away, an element of an array becomes null.
+/// The document without what is where each of the paths leads, of which none begins or equals another one: a field is taken away,
+/// an element of an array becomes null.
 ///
-/// As `remove_at` of one path after the other, but fields of one document are taken away together: then the others are
-/// copied once. Nothing is changed where nothing stands. Fails where memory is wanting; what was moved in is then dropped.
-/// The stack that it takes grows with the levels of what is on the way, at most 100 in a document that is stored.
+/// As `remove_at` of one path after the other, but fields of one document are taken away together: then the others are copied once.
+/// If nothing is there, nothing is changed. Fails with `NoMemory` when memory runs out; what was moved in is then dropped. The
+/// stack that it takes grows with the levels of what is on the way, at most 100 in a stored document.
 pub fn remove_each(alloc: Global, document: Document, paths: &[&Path]) -> Result<Document, NoMemory>
     requires { AreAllApart (map (λ path. path.now) paths.now) }
     ensures { IfOk result (λ changed. changed ≡ apart.remove_each document (map (λ path. path.now) paths.now)) }

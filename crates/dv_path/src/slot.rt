@@ -9,7 +9,7 @@ ghost use Rattle.dv_path.specs.SlotView.{slot_seen};
 use dv_candidates::{Component, Path, behind};
 use dv_value::{Document, List, Value};
 
-/// What stands in a document where a value would be put.
+/// What is in a document at the place where a value would be put.
 #[derive(Clone, Copy, Debug)]
 pub enum Slot<'a> {
     /// A value.
@@ -21,7 +21,7 @@ pub enum Slot<'a> {
     Blocked,
 }
 
-/// What stands in the document where the path leads, an array being entered by a whole number alone. Takes no memory.
+/// What is in the document where the path leads, an array being entered only by a whole number. Takes no memory.
 pub fn slot_at<'a>(document: &'a Document, path: &Path) -> Slot<'a>
     ensures { slot_seen result ≡ slot document.now path.now }
 {

@@ -24,7 +24,7 @@ pub struct SortPart {
     pub direction: Direction,
 }
 
-/// What to sort by: the first path decides, where its keys are equal the second, and so on.
+/// What to sort by: the first path decides; if its keys are equal the second, and so on.
 #[derive(Debug, Drop)]
 pub struct SortSpec {
     parts: Vec<SortPart>,
@@ -43,9 +43,8 @@ impl Model for SortSpec {
 }
 
 impl SortSpec {
-    /// The sort that a document stands for: each name is a path, and its value a direction, 1 or -1 of either width.
-    /// `None` where a name is no path, a value no direction, or where there are not 1 to 32 of them. Fails where memory
-    /// is wanting.
+    /// The sort that a document describes: each name is a path, and its value a direction, 1 or -1 of either width. `None` if a
+    /// name is no path or a value no direction, or if there are not 1 to 32 of them. Fails with `NoMemory` when memory runs out.
     pub fn parse(alloc: Global, document: &Document) -> Result<Option<SortSpec>, NoMemory>
         ensures { IfOk result (λ spec. spec ≡ sort_spec_of document.now) }
     {
@@ -65,7 +64,7 @@ impl SortSpec {
         self.parts.as_slice()
     }
 
-    /// A copy of its own. Fails where memory is wanting.
+    /// A copy of its own. Fails with `NoMemory` when memory runs out.
     pub fn try_clone(&self) -> Result<Self, NoMemory>
         ensures { IfOk result (λ copy. copy ≡ self.now) }
     {

@@ -12,9 +12,9 @@ use dv_value::{Document, List, NoMemory, Value};
 
 /// The key by which the path sorts the document: ascending the least, descending the greatest of its candidates' keys.
 ///
-/// Missing counts as null, an array gives the keys of its elements, and an empty one the key that no value has; where
-/// there is no candidate, the key is that of null. Looks at each value of the document at most once for each of the
-/// path's components. Fails where memory is wanting.
+/// Missing counts as null, an array has the keys of its elements, and an empty one the key that no value has; if there is no
+/// candidate, the key is that of null. Looks at each value of the document at most once for each of the path's components. Fails
+/// with `NoMemory` when memory runs out.
 pub fn sort_key(document: &Document, path: &Path, direction: Direction) -> Result<Key, NoMemory>
     ensures { IfOk result (λ key. key ≡ sorting.sort_key document.now path.now direction) }
 {

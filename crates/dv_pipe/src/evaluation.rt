@@ -11,8 +11,8 @@ use crate::stage::Stage;
 use dv_value::{Document, NoMemory};
 use std::alloc::Global;
 
-/// The rows of the pipeline over the documents of `source`. A row that a stage passes on as it is shares its memory with
-/// the document. Fails where memory is wanting.
+/// The rows of the pipeline over the documents of `source`. A row that a stage passes on as it is shares its memory with the
+/// document. Fails with `NoMemory` when memory runs out.
 pub fn evaluate(
     alloc: Global,
     pipeline: &Pipeline,
@@ -30,8 +30,8 @@ pub fn evaluate(
     )
 }
 
-/// The rows that come out of stages of a pipeline over `source` where these rows go in. They share memory as those of
-/// `evaluate` do. Fails where memory is wanting.
+/// The rows that stages of a pipeline over `source` make of these rows. They share memory as those of `evaluate` do. Fails with
+/// `NoMemory` when memory runs out.
 pub fn rows_through(
     alloc: Global,
     stages: &[Stage],

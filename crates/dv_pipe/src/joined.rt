@@ -19,8 +19,8 @@ use dv_path::array_in;
 use dv_value::{Document, List, NoMemory, Value};
 use std::alloc::Global;
 
-/// A filter that all documents match with which some of the rows are joined: so the rows are joined with the same documents
-/// where only those that match it are there. Fails where memory is wanting.
+/// A filter that matches all documents with which some of the rows are joined. So the rows are joined with the same documents if
+/// only those that match it are there. Fails with `NoMemory` when memory runs out.
 pub fn filter_of_joined(
     alloc: Global,
     lookup: &Lookup,

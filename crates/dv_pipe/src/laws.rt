@@ -19,13 +19,13 @@ pub fn one_part_after_the_other()
     ensures { (first second : List Stage) (source : List ℕ) (lists : Lists) (rows : List Row) → through (first ++ second) source lists rows ≡ through second source lists (through first source lists rows) }
 {}
 
-/// What stands under a namespace that a pipeline doesn't read is no matter to it.
+/// What is under a namespace that a pipeline doesn't read does not matter to it.
 #[tactic(auto, using(crate::proofs::StageLaws::unread))]
 pub fn what_is_not_read_does_not_matter()
     ensures { (stages : List Stage) (source : List ℕ) (lists others : Lists) → ((name : List ℕ) → is_read stages source name ≡ true → lists name ≡ others name) → evaluated stages source lists ≡ evaluated stages source others }
 {}
 
-/// What stands under a namespace that stages don't look into is no matter to what comes out of them.
+/// What is under a namespace that stages don't look into does not matter to the rows that they return.
 #[tactic(auto, using(crate::proofs::StageLaws::through_same))]
 pub fn what_is_not_looked_into_does_not_matter()
     ensures { (stages : List Stage) (source : List ℕ) (lists others : Lists) (rows : List Row) → ((name : List ℕ) → list_any (λ s. is_source_named name (looked_into s source)) stages ≡ true → lists name ≡ others name) → through stages source lists rows ≡ through stages source others rows }
@@ -49,7 +49,7 @@ pub fn unwind_without_arrays()
     ensures { (u : Unwind) (rows foreign : List Row) → u.preserve ≡ false → AllByRecursion (HasNoArrayOnWay u.path) rows → stage (Stage.Unwind u) rows foreign ≡ filter (has_value u.path) rows }
 {}
 
-/// What a pipeline makes of valid documents is valid, where its stages were read from valid values.
+/// What a pipeline makes of valid documents is valid, if its stages were read from valid values.
 #[tactic(auto, using(crate::proofs::Valid::comes_out_valid))]
 pub fn what_comes_out_is_valid()
     ensures { (list : List Tree) (stages : List Stage) (source : List ℕ) (lists : Lists) → AreElements (elements_of list) → pipeline_of list ≡ Ok stages → ((name : List ℕ) → AllByRecursion (λ d. AreFields (fields_of d)) (lists name)) → AllByRecursion (λ d. AreFields (fields_of d)) (evaluated stages source lists) }

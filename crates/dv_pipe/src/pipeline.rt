@@ -41,8 +41,8 @@ impl Model for Pipeline {
 }
 
 impl Pipeline {
-    /// The pipeline of the documents, each of which is a stage, or its first fault in written order: `TooMany` is that of
-    /// a seventeenth stage. Fails with `NoMemory` where memory is wanting.
+    /// The pipeline of the documents, each of which is a stage, or its first fault in written order: `TooMany` is that of a
+    /// seventeenth stage. Fails with `NoMemory` when memory runs out.
     pub fn parse(alloc: Global, list: &[Value]) -> Result<Pipeline, PipelineFault>
         ensures { Gives (λ pipeline. pipeline) result (pipeline_of (map tree list.now)) }
     {
@@ -82,7 +82,7 @@ impl Pipeline {
         false
     }
 
-    /// A copy of its own. Fails where memory is wanting.
+    /// A copy of its own. Fails with `NoMemory` when memory runs out.
     pub fn try_clone(&self) -> Result<Self, NoMemory>
         ensures { IfOk result (λ copy. copy ≡ self.now) }
     {

@@ -203,7 +203,7 @@ fn cut(rows: Vec<Document>, most: Option<usize>) -> Vec<Document>
     left
 }
 
-/// References to the rows. Fails where memory is wanting.
+/// References to the rows. Fails with `NoMemory` when memory runs out.
 pub fn references<'r>(alloc: Global, rows: &'r [Document]) -> Result<Vec<&'r Document>, NoMemory>
     ensures { IfOk result (λ lent. rows_referred lent.items ≡ rows.now) }
 {

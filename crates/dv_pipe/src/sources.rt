@@ -51,7 +51,7 @@ impl<'a> Sources<'a> {
         }
     }
 
-    /// Adds a namespace with its documents behind the others. Fails where memory is wanting; then nothing is changed.
+    /// Adds a namespace with its documents after the others. Fails with `NoMemory` when memory runs out; then nothing is changed.
     pub fn add(&mut self, namespace: &str, documents: Vec<&'a Document>) -> Result<(), NoMemory>
         ensures ok { OnOk result (self.new ≡ self.old ++ (namespace.now, rows_referred documents.entry.items) ∷ []) }
         ensures err { OnErr result (self.new ≡ self.old) }
@@ -65,8 +65,7 @@ impl<'a> Sources<'a> {
         Ok(())
     }
 
-    /// The documents of the namespace: those that were added first under this name, and none where it isn't there. Takes
-    /// no memory.
+    /// The documents of the namespace: those that were added first under this name, and none if it isn't there. Takes no memory.
     pub fn get(&self, namespace: &str) -> &[&'a Document]
         ensures { rows_referred result.now ≡ rows_under namespace.now self.now }
     {

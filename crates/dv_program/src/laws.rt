@@ -8,8 +8,8 @@ ghost use Rattle.dv_program.specs.Events.{TellsEvents, TellsLines, events_of, sc
 ghost use Rattle.dv_program.specs.Script.{DoesOneLine, Runs, OpenSessions, is_lf};
 ghost use Rattle.dv_words.specs.declared.said.Line.{Line};
 
-/// A script is a schedule: a line is a play of its events, and what it writes tells what is said of them. So what a script
-/// does to its hub is one play of the events of its lines, joined in the lines' order, and its text is what they write.
+/// A script is a schedule: a line is a play of its events, and it writes what is said of them. So what a script does to its hub is
+/// one play of the events of its lines, joined in the lines' order, and its text is what they write.
 pub fn a_script_is_a_schedule()
     ensures line { (old new : OpenSessions) (line : Line) (text : List ℕ) → DoesOneLine old line text new
         → (all : List Said) × Plays old.hub (events_of old line) all new.hub × TellsEvents line all text }

@@ -11,10 +11,10 @@ use dv_streams::{Failed, TextOut};
 use dv_wire::{Hub, laws};
 use std::alloc::Global;
 
-/// Connections, of which a line is written where one ends, and flushed: `connection K ended`, with its number from 1 in the order
-/// in which they came; `connection K closed F` where a closing fault of this number ended it, or 6 where there is no room for more
-/// of an unfinished message; `connection K failed` where it failed, or no session was had. Where the writer fails, waiting for
-/// more connections fails too.
+/// Connections. When one ends, a line is written and flushed: `connection K ended`, with its number from 1 in the order in which
+/// they came; `connection K closed F` if a closing fault of this number ended it, or 6 if there is no room for more of an
+/// unfinished message; `connection K failed` if it failed, or if no session could be opened. If the writer fails, waiting for more
+/// connections fails too.
 #[derive(Drop)]
 pub struct Telling<O: Outside, W: TextOut> {
     outside: O,

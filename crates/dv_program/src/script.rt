@@ -19,16 +19,16 @@ use std::alloc::Global;
 /// The most reads that a script takes.
 const MOST_READS: u64 = 4_294_967_296;
 
-/// Reads a script to its end and does each line as it comes. A number's session is opened at the number's first line,
-/// and anew after its end. Each reply is written as the number, a space and the reply's bytes in lower case; a session
-/// that is closed as `N closed F`, once, with the fault's number; an end as `N end R`, with the bytes of an unfinished
-/// message. Bytes for a closed session are dropped. What is written is flushed before each read, and at the end.
+/// Reads a script to its end and carries out each line as it comes. A number's session is opened at the number's first line, and
+/// again after its end. Each reply is written as the number, a space and the reply's bytes in lower case; a session that is closed
+/// as `N closed F`, once, with the fault's number; an end as `N end R`, with the bytes of an unfinished message. Bytes for a closed
+/// session are dropped. What is written is flushed before each read, and at the end.
 ///
-/// The first fault ends the script; what was written before stays written. The hub keeps the sessions that the script
-/// hasn't ended. Lines count from 1, those that are skipped too. Behind `BadLine` and `Sessions` the lines in front of that
-/// one are done and answered, and nothing is done of it. So it is behind `NoMemory`, but that line may be done too, and not
-/// answered; behind `Write` its answer may be written in part. Behind `Read` and `TooManyReads` each line that was read to
-/// its LF is done and answered.
+/// The first fault ends the script; what was written before stays written. The hub keeps the sessions that the script hasn't ended.
+/// Lines count from 1, those that are skipped too. After `BadLine` and `Sessions` the lines before that one are done and answered,
+/// and nothing of that line is done. The same holds after `NoMemory`, but that line may be done too, and not answered; after
+/// `Write` its answer may be written in part. After `Read` and `TooManyReads` each line that was read to its LF is done and
+/// answered.
 pub fn script<R: ByteIn, W: TextOut>(
     alloc: Global,
     hub: &mut Hub,

@@ -106,14 +106,13 @@ fn connection(
     Ok((CountedReader::of(stream), CountedWriter::of(writer)))
 }
 
-/// Serves so many connections, one after the other, each by a session of the hub from its first byte to its last, and then
-/// closes it: the replies to a connection go to its output. Behind each its number, from 1, and how it ended is written as a
-/// line, and flushed, before the next one is waited for: `connection K ended`; `connection K closed F` where a closing fault
-/// of this number ended it; `connection K failed` where its reader or its writer failed, it took too many reads, or no
-/// session was had.
+/// Serves so many connections, one after the other, each by a session of the hub from its first byte to its last, and then closes
+/// it: the replies to a connection go to its output. After each, its number, from 1, and how it ended is written as a line, and
+/// flushed, before the next one is waited for: `connection K ended`; `connection K closed F` if a closing fault of this number
+/// ended it; `connection K failed` if its reader or its writer failed, it took too many reads, or no session could be opened.
 ///
-/// Fails with `Accept` where no connection is had and with `Write` where the writer fails. What was served stands; behind
-/// `Write` the last connection's line wasn't written or not flushed, and those in front of it were.
+/// Fails with `Accept` if no connection comes and with `Write` if the writer fails. What was served stays; after `Write` the last
+/// connection's line wasn't written or not flushed, and those before it were.
 #[tactic(auto, using(crate::proofs::Served::all_served, crate::proofs::Served::none_accepted))]
 pub fn serve_on<L: Listener, W: TextOut>(
     alloc: Global,

@@ -8,7 +8,7 @@ use dv_words::line::NUMBERS;
 /// How many places the table has: one for each number.
 const PLACES: usize = NUMBERS as usize;
 
-/// What stands under a number of the script.
+/// What is under a number of the script.
 #[derive(Clone, Copy)]
 pub struct Session {
     /// The session's number in the hub.

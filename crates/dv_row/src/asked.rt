@@ -31,9 +31,8 @@ pub(crate) struct Asked {
 }
 
 impl Project {
-    /// The projection that the value is, a document that isn't empty, or its first fault in written order: `BadSpec`, or
-    /// `Conflict` where a path equals or begins one before it, or is begun by one. Fails with `NoMemory` where memory is
-    /// wanting.
+    /// The projection that the value is, a document that isn't empty, or its first fault in written order: `BadSpec`, or `Conflict`
+    /// if a path equals or begins one before it, or is begun by one. Fails with `NoMemory` when memory runs out.
     #[tactic(auto, unfolding(crate::specs::ProjectParsing::project_in))]
     pub fn parse(alloc: Global, value: &Value) -> Result<Project, PipelineFault>
         ensures { Gives (λ project. project) result (defined.project_in (tree value.now)) }

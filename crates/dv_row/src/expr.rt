@@ -33,7 +33,7 @@ pub enum Expr {
 pub struct ComputedField {
     /// The field's name.
     pub name: Str,
-    /// What gives its value.
+    /// The expression of its value.
     pub expr: Expr,
 }
 
@@ -67,7 +67,7 @@ impl Model for Computed {
 }
 
 impl Expr {
-    /// The value over the row; `None` where it is missing. Fails where memory is wanting.
+    /// The value over the row; `None` if it is missing. Fails with `NoMemory` when memory runs out.
     #[cycle(values)]
     #[tactic(auto, unfolding(crate::specs::Expressions::value_of))]
     pub fn value(&self, alloc: Global, row: &Document) -> Result<Option<Value>, NoMemory>
@@ -84,8 +84,8 @@ impl Expr {
         }
     }
 
-    /// The value over the row, without a copy where it stands in the row or in the expression; `None` where it is missing.
-    /// Fails where memory is wanting.
+    /// The value over the row, without a copy if it is in the row or in the expression; `None` if it is missing. Fails with
+    /// `NoMemory` when memory runs out.
     #[tactic(auto, unfolding(crate::specs::Expressions::value_of))]
     pub fn value_in<'a>(
         &'a self,
@@ -101,7 +101,7 @@ impl Expr {
         }
     }
 
-    /// A copy of its own. Fails where memory is wanting.
+    /// A copy of its own. Fails with `NoMemory` when memory runs out.
     #[cycle(expr_copying)]
     pub fn try_clone(&self) -> Result<Self, NoMemory>
         ensures { IfOk result (λ copy. copy ≡ self.now) }
@@ -115,7 +115,7 @@ impl Expr {
 }
 
 impl ComputedField {
-    /// A copy of its own. Fails where memory is wanting.
+    /// A copy of its own. Fails with `NoMemory` when memory runs out.
     #[cycle(expr_copying)]
     pub fn try_clone(&self) -> Result<Self, NoMemory>
         ensures { IfOk result (λ copy. copy ≡ self.now) }
@@ -159,7 +159,7 @@ impl Computed {
         Ok(())
     }
 
-    /// A copy of its own. Fails where memory is wanting.
+    /// A copy of its own. Fails with `NoMemory` when memory runs out.
     #[cycle(expr_copying)]
     pub fn try_clone(&self) -> Result<Self, NoMemory>
         ensures { IfOk result (λ copy. copy ≡ self.now) }
@@ -172,8 +172,8 @@ impl Computed {
     }
 }
 
-/// A row without fields that expects those of the row before it, where there is one: fields of the same names share them.
-/// Fails where memory is wanting.
+/// A row without fields that expects those of the row before it, if there is one: fields of the same names share them. Fails with
+/// `NoMemory` when memory runs out.
 pub fn row_beside(alloc: Global, before: Option<&Document>) -> Result<Document, NoMemory>
     ensures { IfOk result (λ row. row ≡ []) }
 {
@@ -183,8 +183,8 @@ pub fn row_beside(alloc: Global, before: Option<&Document>) -> Result<Document, 
     }
 }
 
-/// A copy of the document with its own list of values. The row before it lends its names, where there is one. Fails where
-/// memory is wanting.
+/// A copy of the document with its own list of values. The row before it lends its names, if there is one. Fails with `NoMemory`
+/// when memory runs out.
 pub fn copy_beside(
     alloc: Global,
     document: &Document,
@@ -202,8 +202,8 @@ pub fn copy_beside(
     Ok(copy)
 }
 
-/// Puts a field behind those of the document, where there is a value. A name that stands there already, or that no field
-/// may have, is left out. Fails where memory is wanting; then nothing is changed.
+/// Puts a field after those of the document, if there is a value. A name that the document has already, or that no field may have,
+/// is left out. Fails with `NoMemory` when memory runs out; then nothing is changed.
 pub fn push_field(document: &mut Document, name: &str, value: Option<Value>) -> Result<(), NoMemory>
     ensures ok { OnOk result (document.new ≡ defined.with_field_behind name.now (option_map tree value) document.old) }
     ensures err { OnErr result (document.new ≡ document.old) }

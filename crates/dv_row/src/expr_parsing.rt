@@ -17,9 +17,9 @@ use dv_value::{Document, Str, Value, begins_with_dollar};
 use std::alloc::Global;
 
 impl Expr {
-    /// The expression that the value is: the path behind a dollar sign, the value of `$literal`, a document of expressions,
-    /// whose names hold no dot and begin with no dollar sign, or what stands for itself, as any other value but an array
-    /// does. Refused with `BadSpec` where it is none, and with `NoMemory`.
+    /// The expression that the value is: the path after a dollar sign, the value of `$literal`, a document of expressions, whose
+    /// names hold no dot and begin with no dollar sign, or the value itself, for any other value except an array. Refused with
+    /// `BadSpec` if it is none, and with `NoMemory`.
     pub fn parse(alloc: Global, value: &Value) -> Result<Expr, PipelineFault>
         ensures { Gives expression_seen result (defined.expression_in true (tree value.now)) }
     {

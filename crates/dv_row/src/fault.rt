@@ -21,7 +21,7 @@ pub enum PipelineFault {
     Conflict,
     /// A seventeenth stage.
     TooMany,
-    /// Memory is wanting.
+    /// Memory ran out.
     NoMemory,
 }
 

@@ -25,7 +25,7 @@ ghost use Rattle.dv_row.specs.Shown.{AreNamesApart, Level, bare_level, begins_wi
 ghost use Rattle.dv_row.specs.Unwinding.{reached, unwound};
 ghost use Rattle.dv_row.specs.Valid.{AreValid, IsValid};
 
-/// What comes of a valid row is valid, where what says so was read from a valid value.
+/// What is made of a valid row is valid, if the form was read from a valid value.
 #[tactic(auto, using(crate::proofs::Sound::value_valid, crate::proofs::Sound::row_valid, crate::proofs::Sound::unwound_valid))]
 pub fn what_comes_of_a_valid_row_is_valid()
     ensures values { (plain : Bool) (v : Tree) (e : Expression) (row : Row) → IsValue v → expression_in plain v ≡ Ok e → IsValid row → IfSome (value_of e row) IsValue }
@@ -33,16 +33,16 @@ pub fn what_comes_of_a_valid_row_is_valid()
     ensures unwound { (u : unwinds.Unwind) (row : Row) → IsValid row → AreValid (unwound u row) }
 {}
 
-/// An `$unwind` gives a row for each element, in their order: the row with the element put in the array's place. Of a value
-/// that is no array it gives the row as it is.
+/// An `$unwind` returns a row for each element, in their order: the row with the element put in the array's place. For a value that
+/// is no array it returns the row as it is.
 #[tactic(auto, using(crate::proofs::ElementRows::a_row_each, crate::proofs::ElementRows::the_row_itself))]
 pub fn each_element_has_its_row()
     ensures elements { (u : unwinds.Unwind) (row : Row) (v : Tree) (vs : Elements) → reached u.path row ≡ Some (array (element v vs)) → map (put row u.path) (v ∷ list_of_elements vs) ≡ map Ok (unwound u row) }
     ensures itself { (u : unwinds.Unwind) (row : Row) (v : Tree) → reached u.path row ≡ Some v → v ≢ null → ((vs : Elements) → v ≢ array vs) → unwound u row ≡ row ∷ [] }
 {}
 
-/// Nothing, null and an array of no elements give no row. Where such rows are preserved each gives one: as it is, or without
-/// the empty array; the others give what they gave.
+/// For nothing, null and an array of no elements no row is returned. If such rows are preserved, each is returned: as it is, or
+/// without the empty array. For the others the same rows are returned.
 #[tactic(auto, using(crate::proofs::ElementRows::no_row, crate::proofs::ElementRows::preserved_row, crate::proofs::ElementRows::without_the_array, crate::proofs::ElementRows::no_more))]
 pub fn what_is_dropped_can_be_preserved()
     ensures dropped { (path : List (List ℕ)) (row : Row) → (reached path row ≡ None) ⊎ (reached path row ≡ Some null) ⊎ (reached path row ≡ Some (array no_elements)) → unwound (unwinding path false) row ≡ [] }
@@ -51,7 +51,7 @@ pub fn what_is_dropped_can_be_preserved()
     ensures no_more { (path : List (List ℕ)) (row first : Row) (rest : List Row) → unwound (unwinding path false) row ≡ first ∷ rest → unwound (unwinding path true) row ≡ first ∷ rest }
 {}
 
-/// Of a row's fields those that a path names stay, each as it is, and those that hold others where a path leads through them;
+/// Of a row's fields those that a path names stay, each as it is, and those that hold others stay if a path leads through them;
 /// nothing else stays, and the order is the row's.
 #[tactic(auto, using(crate::proofs::ShownFields::included_names, crate::proofs::ShownFields::included_kept))]
 pub fn included_fields_alone_stay()
@@ -66,7 +66,7 @@ pub fn excluded_fields_alone_go()
     ensures kept { (paths : List (List (List ℕ))) (row : Row) → filter (λ f. not (is_met paths f)) (projected (Exclude paths) row) ≡ filter (λ f. not (is_met paths f)) row }
 {}
 
-/// A field that no excluded path begins with stays as it is, where it stands, whatever becomes of the others.
+/// A field that no excluded path begins with stays as it is, at its place, whatever becomes of the others.
 #[tactic(auto, using(crate::proofs::Levels::excluded_stays))]
 pub fn other_fields_stay_where_they_stand()
     ensures { (paths : List (List (List ℕ))) (front back : Row) (f : Field) → is_met paths f ≡ false → projected (Exclude paths) (front ++ f ∷ back) ≡ projected (Exclude paths) front ++ f ∷ projected (Exclude paths) back }
@@ -84,8 +84,8 @@ pub fn documents_are_shown_as_rows()
         → projected (Exclude paths) ((name, document (fields_of d)) ∷ []) ≡ (name, document (fields_of (projected (Exclude (paths_behind name paths)) d))) ∷ [] }
 {}
 
-/// However deep a document lies, an included path that leads through its levels keeps at each of them that document alone, and in
-/// it what the rest of the path keeps; an excluded one takes out what its rest takes out there, and nothing else at any level. No
+/// At any depth of documents, an included path that leads through the levels keeps at each of them only that document, and in it
+/// what the rest of the path keeps; an excluded one takes out what its rest takes out there, and nothing else at any level. No
 /// other field of a level has the name that the path has there.
 #[tactic(auto, using(crate::proofs::Levels::included_deep, crate::proofs::Levels::excluded_deep))]
 pub fn paths_lead_through_levels()
@@ -95,14 +95,14 @@ pub fn paths_lead_through_levels()
         → projected (Exclude ((way_through levels ++ name ∷ rest) ∷ [])) (within levels d) ≡ within levels (projected (Exclude ((name ∷ rest) ∷ [])) d) }
 {}
 
-/// Where a stage says nothing of `_id`, that stays as it is, beside what is included or computed and beside what is excluded.
+/// If a stage says nothing of `_id`, that stays as it is, beside what is included or computed and beside what is excluded.
 #[tactic(auto, using(crate::proofs::Ids::unasked_id_stays))]
 pub fn an_id_that_is_not_asked_for_stays()
     ensures { (members row : List Field) (p : projects.Project) → project_in (document (fields_of members)) ≡ Ok p → has_name (codes "_id") members ≡ false
         → filter (λ f. bytes_eq f.0 (codes "_id")) (projected p row) ≡ filter (λ f. bytes_eq f.0 (codes "_id")) row }
 {}
 
-/// `_id` stays beside what is included and beside what is excluded, and goes where it is excluded itself, alone or beside either.
+/// `_id` stays beside what is included and beside what is excluded, and goes if it is excluded itself, by itself or beside either.
 #[tactic(auto, using(crate::proofs::Worked::id_stays_included, crate::proofs::Worked::id_stays_excluded, crate::proofs::Worked::id_goes_alone, crate::proofs::Worked::id_goes_included, crate::proofs::Worked::id_goes_excluded))]
 pub fn examples_of_ids()
     ensures stays_beside_included { (id a b : Tree) → shown ((codes "a", int 1) ∷ []) ((codes "_id", id) ∷ (codes "a", a) ∷ (codes "b", b) ∷ []) ≡ Ok ((codes "_id", id) ∷ (codes "a", a) ∷ []) }
@@ -112,14 +112,14 @@ pub fn examples_of_ids()
     ensures goes_beside_excluded { (id a b : Tree) → shown ((codes "a", int 0) ∷ (codes "_id", int 0) ∷ []) ((codes "_id", id) ∷ (codes "a", a) ∷ (codes "b", b) ∷ []) ≡ Ok ((codes "b", b) ∷ []) }
 {}
 
-/// Behind what is included stand the computed fields, in the stage's order, each with the value of its expression over the row;
-/// one without a value is left out. The names are apart, and no path begins with one of them.
+/// After what is included come the computed fields, in the stage's order, each with the value of its expression over the row; one
+/// without a value is left out. No two names are equal, and no path begins with one of them.
 #[tactic(auto, using(crate::proofs::ComputedFields::computed_stand_last))]
 pub fn computed_fields_stand_last()
     ensures { (paths : List (List (List ℕ))) (es : List (List ℕ × Expression)) (row : Row) → AreNamed (map (λ e. bare e.0) es) → AllByRecursion (λ e. list_any (begins_with_name e.0) paths ≡ false) es → projected (Include paths (computed_of es)) row ≡ projected (Include paths nothing) row ++ computed_fields es row }
 {}
 
-/// An array of which nothing is left stays; int64s are switches; `_id` stays in front, and what is computed stands last.
+/// An array of which nothing is left stays; int64s are switches; `_id` stays first, and what is computed comes last.
 #[tactic(auto, using(crate::proofs::Worked::arrays_stay, crate::proofs::Worked::a_long_on, crate::proofs::Worked::a_long_off, crate::proofs::Worked::computed_behind))]
 pub fn examples_of_showing()
     ensures arrays_stay { shown ((codes "a.c", int 1) ∷ (codes "b.c", int 1) ∷ []) ((codes "_id", int 1) ∷ (codes "a", list (int 7 ∷ [])) ∷ (codes "b", list []) ∷ []) ≡ Ok ((codes "_id", int 1) ∷ (codes "a", list []) ∷ (codes "b", list []) ∷ []) }
@@ -128,7 +128,7 @@ pub fn examples_of_showing()
     ensures computed_behind { shown ((codes "x", text (codes "$b")) ∷ (codes "y", text (codes "$c")) ∷ (codes "a", int 1) ∷ []) ((codes "_id", int 1) ∷ (codes "a", int 5) ∷ (codes "b", int 6) ∷ []) ≡ Ok ((codes "_id", int 1) ∷ (codes "a", int 5) ∷ (codes "x", int 6) ∷ []) }
 {}
 
-/// Forms that are refused: a dollar sign with no path behind it, a switch inside a document, a field that is computed beside one
+/// Forms that are refused: a dollar sign with no path after it, a switch inside a document, a field that is computed beside one
 /// that is excluded, a part of `_id`, null for a boolean.
 #[tactic(auto, using(crate::proofs::Worked::a_dollar_alone, crate::proofs::Worked::an_empty_component, crate::proofs::Worked::a_switch_inside, crate::proofs::Worked::computed_after_excluded, crate::proofs::Worked::excluded_after_computed, crate::proofs::Worked::a_part_of_id, crate::proofs::Worked::unwinding_a_dollar, crate::proofs::Worked::preserving_null))]
 pub fn forms_that_are_refused()

@@ -8,8 +8,8 @@ use dv_candidates::Path;
 use dv_value::NoMemory;
 use std::marker::Model;
 
-/// Paths in written order. Beside them stands a copy in the order of their components, among which those that lead through
-/// a name are looked up.
+/// Paths in written order. It also has a copy in the order of their components, among which those that lead through a name are
+/// looked up.
 #[derive(Debug, Drop)]
 pub struct Paths {
     paths: Vec<Path>,
@@ -28,7 +28,7 @@ impl Model for Paths {
 }
 
 impl Paths {
-    /// The list of these paths. Costs comparisons of n log n for n paths. Fails where memory is wanting.
+    /// The list of these paths. Costs comparisons of n log n for n paths. Fails with `NoMemory` when memory runs out.
     pub fn of(paths: Vec<Path>) -> Result<Self, NoMemory>
         ensures { IfOk result (λ list. list ≡ paths.items) }
     {
@@ -51,7 +51,7 @@ impl Paths {
         Ways::of(self.ascending.as_slice())
     }
 
-    /// A copy of its own. Fails where memory is wanting.
+    /// A copy of its own. Fails with `NoMemory` when memory runs out.
     pub fn try_clone(&self) -> Result<Self, NoMemory>
         ensures { IfOk result (λ copy. copy ≡ self.now) }
     {

@@ -18,22 +18,22 @@ use std::alloc::Global;
 /// What is shown of a row.
 #[derive(Debug, Drop)]
 pub enum Project {
-    /// What the paths lead to, in the row's order, and behind it the computed fields. Paths go into each document of an
-    /// array, and into arrays in arrays; other elements go, and fields on a path's way that are neither.
+    /// What the paths lead to, in the row's order, and after it the computed fields. Paths go into each document of an array, and
+    /// into arrays in arrays; other elements go, and fields on a path's way that are neither.
     Include(Paths, Computed),
     /// All but what the paths lead to.
     Exclude(Paths),
 }
 
 impl Project {
-    /// What is shown of the row. Fails where memory is wanting.
+    /// What is shown of the row. Fails with `NoMemory` when memory runs out.
     pub fn row(&self, alloc: Global, row: &Document) -> Result<Document, NoMemory>
         ensures { IfOk result (λ shown. shown ≡ defined.projected self.now row.now) }
     {
         self.row_behind(alloc, row, None)
     }
 
-    /// The same. What was shown of the row before it lends its names, where there is one.
+    /// The same. What was shown of the row before it lends its names, if there is one.
     #[tactic(auto, unfolding(crate::specs::Projecting::projected))]
     pub fn row_behind(
         &self,
@@ -53,7 +53,7 @@ impl Project {
         }
     }
 
-    /// A copy of its own. Fails where memory is wanting.
+    /// A copy of its own. Fails with `NoMemory` when memory runs out.
     pub fn try_clone(&self) -> Result<Self, NoMemory>
         ensures { IfOk result (λ copy. copy ≡ self.now) }
     {

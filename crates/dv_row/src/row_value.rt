@@ -15,7 +15,7 @@ use std::alloc::Global;
 /// The value of an expression over a row.
 #[derive(Debug, Drop)]
 pub enum RowValue<'a> {
-    /// One that stands in the row or in the expression.
+    /// One that is in the row or in the expression.
     Lent(&'a Value),
     /// One that was made for the row.
     Made(Value),
@@ -32,7 +32,7 @@ impl<'a> RowValue<'a> {
         }
     }
 
-    /// The value itself, or a copy of one that stands elsewhere. Fails where memory is wanting.
+    /// The value itself, or a copy of one that is lent. Fails with `NoMemory` when memory runs out.
     pub fn into_value(self) -> Result<Value, NoMemory>
         ensures { IfOk result (λ value. tree value ≡ row_value self.entry) }
     {

@@ -22,13 +22,13 @@ use std::alloc::Global;
 pub struct Unwind {
     /// The path.
     pub path: Path,
-    /// Whether a row stays where the path leads to nothing, to null or to an empty array, which is taken out of it.
+    /// Whether a row stays if the path leads to nothing, to null or to an empty array, which is taken out of it.
     pub preserve: bool,
 }
 
 impl Unwind {
-    /// The unwinding that the value is: `"$path"`, or a document with a path and `preserveNullAndEmptyArrays`, a boolean
-    /// that may be left out. Refused with `BadSpec` where it is none, and with `NoMemory`.
+    /// The unwinding that the value is: `"$path"`, or a document with a path and `preserveNullAndEmptyArrays`, a boolean that may
+    /// be left out. Refused with `BadSpec` if it is none, and with `NoMemory`.
     #[tactic(auto, unfolding(crate::specs::Parsing::unwind_in))]
     pub fn parse(alloc: Global, value: &Value) -> Result<Unwind, PipelineFault>
         ensures { Gives (λ unwind. unwind) result (parsing.unwind_in (tree value.now)) }
@@ -61,7 +61,7 @@ impl Unwind {
         Ok(Unwind { path, preserve })
     }
 
-    /// The rows of a row. Fails where memory is wanting.
+    /// The rows of a row. Fails with `NoMemory` when memory runs out.
     pub fn rows(&self, alloc: Global, row: &Document) -> Result<Vec<Document>, NoMemory>
         ensures { IfOk result (λ rows. rows.items ≡ defined.unwound self.now row.now) }
     {
@@ -70,7 +70,7 @@ impl Unwind {
         Ok(rows)
     }
 
-    /// Puts the rows of a row behind others. Fails where memory is wanting; then some of them may stand there.
+    /// Appends the rows of a row to others. Fails with `NoMemory` when memory runs out; then some of them may have been appended.
     #[tactic(auto, unfolding(crate::specs::Unwinding::unwound))]
     pub fn push_rows(&self, row: &Document, rows: &mut Vec<Document>) -> Result<(), NoMemory>
         ensures rows { OnOk result (rows.new.items ≡ rows.old.items ++ defined.unwound self.now row.now) }
@@ -123,7 +123,7 @@ impl Unwind {
         Ok(())
     }
 
-    /// A copy of its own. Fails where memory is wanting.
+    /// A copy of its own. Fails with `NoMemory` when memory runs out.
     pub fn try_clone(&self) -> Result<Self, NoMemory>
         ensures { IfOk result (λ copy. copy ≡ self.now) }
     {

@@ -13,14 +13,13 @@ pub fn rows_are_the_same()
     ensures { (parts : List Part) (rows : List (List Field)) → IsPermutation rows (stable parts rows) }
 {}
 
-/// No row stands before an earlier one, and rows that stand beside each other keep their order.
+/// No row comes before an earlier one, and equal rows keep their order.
 pub fn rows_stand_in_order()
     ensures ascending { (parts : List Part) (rows : List (List Field)) → IsSortedBy (stands_before parts) (stable parts rows) }
     ensures stable { (parts : List Part) (rows : List (List Field)) → IsStableBy (stands_before parts) rows (stable parts rows) }
 {}
 
-/// These are all that sorting is: rows that are in order, and in which rows that stand beside each other have kept theirs,
-/// are the sorted ones.
+/// These are all that sorting is: rows that are in order, and in which equal rows have kept theirs, are the sorted ones.
 pub fn order_is_all()
     ensures { (parts : List Part) (rows others : List (List Field)) → IsSortedBy (stands_before parts) others → IsStableBy (stands_before parts) rows others → others ≡ stable parts rows }
 {}
@@ -37,13 +36,13 @@ pub fn without_a_path()
     ensures { (rows : List (List Field)) → stable [] rows ≡ rows }
 {}
 
-/// The front of a front is that of the lesser number.
+/// The prefix of a prefix is that of the lesser number.
 #[tactic(auto, using(crate::proofs::Told::lesser_front))]
 pub fn front_of_a_front()
     ensures { (m n : ℕ) (rows : List (List Field)) → front (Some m) (front (Some n) rows) ≡ front (Some (min m n)) rows }
 {}
 
-/// A row that isn't in the front never comes back: the front of a front and one row more is the front of all.
+/// A row that isn't in the prefix never comes back: the prefix of a prefix and one row more is the prefix of all.
 pub fn one_row_more()
     ensures { (parts : List Part) (most : Option ℕ) (rows : List (List Field)) (d : List Field) → with_row (front_of parts most rows) d ≡ front_of parts most (rows ++ d ∷ []) }
 {}

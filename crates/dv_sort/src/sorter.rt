@@ -15,19 +15,17 @@ use dv_value::{Document, NoMemory};
 use std::alloc::Global;
 use std::marker::Model;
 
-/// The first documents of all that came, in the order of a sort; documents that the sort doesn't tell apart keep their
-/// order.
+/// The first documents of all that came, in the order of a sort; documents that the sort doesn't distinguish keep their order.
 ///
-/// Each document's keys are made once, and documents aren't copied. Where `most` are wanted, at most twice as many are
-/// kept, a document costs a number of comparisons logarithmic in `most`, and one that comes behind `most` others of an
-/// earlier time costs one and is dropped; else all are kept, and sorted at the end.
+/// Each document's keys are made once, and documents aren't copied. If `most` are wanted, at most twice as many are kept, a
+/// document costs a number of comparisons logarithmic in `most`, and one that comes after `most` others of an earlier time costs
+/// one and is dropped. Otherwise all are kept, and sorted at the end.
 #[derive(Debug, Drop)]
 pub struct Sorter<'a> {
     spec: &'a SortSpec,
     most: Option<usize>,
     rows: Vec<Row>,
-    /// The keys of a row that fell behind the first `most`, once there was one: none of the rows that are wanted stands
-    /// behind it.
+    /// The keys of a row that fell out of the first `most`, once there was one: none of the wanted rows comes after it.
     bar: Option<Vec<Key>>,
 }
 
@@ -61,8 +59,8 @@ impl<'a> Sorter<'a> {
         }
     }
 
-    /// Takes a document, which comes behind all others. Fails where memory is wanting: then the document is dropped, and
-    /// nothing else is changed.
+    /// Takes a document, which comes after all others that are equal. Fails with `NoMemory` when memory runs out: then the document
+    /// is dropped, and nothing else is changed.
     pub fn push(&mut self, document: Document) -> Result<(), NoMemory>
         ensures ok { OnOk result (self.new ≡ with_row self.old document) }
         ensures err { OnErr result (self.new ≡ self.old) }
@@ -76,7 +74,7 @@ impl<'a> Sorter<'a> {
         Ok(())
     }
 
-    /// The first documents of all that came, in order. Fails where memory is wanting.
+    /// The first documents of all that came, in order. Fails with `NoMemory` when memory runs out.
     pub fn into_rows(self) -> Result<Vec<Document>, NoMemory>
         ensures { IfOk result (λ rows. rows.items ≡ self.entry.rows) }
     {

@@ -23,8 +23,8 @@ pub trait ByteIn {
     // How often it was asked for bytes, as 64 bits count it.
     ghost reads: { Self → ℕ };
 
-    /// Puts the next bytes at the front of the piece, and answers how many they are: 0 at the end of input alone. Fails
-    /// where it can't tell; then no byte is lost.
+    /// Puts the next bytes at the front of the piece, and returns how many they are: 0 only at the end of input. Fails if the
+    /// reader fails; then no byte is lost.
     fn take(&mut self, piece: &mut [u8]) -> Result<usize, Failed>
         requires { 0 < length piece.old }
         ensures few { IfOk result (λ count. count ≤ length piece.new) }
@@ -47,7 +47,7 @@ pub trait ByteOut {
     // How often it has failed, as 64 bits count it. To take none of the bytes is to fail.
     ghost failures: { Self → ℕ };
 
-    /// Takes some of the bytes, from the front, and answers how many. Fails where it takes none.
+    /// Takes some of the bytes, from the front, and returns how many. Fails if it takes none.
     fn give(&mut self, bytes: &[u8]) -> Result<usize, Failed>
         requires { 0 < length bytes.now }
         ensures few { IfOk result (λ count. count ≤ length bytes.now) }
@@ -56,7 +56,7 @@ pub trait ByteOut {
         ensures failures { failures self.new ≡ failures_written result (failures self.old) };
 }
 
-/// Writes all the bytes: where the writer takes less, the rest is given to it. Fails where the writer does.
+/// Writes all the bytes: if the writer takes fewer, the rest is given to it. Fails if the writer does.
 pub fn give_all<W: ByteOut>(writer: &mut W, bytes: &[u8]) -> Result<(), Failed>
     ensures all { OnOk result (Appends (W.contents writer.old) (W.contents writer.new) bytes.now) }
     ensures part { OnErr result ((part : List ℕ) × (rest : List ℕ) × (bytes.now ≡ part ++ rest) × Appends (W.contents writer.old) (W.contents writer.new) part) }

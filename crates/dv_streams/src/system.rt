@@ -26,7 +26,7 @@ fn room(alloc: Global, size: usize) -> Result<Vec<u8>, AllocError>
     vec![in alloc; 0u8; size]
 }
 
-/// What was tried. Where it failed, that is counted.
+/// The result of what was tried. If it failed, that is counted.
 pub fn counted<T>(tried: io::Result<T>, failures: &mut u64) -> Result<T, Failed>
     ensures done { IfOk result (λ done. tried ≡ Ok done) }
     ensures failed { OnErr result (IsErr tried) }
@@ -41,7 +41,7 @@ pub fn counted<T>(tried: io::Result<T>, failures: &mut u64) -> Result<T, Failed>
     }
 }
 
-/// What text is written to, and handed on from.
+/// What text is written to, and flushed.
 pub trait TextOut: ByteOut {
     ghost use Rattle.std.specs.Prelude.{◌≡◌, ℕ, IfSome, OnErr, OnOk};
     ghost use Rattle.std.specs.Io.KnownBytes.{Appends, Keeps};
@@ -59,7 +59,7 @@ pub trait TextOut: ByteOut {
         ensures failures { Self.failures self.new ≡ failures_behind result (Self.failures self.old) }
         ensures unflushed { flushes self.new ≡ flushes self.old };
 
-    /// Hands on what was written.
+    /// Flushes what was written.
     fn flush(&mut self) -> Result<(), Failed>
         ensures kept { Keeps (Self.contents self.old) (Self.contents self.new) }
         ensures failures { Self.failures self.new ≡ failures_behind result (Self.failures self.old) }

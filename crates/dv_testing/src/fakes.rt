@@ -4,7 +4,7 @@ use std::alloc::Global;
 use std::io;
 use std::io::{ErrorKind, Read, Write};
 
-/// Gives its bytes one at a read, and fails at one of its calls.
+/// Returns its bytes one at a read, and fails at one of its calls.
 #[derive(Drop)]
 pub struct Dropping<'a> {
     bytes: &'a [u8],
@@ -13,7 +13,7 @@ pub struct Dropping<'a> {
 }
 
 impl<'a> Dropping<'a> {
-    /// A reader of these bytes whose call of this number fails, from 1; none does where it is 0.
+    /// A reader of these bytes whose call of this number fails, from 1; none does if it is 0.
     pub fn failing(bytes: &'a [u8], failing: usize) -> Self {
         Dropping {
             bytes,
@@ -50,7 +50,7 @@ pub struct Narrow {
 }
 
 impl Narrow {
-    /// A writer whose call of this number fails, from 1; none does where it is 0.
+    /// A writer whose call of this number fails, from 1; none does if it is 0.
     pub fn failing(alloc: Global, failing: usize) -> Self {
         Narrow {
             taken: Vec::new(alloc),

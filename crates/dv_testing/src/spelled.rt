@@ -5,13 +5,13 @@ use dv_value::{Document, List, Value};
 use std::alloc::Global;
 use std::test::Fail;
 
-/// The document that is spelled so at the front of the bytes, or the failure of a test.
+/// The document whose encoding the bytes begin with, or the failure of a test.
 pub fn document(alloc: Global, bytes: &[u8]) -> Result<Document, Fail> {
     let (document, _) = read_document(alloc, bytes)?;
     Ok(document)
 }
 
-/// How a document is spelled.
+/// The encoding of a document.
 pub fn bytes_of(alloc: Global, document: &Document) -> Result<Vec<u8>, Fail> {
     let mut bytes = Vec::new(alloc);
     write_document(document, &mut bytes)?;
@@ -26,7 +26,7 @@ pub fn array_in(document: &Document) -> Result<&List, Fail> {
     }
 }
 
-/// Puts a field of this name behind the others. No contract says so, and a test that makes documents is proved in less time.
+/// Puts a field of this name after the others. No contract says so, and a test that makes documents is proved in less time.
 pub fn add(document: &mut Document, name: &str, value: Value) -> Result<(), Fail> {
     Ok(document.push(name, value)?)
 }

@@ -29,11 +29,11 @@ pub(crate) const MAX_DOCUMENT_LEN: u32 = 16_777_216;
 impl Update {
     /// What the update makes of the document, which stays as it is.
     ///
-    /// Edits are made one after the other, and the first refusal is told: `NotViable` where no value can be put, `NotNumber`
-    /// and `Overflow` of `$inc`, `NotArray` of `$push` and `$pull`. A replacement has its own `_id`, or else the document's, in
-    /// front. Then `IdChanged` where the result doesn't begin with the `_id` with which the document begins, spelled as it
-    /// is there, `TooLarge` above 16,777,216 bytes, and `TooDeep` above 100 levels. Fails with `NoMemory` where memory is
-    /// wanting.
+    /// Edits are made one after the other, and the first refusal is returned: `NotViable` if no value can be put at the path,
+    /// `NotNumber` and `Overflow` of `$inc`, `NotArray` of `$push` and `$pull`. A replacement has its own `_id`, or else the
+    /// document's, at its front. Then `IdChanged` if the result doesn't begin with the `_id` with which the document begins, in the
+    /// same encoding, `TooLarge` above 16,777,216 bytes, and `TooDeep` above 100 levels. Fails with `NoMemory` when memory runs
+    /// out.
     ///
     /// What isn't changed is shared with the document; fields of which one is changed are copied once. A `$set`, `$unset` or
     /// `$pull` that changes nothing copies none.

@@ -12,8 +12,8 @@ use std::fmt;
 /// Why a document is no update, or can't be updated. Its text is its name.
 #[derive(Clone, Copy, Debug, PartialEq, Eq)]
 pub enum UpdateFault {
-    /// A name that begins with `$` and is no operator, or another name among operators; a value to push that begins with
-    /// `$` and isn't `$each` alone.
+    /// A name that begins with `$` and is no operator, or another name among operators; a value to push that begins with `$` and
+    /// isn't only `$each`.
     UnknownOperator,
     /// Two paths of which one equals or begins the other.
     Conflict,
@@ -26,13 +26,13 @@ pub enum UpdateFault {
     Overflow,
     /// `$push` or `$pull` of a value that is no array.
     NotArray,
-    /// The result doesn't begin with the `_id` that stood there, spelled as it was.
+    /// The result doesn't begin with the `_id` that the document had, in the same encoding.
     IdChanged,
     /// The result has more than 16,777,216 bytes.
     TooLarge,
     /// The result has more than 100 levels.
     TooDeep,
-    /// Memory is wanting.
+    /// Memory ran out.
     NoMemory,
     /// A path with a component that is empty, holds a zero byte or begins with `$`; a replacement with a top-level name
     /// that begins with `$`, or a name with a dot at any level.

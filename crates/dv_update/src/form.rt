@@ -18,7 +18,7 @@ pub enum Update {
     Operators(Edits),
 }
 
-/// What is done where a path leads.
+/// What is done at a path.
 #[derive(Debug, Drop)]
 pub struct Edit {
     /// The path.
@@ -88,7 +88,7 @@ impl Edits {
         self.edits.as_slice()
     }
 
-    /// A copy of its own. Fails where memory is wanting.
+    /// A copy of its own. Fails with `NoMemory` when memory runs out.
     pub fn try_clone(&self) -> Result<Self, NoMemory>
         ensures { IfOk result (λ copy. copy ≡ self.now) }
     {
@@ -101,7 +101,7 @@ impl Edits {
 }
 
 impl Edit {
-    /// A copy of its own. Fails where memory is wanting.
+    /// A copy of its own. Fails with `NoMemory` when memory runs out.
     pub fn try_clone(&self) -> Result<Self, NoMemory>
         ensures { IfOk result (λ copy. copy ≡ self.now) }
     {
@@ -113,7 +113,7 @@ impl Edit {
 }
 
 impl Operation {
-    /// A copy of its own. Fails where memory is wanting.
+    /// A copy of its own. Fails with `NoMemory` when memory runs out.
     pub fn try_clone(&self) -> Result<Self, NoMemory>
         ensures { IfOk result (λ copy. copy ≡ self.now) }
     {
@@ -128,7 +128,7 @@ impl Operation {
 }
 
 impl Pulled {
-    /// A copy of its own. Fails where memory is wanting.
+    /// A copy of its own. Fails with `NoMemory` when memory runs out.
     pub fn try_clone(&self) -> Result<Self, NoMemory>
         ensures { IfOk result (λ copy. copy ≡ self.now) }
     {
@@ -140,7 +140,7 @@ impl Pulled {
 }
 
 impl Update {
-    /// A copy of its own. Fails where memory is wanting.
+    /// A copy of its own. Fails with `NoMemory` when memory runs out.
     pub fn try_clone(&self) -> Result<Self, NoMemory>
         ensures { IfOk result (λ copy. copy ≡ self.now) }
     {

@@ -17,8 +17,8 @@ ghost use Rattle.dv_order.specs.Same.{both_same, is_same, same_fields};
 ghost use Rattle.dv_update.specs.Update.{Edit, Update};
 ghost use Rattle.dv_update.specs.declared.fault.UpdateFault.TheVariants.{BadName, BadOperand, Conflict, IdChanged, NotArray, NotNumber, NotViable, Overflow, TooDeep, TooLarge, UnknownOperator};
 
-/// Any two paths compare, either way round alike; what stands before a path stands before all that come after it; and two
-/// paths stand beside each other exactly where they are one.
+/// Any two paths compare, either way round alike; what comes before a path comes before all that come after it; and two paths are
+/// equal in the order exactly if they are one.
 #[tactic(auto, using(crate::proofs::Lawful::back, crate::proofs::Lawful::through, crate::proofs::Lawful::beside))]
 pub fn paths_stand_in_a_total_order()
     ensures back { (p q : Path) → path_order p q ≡ ordering_reverse (path_order q p) }
@@ -32,7 +32,7 @@ pub fn the_written_order_is_no_matter()
     ensures { (before after : List Edit) (d e : Edit) → conflicts d e ≡ false → in_order (before ++ d ∷ e ∷ after) ≡ in_order (before ++ e ∷ d ∷ after) }
 {}
 
-/// Where no path begins or equals another one, removals may be made behind all other edits.
+/// If no path begins or equals another one, removals may be made after all other edits.
 pub fn removals_may_come_last()
     ensures { (edits : List Edit) (d : List Field) → has_conflict edits ≡ false → edited edits d ≡ edited_removals_last edits d }
 {
@@ -52,7 +52,7 @@ pub fn setting_what_is_there_changes_nothing()
     ensures { (path : Path) (v : Tree) (d : List Field) → slot d path ≡ taken v → set_at path v d ≡ Ok d }
 {}
 
-/// What an update makes of a document begins with its `_id`, spelled as it was.
+/// What an update makes of a document begins with its `_id`, in the same encoding.
 #[tactic(auto, using(crate::proofs::Lawful::id_stays))]
 pub fn the_id_stays()
     ensures { (update : Update) (v : Tree) (others after : List Field) → applied update ((codes "_id", v) ∷ others) ≡ Ok after → (rest : List Field) × (after ≡ (codes "_id", v) ∷ rest) }
@@ -64,7 +64,7 @@ pub fn what_comes_out_fits()
     ensures { (update : Update) (d after : List Field) → applied update d ≡ Ok after → Fits after }
 {}
 
-/// What fits and keeps its `_id` is what the update makes; another `_id` is told before size, and size before levels.
+/// What fits and keeps its `_id` is what the update makes; another `_id` is reported before size, and size before levels.
 #[tactic(auto, using(crate::proofs::Lawful::kept, crate::proofs::Lawful::changed_first, crate::proofs::Lawful::size_next, crate::proofs::Lawful::depth_last))]
 pub fn results_are_refused_in_order()
     ensures kept { (update : Update) (d after : List Field) → changed update d ≡ Ok after → both_same (leading_id d) (leading_id after) ≡ true → Fits after → applied update d ≡ Ok after }
@@ -73,13 +73,13 @@ pub fn results_are_refused_in_order()
     ensures too_deep { (update : Update) (d after : List Field) → changed update d ≡ Ok after → both_same (leading_id d) (leading_id after) ≡ true → length (spelling after) ≤ 16777216 → 100 < levels (document (fields_of after)) → applied update d ≡ Err TooDeep }
 {}
 
-/// What an update makes of a valid document is valid, where the update's own document is.
+/// What an update makes of a valid document is valid, if the update's own document is.
 #[tactic(auto, using(crate::proofs::Sound::comes_out_valid))]
 pub fn what_comes_out_is_valid()
     ensures { (fields d made : List Field) (form : Update) → AreFields (fields_of fields) → update_of fields ≡ Ok form → AreFields (fields_of d) → applied form d ≡ Ok made → AreFields (fields_of made) }
 {}
 
-/// Values are the same where each part is, and so are documents.
+/// Values are the same if each part is, and so are documents.
 #[tactic(auto, using(crate::proofs::Lawful::same_values, crate::proofs::Lawful::same_documents))]
 pub fn sameness_is_equality()
     ensures values { (v w : Tree) → (is_same v w ≡ true) ↔ (v ≡ w) }
@@ -105,7 +105,7 @@ pub fn array_examples()
     ensures a_dollar_below { outcome ((codes "b", doc ((codes "$c", int 1) ∷ [])) ∷ []) ((codes "_id", int 1) ∷ []) ≡ Ok ((codes "_id", int 1) ∷ (codes "b", doc ((codes "$c", int 1) ∷ [])) ∷ []) }
 {}
 
-/// An element of an array is taken out where it passes a condition.
+/// An element of an array is taken out if it passes a condition.
 #[tactic(auto, unfolding(crate::specs::Parsing::operator_named, dv_match::specs::Parsing::test_in, dv_match::specs::Parsing::operators_in, dv_match::specs::Parsing::operator_named, dv_match::specs::Match::passes, dv_match::specs::Match::meets_all, dv_match::specs::Match::meets, dv_candidates::specs::Path::path_of, dv_candidates::specs::Path::index_of, dv_path::specs::Placing::put, dv_path::specs::Slots::slot, dv_value::specs::Spelling::payload, dv_value::specs::Spelling::framed, dv_value::specs::Spelling::counted, dv_value::specs::Spelling::element_spelling))]
 pub fn condition_example()
     ensures { outcome (one_edit (codes "$pull") (codes "a") (doc ((codes "$gte", int 2) ∷ []))) start ≡ Ok (with_a (int 1 ∷ [])) }

@@ -21,7 +21,7 @@ use std::alloc::Global;
 /// What an update makes of a document.
 #[derive(Debug, Drop)]
 pub enum Outcome {
-    /// It stays as it is spelled.
+    /// Its encoding stays as it is.
     Same,
     /// This becomes of the field under the update's sole name.
     Field(FieldChange),
@@ -30,7 +30,7 @@ pub enum Outcome {
 }
 
 impl Outcome {
-    /// Whether the document stays as it is spelled. Takes no memory.
+    /// Whether the document's encoding stays as it is. Takes no memory.
     pub fn stays(&self) -> bool
         ensures { result ≡ defined.stays self.now }
     {
@@ -53,8 +53,8 @@ impl Outcome {
 }
 
 impl Update {
-    /// The name of the one field that the update changes, where it has one edit, whose path is one name and not `_id`;
-    /// else the empty name, which is in no path.
+    /// The name of the one field that the update changes, if it has one edit, whose path is one name and not `_id`; else the empty
+    /// name, which is in no path.
     pub fn sole_name(&self) -> &str
         ensures name { result.now ≡ defined.sole_name (update self.now) }
         ensures no_id { bytes_eq result.now (codes "_id") ≡ false }
@@ -66,9 +66,9 @@ impl Update {
         }
     }
 
-    /// What the update makes of the document, which stays as it is: what `apply` makes of it, and refused as there. Where one
-    /// value is put under the sole name, or at the end of the array there, and surely has room, nothing else is copied: that is
-    /// answered as a `Field`. The answer is `Same` exactly where the document stays as it is spelled.
+    /// What the update makes of the document, which stays as it is: what `apply` makes of it, and refused as there. If one value is
+    /// put under the sole name, or at the end of the array there, and surely has room, nothing else is copied: then a `Field` is
+    /// returned. `Same` is returned exactly if the document's encoding stays as it is.
     pub fn outcome(&self, alloc: Global, document: &Document) -> Result<Outcome, UpdateFault>
         ensures applied { Gives (λ outcome. defined.outcome_seen (defined.sole_name (update self.now)) document.now outcome) result (applied (update self.now) document.now) }
         ensures same { IfOk result (λ outcome. defined.stays outcome ≡ defined.stays_so (defined.sole_name (update self.now)) document.now outcome) }
@@ -79,7 +79,7 @@ impl Update {
         }
     }
 
-    /// The same, but never told by a field alone.
+    /// The same, but always with a whole document.
     pub fn whole_outcome(&self, alloc: Global, document: &Document) -> Result<Outcome, UpdateFault>
         ensures applied { Gives (λ outcome. defined.outcome_seen (defined.sole_name (update self.now)) document.now outcome) result (applied (update self.now) document.now) }
         ensures same { IfOk result (λ outcome. defined.stays outcome ≡ defined.stays_so (defined.sole_name (update self.now)) document.now outcome) }

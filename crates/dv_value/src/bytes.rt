@@ -42,7 +42,7 @@ impl Bytes {
         bytes
     }
 
-    /// A copy of its own. Fails where memory is wanting.
+    /// A copy of its own. Fails with `NoMemory` when memory runs out.
     pub fn try_clone(&self) -> Result<Self, AllocError>
         ensures { IfOk result (λ copy. copy ≡ self.now) }
     {

@@ -7,7 +7,7 @@ use std::alloc::{AllocError, AllocFailed};
 use std::error::Error;
 use std::fmt;
 
-/// A fault. Its text is its name; that of a refused type says which byte stands where.
+/// A fault. Its text is its name. The text of a refused type also says which byte is at which place.
 #[derive(Clone, Copy, Debug, PartialEq, Eq)]
 pub enum BsonFault {
     /// Fewer bytes than a length, or than the outermost document's length says.
@@ -34,7 +34,7 @@ pub enum BsonFault {
     TooDeep,
     /// More than 16,777,216 bytes to read, or 2,147,483,647 to write.
     TooLarge,
-    /// Memory is wanting.
+    /// Memory ran out.
     NoMemory,
     /// A name with a zero byte.
     BadName,

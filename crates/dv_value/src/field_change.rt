@@ -12,14 +12,14 @@ use crate::value::{Document, Value};
 /// What becomes of the field under a name.
 #[derive(Debug, Drop)]
 pub enum FieldChange {
-    /// It has this value; where no field has the name, a field with the value comes behind the others.
+    /// It gets this value. If no field has the name, a field with the value is added at the end.
     Set(Value),
-    /// This value comes behind the elements of the array that it has; where it has no array, nothing changes.
+    /// This value is added at the end of its array. If it has no array, nothing changes.
     Push(Value),
 }
 
 impl FieldChange {
-    /// A copy of its own. Fails where memory is wanting.
+    /// A copy of its own. Fails with `NoMemory` when memory runs out.
     pub fn try_clone(&self) -> Result<Self, NoMemory>
         ensures { IfOk result (λ copy. (name : List ℕ) → (fs : List Field) → with_field_changed name copy fs ≡ with_field_changed name self.now fs) }
     {
@@ -31,10 +31,10 @@ impl FieldChange {
 }
 
 impl Document {
-    /// Makes the change of the field under the name. Memory is taken for a field or an element that comes, and where a copy
-    /// shares the fields: then these are copied first. Fails where it is wanting; then nothing is changed, and the value is
-    /// dropped. A value that comes in place of another one takes time logarithmic in the number of fields; where the length
-    /// of the spelling is kept, both values are measured besides. The name holds no zero byte.
+    /// Makes the change of the field under the name. Memory is taken for a new field or element, and if a copy shares the fields:
+    /// then these are copied first. Fails with `NoMemory` when memory runs out; then nothing is changed, and the value is dropped.
+    /// To replace a value takes time logarithmic in the number of fields; if the length of the encoding is kept, both values are
+    /// also measured. The name holds no zero byte.
     pub fn change_field(&mut self, name: &str, change: FieldChange) -> Result<(), NoMemory>
         requires { has_zero name.now ≡ false }
         ensures ok { OnOk result (self.new ≡ with_field_changed name.now change self.old) }

@@ -22,7 +22,7 @@ pub enum Kind {
 }
 
 impl Kind {
-    /// The byte that stands for the type.
+    /// The byte of the type.
     pub fn byte(self) -> u8
         ensures { result ≡ type_byte self }
     {

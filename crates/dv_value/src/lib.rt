@@ -26,5 +26,5 @@ pub use name_list::Names;
 pub use text::Str;
 pub use value::{Document, Fields, List, Value};
 
-/// Want of memory, where nothing else can be refused.
+/// Memory ran out: the fault of what has no other fault.
 pub type NoMemory = std::alloc::AllocError;

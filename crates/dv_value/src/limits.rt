@@ -13,8 +13,7 @@ use itoa::Buffer;
 /// The length of the longest document that can be written: a length is an int32.
 const LONGEST: usize = 2_147_483_647;
 
-/// What stands around the elements of a document or an array, or around a text: the four bytes of a
-/// length, and the closing zero.
+/// The bytes around the elements of a document or an array, or around a text: the four bytes of a length, and the closing zero.
 pub const FRAME: usize = 5;
 
 /// The four bytes of a count.
@@ -23,13 +22,13 @@ const COUNT: usize = 4;
 /// The length of the longest document that is read and stored, in bytes.
 pub const MAX_DOCUMENT_LEN: u32 = 16_777_216;
 
-/// How many documents and arrays stand in one another at most in what is read and stored.
+/// How many levels of documents and arrays there may be in what is read and stored.
 pub const MAX_LEVELS: u32 = 100;
 
 /// A document of no more bytes isn't deeper than that: each level has five of its own.
 const NEVER_TOO_DEEP: usize = 5 * MAX_LEVELS as usize;
 
-/// The length of the document's spelling in bytes; `None` above 2,147,483,647. Takes no memory.
+/// The length of the document's encoding in bytes; `None` above 2,147,483,647. Takes no memory.
 pub fn size(document: &Document) -> Option<u32>
     ensures { SomeIff result (length (spelling document.now) ≤ 2147483647) (length (spelling document.now)) }
 {
@@ -37,8 +36,8 @@ pub fn size(document: &Document) -> Option<u32>
     Some(size as u32)
 }
 
-/// Whether the document is within the limits for what is read and stored: 16,777,216 bytes and 100
-/// levels. Takes no memory. One look where the length of the spelling is kept.
+/// Whether the document is within the limits for what is read and stored: 16,777,216 bytes and 100 levels. Takes no memory, and
+/// constant time if the length of the encoding is kept.
 pub fn fits(document: &Document) -> bool
     ensures { IsTrue result ↔ Fits document.now }
 {
@@ -92,7 +91,7 @@ fn object_id_size(id: [u8; 12]) -> usize
     id.len()
 }
 
-/// The length in bytes of a value's spelling, without its type and its name; `None` above 2,147,483,647. A value that has one is
+/// The length in bytes of a value's encoding, without its type and its name; `None` above 2,147,483,647. A value that has one is
 /// valid at each of its levels. Takes no memory.
 #[cycle(size)]
 pub fn value_size(value: &Value) -> Option<usize>
@@ -163,7 +162,7 @@ pub(crate) fn with_other(total: u32, before: &Value, value: &Value) -> Option<u3
     Some(size as u32)
 }
 
-/// As `size`, and that the document is valid at each of its levels. One look where the size is kept. Takes no memory.
+/// As `size`, and that the document is valid at each of its levels. Takes no memory, and constant time if the size is kept.
 #[cycle(size)]
 pub fn document_size(document: &Document) -> Option<usize>
     ensures size { SomeIff result (length (spelling document.now) ≤ 2147483647) (length (spelling document.now)) }

@@ -87,7 +87,7 @@ impl Name {
     }
 }
 
-/// Whether a dollar sign stands in front of the name.
+/// Whether the name begins with a dollar sign.
 pub fn begins_with_dollar(name: &str) -> bool
     ensures { result ≡ names.begins_with_dollar name.now }
 {

@@ -21,8 +21,8 @@ pub struct Names {
     names: Vec<Name>,
     /// The places of the names, once they are too many to be searched one by one.
     index: Option<Box<NameIndex>>,
-    /// Where the last name stood that was looked up and found: most often the next one is the same, since documents of
-    /// one shape share their names.
+    /// The place of the last name that was looked up and found: most often the next one is the same, since documents of one shape
+    /// share their names.
     last_found: Cell<usize>,
 }
 
@@ -39,7 +39,7 @@ impl Model for Names {
 }
 
 impl Names {
-    /// No names, with room for so many. Fails where memory is wanting.
+    /// No names, with room for so many. Fails with `NoMemory` when memory runs out.
     pub fn with_room(alloc: Global, names: usize) -> Result<Self, NoMemory>
         ensures { IfOk result (λ names. names ≡ []) }
     {
@@ -132,7 +132,8 @@ impl Names {
         }
     }
 
-    /// Adds a name that is known to be new and without a zero byte. Fails where memory is wanting; then nothing is changed.
+    /// Adds a name that is known to be new and without a zero byte. Fails with `NoMemory` when memory runs out; then nothing is
+    /// changed.
     pub fn add(&mut self, name: &str) -> Result<(), NoMemory>
         requires whole { has_zero name.now ≡ false }
         requires fresh { has_name name.now (map bare self.old) ≡ false }

@@ -9,9 +9,8 @@ use crate::value::Document;
 use std::alloc::Global;
 
 impl Document {
-    /// A copy without the fields of these names, where there are such; the others keep their order. Documents inside are
-    /// shared. In time n log n in the number of fields and of names, and linear in what is copied. Fails where memory is
-    /// wanting.
+    /// A copy without the fields of these names, if there are such; the others keep their order. Documents inside are shared. In
+    /// time n log n in the number of fields and of names, and linear in what is copied. Fails with `NoMemory` when memory runs out.
     pub fn without_each(&self, alloc: Global, names: &[&str]) -> Result<Document, NoMemory>
         ensures { IfOk result (λ left. left ≡ without_each (map (λ name. name.now) names.now) self.now) }
     {

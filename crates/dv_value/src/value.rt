@@ -56,7 +56,7 @@ pub enum Value {
     Timestamp(u64),
     /// "Min key", which comes before all other values.
     MinKey,
-    /// "Max key", which comes behind all other values.
+    /// "Max key", which comes after all other values.
     MaxKey,
 }
 
@@ -95,8 +95,8 @@ pub(crate) struct Measured {
 #[derive(Debug, Drop)]
 pub struct Document {
     alloc: Global,
-    /// Shared by a document and its copies until one of them is changed. None where there is no field, since a new
-    /// document takes no memory.
+    /// Shared by a document and its copies until one of them is changed. None if there is no field, since a new document takes no
+    /// memory.
     fields: Option<Rc<Measured>>,
 }
 

@@ -55,7 +55,7 @@ pub enum DocdFault {
     /// Standard output takes no more.
     #[error("write failed")]
     Write,
-    /// Memory is wanting.
+    /// Memory ran out.
     #[error("no memory")]
     NoMemory,
     /// The hub opens no session.
@@ -167,7 +167,7 @@ pub enum ScriptFault {
     /// The writer failed.
     #[error("write failed")]
     Write,
-    /// Memory is wanting.
+    /// Memory ran out.
     #[error("no memory")]
     NoMemory,
     /// The hub opens no session.

@@ -16,9 +16,9 @@ pub const LONGEST_LINE: usize = 131_200;
 /// How many numbers there are for sessions, from 0.
 pub const NUMBERS: u32 = 1_000;
 
-/// What the bytes of a line say, without its LF: nothing where they are empty or begin with `#`; else a number from
-/// 0 to 999 without leading zeros and one space, and then pairs of hexadecimal digits, with any number of spaces
-/// between two pairs, or the word `end`. `BadLine` where they have none of these forms, or are more than 131,200.
+/// What the bytes of a line say, without its LF: nothing if they are empty or begin with `#`; else a number from 0 to 999 without
+/// leading zeros and one space, and then pairs of hexadecimal digits, with any number of spaces between two pairs, or the word
+/// `end`. `BadLine` if they have none of these forms, or are more than 131,200.
 pub fn line(alloc: Global, bytes: &[u8]) -> Result<Line, LineFault>
     ensures read { IfOk result (λ found. IsLine found bytes.now) }
     ensures only { (meant : Line) → IsLine meant bytes.now → (result ≡ Ok meant) ⊎ (result ≡ Err LineFault.NoMemory) }

@@ -21,7 +21,7 @@ pub enum Line {
 pub enum LineFault {
     /// It has none of the forms, or is too long.
     BadLine,
-    /// Memory is wanting for its bytes.
+    /// Memory ran out for its bytes.
     NoMemory,
 }
 

@@ -15,7 +15,7 @@ pub enum Job {
         hex: bool,
         loads: Vec<Load>,
     },
-    /// To tell how many documents a file holds.
+    /// To report how many documents a file holds.
     Check {
         file: String,
     },
@@ -46,8 +46,8 @@ pub struct Load {
 /// - `serve --port P --connections N`, with P from 1 to 65535 and N from 0 to 1000000;
 /// - `listen --port P [--connections N] [--load DB.COLL=FILE]..`, with the same P and N.
 ///
-/// Options may stand in any order. `Usage` for any other words, a call for help among them, and for a load without `=` or
-/// without a dot in front of its first `=`.
+/// Options may come in any order. Fails with `Usage` for any other words, including a call for help, and for a load without `=` or
+/// without a dot before its first `=`.
 pub fn words(alloc: Global, words: &[String]) -> Result<Job, DocdFault> {
     let matches = docd(alloc)?.try_get_matches_from(words)?;
     match matches.subcommand() {

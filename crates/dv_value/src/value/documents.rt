@@ -25,8 +25,8 @@ impl Document {
         }
     }
 
-    /// A document without fields, with room for as many as `like` has; fields of the same names, added in the same order,
-    /// share its names. Fails where memory is wanting.
+    /// A document without fields, with room for as many as `like` has; fields of the same names, added in the same order, share its
+    /// names. Fails with `NoMemory` when memory runs out.
     pub fn expecting(alloc: Global, like: &Document) -> Result<Self, NoMemory>
         ensures { IfOk result (λ document. document ≡ []) }
     {
@@ -38,8 +38,8 @@ impl Document {
         Ok(Document { alloc, fields })
     }
 
-    /// The document with these fields, whose spelling is so long. They give back what room they have left. Fails where
-    /// memory is wanting.
+    /// The document with these fields, whose encoding is so long. The fields' unused room is freed. Fails with `NoMemory` when
+    /// memory runs out.
     pub fn of(alloc: Global, mut fields: Fields, size: u32) -> Result<Self, NoMemory>
         requires { IsMeasure size fields }
         ensures { IfOk result (λ document. document ≡ fields) }
@@ -81,8 +81,7 @@ impl Document {
         }
     }
 
-    /// The value under the name, where there is one. Found in time logarithmic in the number of fields,
-    /// whatever the names are.
+    /// The value under the name, if there is one. Found in time logarithmic in the number of fields, whatever the names are.
     pub fn get(&self, name: &str) -> Option<&Value>
         ensures { option_map (λ value. tree value.now) result ≡ value_under name.now self.now }
     {
@@ -92,9 +91,8 @@ impl Document {
         }
     }
 
-    /// Adds a field at the end. Refused with `BadName` where the name holds a zero byte, with
-    /// `RepeatedName` where a field has it, and with `NoMemory`; then nothing is changed, and the value is
-    /// dropped.
+    /// Adds a field at the end. Refused with `BadName` if the name holds a zero byte, with `RepeatedName` if a field has it, and
+    /// with `NoMemory`; then nothing is changed, and the value is dropped.
     pub fn push(&mut self, name: &str, value: Value) -> Result<(), BsonFault>
         ensures ok { OnOk result (self.new ≡ self.old ++ (name.now, tree value) ∷ []) }
         ensures err { OnErr result (self.new ≡ self.old) }
@@ -133,8 +131,8 @@ impl Document {
         }
     }
 
-    /// Adds a field at the end. The name must hold no zero byte, and no field may have it: `push` looks whether it is so.
-    /// Fields that a copy shares are copied first. Fails where memory is wanting; then nothing is changed, and the value is
+    /// Adds a field at the end. The name must hold no zero byte, and no field may have it: `push` looks whether it is so. Fields
+    /// that a copy shares are copied first. Fails with `NoMemory` when memory runs out; then nothing is changed, and the value is
     /// dropped.
     pub fn add(&mut self, name: &str, value: Value) -> Result<(), NoMemory>
         requires whole { has_zero name.now ≡ false }
@@ -162,9 +160,9 @@ impl Document {
         }
     }
 
-    /// Puts the value in place of the one under the name, and gives that one. Where no field has the name there is none,
-    /// nothing is changed, and the value is dropped; so it is where memory is wanting. Memory is taken only where a copy
-    /// shares the fields, which are copied first. In time logarithmic in the number of fields where none does.
+    /// Puts the value in place of the one under the name, and returns that one. If no field has the name, it returns none, changes
+    /// nothing and drops the value. If memory runs out, it changes nothing too. Memory is taken only if a copy shares the fields,
+    /// which are copied first. Otherwise it takes time logarithmic in the number of fields.
     pub fn replace(&mut self, name: &str, value: Value) -> Result<Option<Value>, NoMemory>
         ensures before { IfOk result (λ before. option_map tree before ≡ value_under name.now self.old) }
         ensures ok { OnOk result (self.new ≡ with_value_under name.now (tree value) self.old) }
@@ -180,10 +178,10 @@ impl Document {
         }
     }
 
-    /// Puts the value in place of the one under the name, which is dropped. Where no field has the name, nothing is changed
-    /// and the value is given back; where memory is wanting, nothing is changed and it is dropped. Memory is taken only
-    /// where a copy shares the fields: then the other values are copied. In time logarithmic in the number of fields where
-    /// none does; where the length of the spelling is kept, both values are measured besides.
+    /// Puts the value in place of the one under the name, which is dropped. If no field has the name, nothing is changed and the
+    /// value is given back. If memory runs out, nothing is changed and the value is dropped. Memory is taken only if a copy shares
+    /// the fields: then the other values are copied. Otherwise it takes time logarithmic in the number of fields; if the length of
+    /// the encoding is kept, both values are also measured.
     pub fn put(&mut self, name: &str, value: Value) -> Result<Option<Value>, NoMemory>
         ensures back { IfOk result (λ back. option_map tree back ≡ (if has_name name.now self.old then None else Some (tree value))) }
         ensures ok { OnOk result (self.new ≡ with_value_under name.now (tree value) self.old) }
@@ -210,8 +208,8 @@ impl Document {
         }
     }
 
-    /// Takes away the field with the name, and gives its value. Where no field has the name there is none, and nothing is
-    /// changed; neither is it where memory is wanting. In time linear in the number of fields.
+    /// Takes away the field with the name, and returns its value. If no field has the name, it returns none and changes nothing. If
+    /// memory runs out, it changes nothing either. In time linear in the number of fields.
     pub fn remove(&mut self, name: &str) -> Result<Option<Value>, NoMemory>
         ensures before { IfOk result (λ before. option_map tree before ≡ value_under name.now self.old) }
         ensures ok { OnOk result (self.new ≡ without name.now self.old) }
@@ -226,10 +224,10 @@ impl Document {
         }
     }
 
-    /// Keeps the length of the spelling beside the fields, if there is one, no copy shares them and they have at most 100
-    /// levels: then `size`, `fits` and writing need not work it out again. It follows a
-    /// value that is added, or put in place of one that is dropped; other changes forget it. Nothing that a caller sees
-    /// changes. Takes no memory. One look where it is kept, and else in time linear in what stands in the document.
+    /// Keeps the length of the encoding with the fields, if there is one, no copy shares them and they have at most 100 levels.
+    /// Then `size`, `fits` and writing need not compute it again. It is updated when a value is added, or put in place of one that
+    /// is dropped; other changes drop it. Nothing that a caller sees changes. Takes no memory. Takes constant time if it is kept
+    /// already, and otherwise time linear in what the document holds.
     pub fn keep_size(&mut self)
         ensures { self.new ≡ self.old }
     {
@@ -278,8 +276,8 @@ impl Document {
         }
     }
 
-    /// A copy, which shares the memory of the fields until one of the two is changed: in constant time. Fails where
-    /// memory is wanting.
+    /// A copy, which shares the memory of the fields until one of the two is changed: in constant time. Fails with `NoMemory` when
+    /// memory runs out.
     pub fn try_clone(&self) -> Result<Self, NoMemory>
         ensures { IfOk result (λ copy. copy ≡ self.now) }
     {

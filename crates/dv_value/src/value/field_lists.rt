@@ -39,8 +39,8 @@ impl Fields {
         }
     }
 
-    /// No fields yet of a document that is read: those of the document that came before it tell what names to expect,
-    /// or else there is room for so many. Fails where memory is wanting.
+    /// No fields yet of a document that is read. The names to expect are those of the document that came before it; without one
+    /// there is room for so many. Fails with `NoMemory` when memory runs out.
     pub fn expected(alloc: Global, before: Option<&Document>, room: usize) -> Result<Self, NoMemory>
         ensures { IfOk result (λ fields. fields ≡ []) }
     {
@@ -90,7 +90,7 @@ impl Fields {
         }
     }
 
-    /// The name that the next field is expected to have, where other documents of the same names have one there.
+    /// The name that the next field is expected to have, if other documents of the same names have one there.
     pub fn expected_name(&self) -> Option<&str>
         ensures { IfSome result (λ name. (has_name name.now self.now ≡ false) × (has_zero name.now ≡ false)) }
     {
@@ -102,7 +102,7 @@ impl Fields {
         }
     }
 
-    /// Whether a field has the name. One look where it is the name that was to be expected.
+    /// Whether a field has the name. Takes constant time if it is the expected name.
     pub fn has(&self, name: &str) -> bool
         ensures has { result ≡ has_name name.now self.now }
         ensures named { AreNamed self.now }
@@ -114,8 +114,8 @@ impl Fields {
         self.place_of(name).is_some()
     }
 
-    /// Adds a field whose name is known to be new and without a zero byte. Fails where memory is wanting; then nothing is
-    /// changed, and the value is dropped.
+    /// Adds a field whose name is known to be new and without a zero byte. Fails with `NoMemory` when memory runs out; then nothing
+    /// is changed, and the value is dropped.
     pub fn add(&mut self, name: &str, value: Value) -> Result<(), NoMemory>
         requires whole { has_zero name.now ≡ false }
         requires fresh { has_name name.now self.old ≡ false }

@@ -8,9 +8,9 @@ use crate::value::{Document, Fields, Measured, Value};
 use std::rc::Rc;
 
 impl Document {
-    /// Lets the names of the fields lie where those of the other document do, if these are the same, or no more than as
-    /// many follow there; where a copy shares the fields, they stay where they are. Nothing that a caller sees changes but
-    /// how much memory is taken. Takes none.
+    /// Shares the names of the fields with the other document, if its names are the same, or if no more than as many names follow
+    /// there. If a copy shares the fields, nothing is done. Nothing that a caller sees changes, except how much memory is taken.
+    /// Takes none.
     pub fn share_names(&mut self, with: &Document)
         ensures { self.new ≡ self.old }
     {
