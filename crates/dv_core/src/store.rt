@@ -72,8 +72,8 @@ impl Store {
         self.made_of(told)
     }
 
-    /// Carries out one command of a session as `execute` does, but makes no body of a reply with rows, and takes no memory for
-    /// it: what such a reply tells is given in its place.
+    /// Carries out one command of a session as `execute` does. For a reply with rows it returns what the reply is made of, and
+    /// takes no memory for its document.
     pub fn carry_out(&mut self, session: u32, command: &Command) -> Told
         ensures step { MemoryStep self.old session command.now (outcome_told result) self.new }
         ensures unread { command.now ≡ Invalid NoMemory → TellsOfWant (outcome_told result) }
