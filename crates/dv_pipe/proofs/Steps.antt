@@ -1,6 +1,6 @@
 -- Rows through steps.
-use Rattle.std.proofs.Common.{◌≡◌, ◌∙◌, ap, ap₂, sym, refl, List, [], ◌∷◌, ◌++◌, ℕ, Option, length, append-nil, take, drop}
-use Rattle.std.proofs.lemmas.List.{map-append, take-append-drop}
+use Rattle.std.proofs.Common.{◌≡◌, ◌∙◌, ap, ap₂, sym, refl, List, [], ◌∷◌, ◌++◌, ℕ, zero, suc, Option, Some, None, length, append-nil, append_assoc, take, drop}
+use Rattle.std.proofs.lemmas.List.{flat_map_more, map-append, take-append-drop}
 use denote.Ref.{Bor}
 use Rattle.dv_sort.specs.Sorting.{front}
 use Rattle.dv_pipe.specs.declared.run.End.{End}
@@ -43,13 +43,34 @@ through-more ss all s ds is =
     ∙ same-each (passed (ss ++ s ∷ [])) (λ d. flat_map (rows_of_step s) (passed ss d)) (passed-more ss s) ds
     ∙ sym (one-by-one (rows_of_step s) (passed ss) ds)
 
--- rows behind which none is wanted
-pub front_full : (ss : List Step) (most : Option ℕ) (documents : List (Bor Row)) (i : ℕ) (rows : List Row) → rows ≡ flat_map (passed ss) (rows_referred (take i documents)) → ((more : List Row) → front most (rows ++ more) ≡ front most rows)
-    → front most rows ≡ front most (flat_map (passed ss) (rows_referred documents))
-front_full ss most documents i rows is full =
-    let behind = flat_map (passed ss) (rows_referred (drop i documents)) in
-    sym (full behind)
-    ∙ ap (front most) (ap (λ l. l ++ behind) is ∙ sym (flat_map-append (passed ss) (rows_referred (take i documents)) (rows_referred (drop i documents))) ∙ ap (flat_map (passed ss)) (sym (map-append (λ r. r.now) (take i documents) (drop i documents)) ∙ ap rows_referred (take-append-drop i documents)))
+-- ---- rows of which the first are wanted
+
+take-behind : {X : Type 0} (n : ℕ) (xs ys : List X) → take n (take n xs ++ ys) ≡ take n (xs ++ ys)
+take-behind zero xs ys = refl
+take-behind (suc n) [] ys = refl
+take-behind (suc n) (x ∷ xs) ys = ap (λ l. x ∷ l) (take-behind n xs ys)
+
+front-behind : (most : Option ℕ) (xs zs ys : List Row) → front most xs ≡ front most zs → front most (xs ++ ys) ≡ front most (zs ++ ys)
+front-behind None xs zs ys same = ap (λ l. l ++ ys) same
+front-behind (Some n) xs zs ys same = sym (take-behind n xs ys) ∙ ap (λ l. take n (l ++ ys)) same ∙ take-behind n zs ys
+
+module _ (ss : List Step) (most : Option ℕ) (before so-far : List Row) (ds : List Row) (is : front most so-far ≡ front most (before ++ flat_map (passed ss) ds)) where
+  -- what the steps make of one row more
+  pub front_more : (after more : List Row) (d : Row) → more ≡ ds ++ d ∷ [] → front most after ≡ front most (so-far ++ passed ss d) → front most after ≡ front most (before ++ flat_map (passed ss) more)
+  front_more after more d one made =
+      made ∙ front-behind most so-far (before ++ flat_map (passed ss) ds) (passed ss d) is ∙ ap (front most) (flat_map_more (passed ss) before ds d ∙ ap (λ l. before ++ flat_map (passed ss) l) (sym one))
+
+  -- where no row behind these is wanted
+  pub front_full : (rest all : List Row) → ds ++ rest ≡ all → ((more : List Row) → front most (so-far ++ more) ≡ front most so-far) → front most so-far ≡ front most (before ++ flat_map (passed ss) all)
+  front_full rest all parts full =
+      let behind = flat_map (passed ss) rest in
+      sym (full behind)
+      ∙ front-behind most so-far (before ++ flat_map (passed ss) ds) behind is
+      ∙ ap (front most) (append_assoc before (flat_map (passed ss) ds) behind ∙ ap (λ l. before ++ l) (sym (flat_map-append (passed ss) ds rest) ∙ ap (flat_map (passed ss)) parts))
+
+-- documents up to one, and from it on
+pub referred_parts : (documents : List (Bor Row)) (i : ℕ) → rows_referred (take i documents) ++ rows_referred (drop i documents) ≡ rows_referred documents
+referred_parts documents i = sym (map-append (λ r. r.now) (take i documents) (drop i documents)) ∙ ap rows_referred (take-append-drop i documents)
 
 -- ---- stages made steps one by one
 

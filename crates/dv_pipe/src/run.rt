@@ -1,6 +1,6 @@
 //! Stages that rows go through one by one, and what becomes of all of them behind.
 
-ghost use Rattle.std.specs.Prelude.{◌≡◌, ◌∷◌, ◌++◌, ◌⊎◌, ◌<◌, [], List, IfOk, length, true};
+ghost use Rattle.std.specs.Prelude.{◌≡◌, ◌∷◌, ◌⊎◌, ◌<◌, [], List, IfOk, length};
 ghost use Rattle.std.specs.List.{flat_map};
 ghost use Rattle.dv_sort.specs.Sorting.{stable, front};
 ghost use Rattle.dv_pipe.specs.Parts.{passed, wanted as wanted_by, ended, rows_of_part, rows_of_run};
@@ -9,7 +9,7 @@ ghost use Rattle.dv_pipe.specs.Stages as defined;
 
 use crate::sources::Sources;
 use crate::stage::Stage;
-use crate::step::{Step, Work, push_row};
+use crate::step::{Step, Work, is_full, push_row};
 use dv_gather::{Group, Join, Lookup};
 use dv_path::SortSpec;
 use dv_sort::{Sorter, laws};
@@ -163,7 +163,7 @@ fn wanted(stages: &[Stage]) -> Option<usize>
     }
 }
 
-/// What the steps make of the documents: the first `most`, behind which no document is looked at, or all.
+/// What the steps make of the documents: the first `most`, behind which no row is made, or all.
 fn each(
     alloc: Global,
     steps: &[Step<'_>],
@@ -177,19 +177,9 @@ fn each(
         if is_full(&rows, most) {
             break;
         }
-        push_row(alloc, steps, document, &mut rows)?;
+        push_row(alloc, steps, most, document, &mut rows)?;
     }
     Ok(cut(rows, most))
-}
-
-/// Whether no row behind these is wanted.
-fn is_full(rows: &[Document], most: Option<usize>) -> bool
-    ensures { result ≡ true → (more : List Row) → front most (rows.now ++ more) ≡ front most rows.now }
-{
-    match most {
-        Some(most) => rows.len() >= most,
-        None => false,
-    }
 }
 
 /// The first rows, so many at most, or all.

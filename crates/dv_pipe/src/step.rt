@@ -1,12 +1,14 @@
 //! Stages that work on one row each.
 
-ghost use Rattle.std.specs.Prelude.{◌≡◌, ◌++◌, OnOk};
+ghost use Rattle.std.specs.Prelude.{◌≡◌, ◌++◌, List, OnOk, true};
 ghost use Rattle.std.specs.List.{flat_map};
+ghost use Rattle.dv_sort.specs.Sorting.{front};
 ghost use Rattle.dv_pipe.specs.Parts.{passed, rows_of_work, rows_of_step};
+ghost use Rattle.dv_pipe.specs.Sources.{Row};
 
 use dv_gather::Join;
 use dv_match::Filter;
-use dv_row::{Project, Unwind};
+use dv_row::{Project, Unwind, UnwoundRows};
 use dv_value::{Document, NoMemory};
 use std::alloc::Global;
 use std::cell::Cell;
@@ -44,16 +46,17 @@ impl<'a> Step<'a> {
     }
 }
 
-/// Puts what the steps make of a row behind other rows: it goes through all of them before the next one begins. As deep as
-/// there are steps, of which a pipeline has 16 at most.
+/// Puts what the steps make of a row behind other rows, of which the first `most` are wanted, or all. Each row that a step makes
+/// goes through all later ones before the next is made. As deep as there are steps, of which a pipeline has 16 at most.
 #[cycle(steps)]
 pub(crate) fn push_row(
     alloc: Global,
     steps: &[Step<'_>],
+    most: Option<usize>,
     row: &Document,
     rows: &mut Vec<Document>,
 ) -> Result<(), NoMemory>
-    ensures { OnOk result (rows.new.items ≡ rows.old.items ++ passed steps.now row.now) }
+    ensures { OnOk result (front most rows.new.items ≡ front most (rows.old.items ++ passed steps.now row.now)) }
 {
     let Some((step, later)) = steps.split_first() else {
         rows.push(row.try_clone()?)?;
@@ -62,20 +65,23 @@ pub(crate) fn push_row(
     match &step.work {
         Work::Match(filter) => {
             if filter.matches(row) {
-                push_row(alloc, later, row, rows)?;
+                push_row(alloc, later, most, row, rows)?;
             }
             Ok(())
         }
         Work::Project(project) => {
             let before = step.made.take();
             let shown = project.row_behind(alloc, row, before.as_ref().or(rows.last()))?;
-            push_made(alloc, step, later, shown, rows)
+            push_made(alloc, step, later, most, shown, rows)
         }
-        Work::Unwind(unwind) => push_each(alloc, step, later, unwind.rows(alloc, row)?, rows),
+        Work::Unwind(unwind) => {
+            let made = unwind.each_row(alloc, row)?;
+            push_each(alloc, step, later, most, &made, rows)
+        }
         Work::Lookup(join) => {
             let before = step.made.take();
             let joined = join.row_behind(alloc, row, before.as_ref().or(rows.last()))?;
-            push_made(alloc, step, later, joined, rows)
+            push_made(alloc, step, later, most, joined, rows)
         }
     }
 }
@@ -86,10 +92,11 @@ fn push_made(
     alloc: Global,
     step: &Step<'_>,
     later: &[Step<'_>],
+    most: Option<usize>,
     mut row: Document,
     rows: &mut Vec<Document>,
 ) -> Result<(), NoMemory>
-    ensures { OnOk result (rows.new.items ≡ rows.old.items ++ passed later.now row) }
+    ensures { OnOk result (front most rows.new.items ≡ front most (rows.old.items ++ passed later.now row)) }
 {
     if later.is_empty() {
         // Its length is asked more than once before it is written.
@@ -97,24 +104,38 @@ fn push_made(
         rows.push(row)?;
         return Ok(());
     }
-    push_row(alloc, later, &row, rows)?;
+    push_row(alloc, later, most, &row, rows)?;
     step.made.set(Some(row));
     Ok(())
 }
 
-/// The same of each of the rows.
+/// The same of each of the rows, as long as one is wanted.
 #[cycle(steps)]
 fn push_each(
     alloc: Global,
     step: &Step<'_>,
     later: &[Step<'_>],
-    made: Vec<Document>,
+    most: Option<usize>,
+    made: &UnwoundRows<'_>,
     rows: &mut Vec<Document>,
 ) -> Result<(), NoMemory>
-    ensures { OnOk result (rows.new.items ≡ rows.old.items ++ flat_map (passed later.now) made.items) }
+    ensures { OnOk result (front most rows.new.items ≡ front most (rows.old.items ++ flat_map (passed later.now) made.now)) }
 {
-    'made: for row in made {
-        push_made(alloc, step, later, row, rows)?;
+    'made: for place in 0..made.len() {
+        if is_full(rows, most) {
+            break;
+        }
+        push_made(alloc, step, later, most, made.row(place)?, rows)?;
     }
     Ok(())
+}
+
+/// Whether no row behind these is wanted.
+pub(crate) fn is_full(rows: &[Document], most: Option<usize>) -> bool
+    ensures { result ≡ true → (more : List Row) → front most (rows.now ++ more) ≡ front most rows.now }
+{
+    match most {
+        Some(most) => rows.len() >= most,
+        None => false,
+    }
 }

@@ -8,6 +8,7 @@ pub mod Items
 pub mod Left
 pub mod Levels
 pub mod Members
+pub mod OneByOne
 pub mod OnWay
 pub mod Ordered
 pub mod Same

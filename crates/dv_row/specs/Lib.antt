@@ -17,6 +17,7 @@ pub mod RowValueView
 pub mod Shown
 pub mod Turns
 pub mod Unwinding
+pub mod UnwoundRows
 pub mod Valid
 pub mod ValidRows
 pub mod Ways

@@ -14,6 +14,7 @@ mod project;
 mod row_value;
 mod switch;
 mod unwind;
+mod unwound_rows;
 mod way;
 mod ways;
 
@@ -23,3 +24,4 @@ pub use paths::Paths;
 pub use project::Project;
 pub use row_value::RowValue;
 pub use unwind::Unwind;
+pub use unwound_rows::UnwoundRows;

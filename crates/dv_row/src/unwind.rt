@@ -1,16 +1,18 @@
 //! `$unwind`.
 
-ghost use Rattle.std.specs.Prelude.{◌≡◌, ◌++◌, length, take, Some, IfOk, OnErr, OnOk};
+ghost use Rattle.std.specs.Prelude.{◌≡◌, ◌++◌, [], if◌then◌else◌, length, take, Some, IfOk, OnErr, OnOk};
 ghost use Rattle.dv_value.specs.View.{tree};
 ghost use Rattle.dv_value.specs.Tree.{array, elements_of};
 ghost use Rattle.std.specs.List.{list_all};
 ghost use Rattle.dv_row.specs.Parsing as parsing;
 ghost use Rattle.dv_row.specs.Parsing.{Gives};
 ghost use Rattle.dv_row.specs.Unwinding as defined;
+ghost use Rattle.dv_row.specs.UnwoundRows.{rows_of_origin};
 
 use crate::fault::PipelineFault;
 use crate::field_path::field_path;
 use crate::row_value::standing;
+use crate::unwound_rows::{Origin, UnwoundRows};
 use crate::way::Way;
 use dv_candidates::Path;
 use dv_value::{Document, List, NoMemory, Value};
@@ -71,56 +73,63 @@ impl Unwind {
     }
 
     /// Appends the rows of a row to others. Fails with `NoMemory` when memory runs out; then some of them may have been appended.
-    #[tactic(auto, unfolding(crate::specs::Unwinding::unwound))]
     pub fn push_rows(&self, row: &Document, rows: &mut Vec<Document>) -> Result<(), NoMemory>
         ensures rows { OnOk result (rows.new.items ≡ rows.old.items ++ defined.unwound self.now row.now) }
         ensures begins { OnErr result (take (length rows.old.items) rows.new.items ≡ rows.old.items) }
     {
+        let unwound = self.each_row(*rows.allocator(), row)?;
+        'places: for place in 0..unwound.len() {
+            rows.push(unwound.row(place)?)?;
+        }
+        Ok(())
+    }
+
+    /// The rows of a row, each of which is made when it is asked for. Fails with `NoMemory` when memory runs out.
+    #[tactic(auto, unfolding(crate::specs::Unwinding::unwound))]
+    pub fn each_row<'a>(
+        &'a self,
+        alloc: Global,
+        row: &'a Document,
+    ) -> Result<UnwoundRows<'a>, NoMemory>
+        ensures { IfOk result (λ rows. rows ≡ defined.unwound self.now row.now) }
+    {
         let Some(value) = standing(row, self.path.components()).flatten() else {
-            return self.preserve(row.try_clone()?, rows);
+            return Ok(self.preserved(Origin::Itself(row)));
         };
         match value {
-            Value::Null => self.preserve(row.try_clone()?, rows),
-            Value::Array(list) => self.push_elements(row, list, rows),
-            _ => {
-                rows.push(row.try_clone()?)?;
-                Ok(())
-            }
+            Value::Null => Ok(self.preserved(Origin::Itself(row))),
+            Value::Array(list) => self.each_of_elements(alloc, row, list),
+            _ => Ok(UnwoundRows::of(Origin::Itself(row))),
         }
     }
 
-    /// Puts a row behind others where rows without elements stay.
-    fn preserve(&self, row: Document, rows: &mut Vec<Document>) -> Result<(), NoMemory>
-        ensures rows { OnOk result (rows.new.items ≡ rows.old.items ++ defined.preserved self.now.preserve row) }
-        ensures begins { OnErr result (take (length rows.old.items) rows.new.items ≡ rows.old.items) }
+    /// What is made of this where rows without elements stay, else no row.
+    fn preserved<'a>(&self, origin: Origin<'a>) -> UnwoundRows<'a>
+        ensures { result ≡ (if self.now.preserve then rows_of_origin origin.entry else []) }
     {
         if self.preserve {
-            rows.push(row)?;
+            UnwoundRows::of(origin)
+        } else {
+            UnwoundRows::of(Origin::Nothing)
         }
-        Ok(())
     }
 
-    /// Puts a row for each element of the array behind others, and for none the row without the array.
-    fn push_elements(
-        &self,
-        row: &Document,
-        list: &List,
-        rows: &mut Vec<Document>,
-    ) -> Result<(), NoMemory>
+    /// A row for each element of the array, and for none the row without the array.
+    fn each_of_elements<'a>(
+        &'a self,
+        alloc: Global,
+        row: &'a Document,
+        list: &'a List,
+    ) -> Result<UnwoundRows<'a>, NoMemory>
         requires { defined.reached self.now.path row.now ≡ Some (array (elements_of list.now)) }
-        ensures rows { OnOk result (rows.new.items ≡ rows.old.items ++ defined.rows_of_elements self.now row.now (elements_of list.now)) }
-        ensures begins { OnErr result (take (length rows.old.items) rows.new.items ≡ rows.old.items) }
+        ensures { IfOk result (λ rows. rows ≡ defined.rows_of_elements self.now row.now (elements_of list.now)) }
     {
-        let way = Way::of(*rows.allocator(), row, &self.path)?;
+        let way = Way::of(alloc, row, &self.path)?;
         let elements = list.as_slice();
         if elements.is_empty() {
-            return self.preserve(way.with(None)?, rows);
+            return Ok(self.preserved(Origin::Emptied(way)));
         }
-        'elements: for element in elements {
-            let element = element.try_clone()?;
-            rows.push(way.with(Some(element))?)?;
-        }
-        Ok(())
+        Ok(UnwoundRows::of(Origin::Elements(way, elements)))
     }
 
     /// A copy of its own. Fails with `NoMemory` when memory runs out.

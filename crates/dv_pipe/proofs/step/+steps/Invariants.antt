@@ -1,5 +1,6 @@
-use Rattle.std.proofs.Common.{◌≡◌, ◌++◌, ◌+◌, ◌*◌, length}
+use Rattle.std.proofs.Common.{◌≡◌, ◌++◌, ◌+◌, ◌*◌, length, take}
 use Rattle.std.specs.List.{flat_map}
+use Rattle.dv_sort.specs.Sorting.{front}
 use Rattle.dv_pipe.specs.Parts.{passed}
 use Rattle.dv_pipe.proofs.step.+steps.Given as goal
 
@@ -13,4 +14,4 @@ abbrev pub decreases-push_each : goal.decreases-push_each
 decreases-push_each l = 3 * length l.later.now + 2
 
 abbrev pub invariant-push_each-made : goal.invariant-push_each-made
-invariant-push_each-made l = l.rows.items ≡ l.initial.rows.items ++ flat_map (passed l.later) l.yielded
+invariant-push_each-made l = front l.most l.rows.items ≡ front l.most (l.initial.rows.items ++ flat_map (passed l.later) (take l.place l.made))

@@ -1,0 +1,80 @@
+//! The rows of an `$unwind`, one by one.
+
+ghost use Rattle.std.specs.Prelude.{◌≡◌, ◌<◌, Some, IfOk, length, slice_get};
+ghost use Rattle.dv_row.specs.UnwoundRows.{rows_of_origin};
+
+use crate::way::Way;
+use dv_value::{Document, NoMemory, Value};
+use std::marker::Model;
+
+/// What rows of an `$unwind` are made of.
+#[derive(Debug, Drop)]
+pub(crate) enum Origin<'a> {
+    /// There are none.
+    Nothing,
+    /// The row itself is the only one.
+    Itself(&'a Document),
+    /// The only one is the row without the array that the way leads to.
+    Emptied(Way<'a>),
+    /// Each of the array's elements makes one, in the place of the array that the way leads to.
+    Elements(Way<'a>, &'a [Value]),
+}
+
+/// The rows that an `$unwind` makes of a row. Each is made when it is asked for.
+#[derive(Debug, Drop)]
+pub struct UnwoundRows<'a> {
+    origin: Origin<'a>,
+}
+
+impl<'a> Model for UnwoundRows<'a> {
+    ghost use Rattle.std.specs.Prelude.{List};
+    ghost use Rattle.std.specs.Coded.{coded_list, coded×, coded_ℕ};
+    ghost use Rattle.dv_value.specs.TreeCode.{coded_tree};
+    ghost use Rattle.dv_row.specs.Row.{Row};
+    ghost use Rattle.dv_row.specs.UnwoundRows.{rows_of_origin};
+
+    ghost Value = { List Row };
+
+    ghost coded = { coded_list (coded_list (coded× (coded_list coded_ℕ) coded_tree)) };
+
+    ghost view = { λ u. rows_of_origin u.origin };
+}
+
+impl<'a> UnwoundRows<'a> {
+    /// The rows that are made of this.
+    pub(crate) fn of(origin: Origin<'a>) -> Self
+        ensures { result ≡ rows_of_origin origin.entry }
+    {
+        UnwoundRows { origin }
+    }
+
+    /// How many rows there are. Takes no memory.
+    pub fn len(&self) -> usize
+        ensures { result ≡ length self.now }
+    {
+        match &self.origin {
+            Origin::Nothing => 0,
+            Origin::Itself(_) => 1,
+            Origin::Emptied(_) => 1,
+            Origin::Elements(_, elements) => elements.len(),
+        }
+    }
+
+    /// The row at `place`, counted from 0, which there must be. Fails with `NoMemory` when memory runs out.
+    pub fn row(&self, place: usize) -> Result<Document, NoMemory>
+        requires { place < length self.now }
+        ensures { IfOk result (λ row. slice_get self.now place ≡ Some row) }
+    {
+        match &self.origin {
+            Origin::Nothing => unreachable!(),
+            Origin::Itself(row) => row.try_clone(),
+            Origin::Emptied(way) => way.with(None),
+            Origin::Elements(way, elements) => {
+                let Some(element) = elements.get(place) else {
+                    unreachable!();
+                };
+                way.with(Some(element.try_clone()?))
+            }
+        }
+    }
+}
