@@ -1,5 +1,5 @@
 -- Lists that begin with others.
-use Rattle.std.proofs.Common.{◌≡◌, ◌∙◌, ◌≤◌, List, length, take, ap, arith, sym}
+use Rattle.std.proofs.Common.{◌∙◌, ◌≤◌, List, length, take, ap, arith, sym}
 use Rattle.std.proofs.lemmas.List.{length-take, take-take}
 use Rattle.dv_change.specs.Beginning.{BeginsWith}
 

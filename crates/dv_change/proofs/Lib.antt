@@ -7,3 +7,5 @@ pub mod Lawful
 pub mod PartsAgain
 pub mod Behind
 pub mod Alone
+pub mod Underway
+pub mod Lists

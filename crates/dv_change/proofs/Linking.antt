@@ -1,6 +1,6 @@
 -- Turns that stay linked while changes go through them.
 use Rattle.std.proofs.Common.{◌≡◌, ◌∙◌, ap, sym, subst, refl, List, [], ◌∷◌, ◌++◌, ◌+◌, ℕ, length, arith, ◌-◌}
-use Rattle.std.specs.Prelude.{Result, Ok, Err, OnOk, Bool, true, false, if◌then◌else◌, nat_lt}
+use Rattle.std.specs.Prelude.{Bool, true, false, if◌then◌else◌, nat_lt}
 use Rattle.std.specs.List.{AllByRecursion}
 use Rattle.dv_change.specs.declared.change.Change.{Change}
 use Rattle.dv_change.specs.Changes.{IsExactChange, IsPositioned, Positioned, with_change, with_changes}
@@ -13,15 +13,6 @@ use Rattle.dv_change.specs.Inputs.{input_changed_at, left_after, others_after}
 use Rattle.dv_change.specs.Raised.{raised}
 use Rattle.dv_change.specs.RowLaws.{positioned-none}
 use Rattle.dv_change.specs.Work.{Form, forms_after, forms_named, handed, owed_by, pass, pass_in, pass_named, through_forms, work, work_named}
-
--- what holds where a call answers Ok
-pub ok-both : {A E : Type 0} {P Q R : Type 0} (r : Result A E) → OnOk r P → OnOk r Q → (P → Q → R) → OnOk r R
-ok-both (Ok a) p q f = f p q
-ok-both (Err e) p q f = tt
-
-pub ok-one : {A E : Type 0} {P R : Type 0} (r : Result A E) → OnOk r P → (P → R) → OnOk r R
-ok-one (Ok a) p f = f p
-ok-one (Err e) p f = tt
 
 pub raised-twice : (n a b : ℕ) → raised (raised n a) b ≡ raised n (a + b)
 raised-twice n a b = omega arith

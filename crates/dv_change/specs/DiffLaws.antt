@@ -82,7 +82,7 @@ gone_twice true v (Some x) r = refl
 gone_twice false v None r = refl
 gone_twice false v (Some x) r = refl
 
-at-all_go : (q : PosTree) (es rows : Positioned) → IsPositioned rows → at q (with_changes rows (all_go es)) ≡ cond (is_some (at q es)) None (at q rows)
+pub at-all_go : (q : PosTree) (es rows : Positioned) → IsPositioned rows → at q (with_changes rows (all_go es)) ≡ cond (is_some (at q es)) None (at q rows)
 at-all_go q [] rows are = refl
 at-all_go q (e ∷ es) rows are =
     at-all_go q es (gone e.0 rows) (positioned-gone e.0 rows are)
@@ -186,15 +186,22 @@ module _ (old new before after : Positioned) where
   came-there q (inr same) =
       ap (option_filter (λ v. not (stands_as (at q old) v))) (sym same.2) ∙ none_differs (at q old) ∙ sym (ap (option_filter (λ v. not (stands_as (at q before) v))) same.1)
 
+  -- what goes is the same, and so is what comes
+  pub goes-alike : IsPositioned old → IsPositioned before → ((q : PosTree) → IsExact q → IsPartAt old new before after q) → filter (went new) old ≡ filter (went after) before
+  goes-alike o b parts =
+      same_rows (filter (went new) old) (filter (went after) before) (positioned-filter (went new) old o) (positioned-filter (went after) before b) (λ q exact.
+      at-went old new q o ∙ went-there q (parts q exact) ∙ sym (at-went before after q b))
+
+  pub comes-alike : IsPositioned new → IsPositioned after → ((q : PosTree) → IsExact q → IsPartAt old new before after q) → filter (row_differs old) new ≡ filter (row_differs before) after
+  comes-alike n a parts =
+      same_rows (filter (row_differs old) new) (filter (row_differs before) after) (positioned-filter (row_differs old) new n) (positioned-filter (row_differs before) after a) (λ q exact.
+      at-differs old new q n ∙ came-there q (parts q exact) ∙ sym (at-differs before after q a))
+
   -- their difference is that of the parts
   pub diff-parts : IsPositioned old → IsPositioned new → IsPositioned before → IsPositioned after → ((q : PosTree) → IsExact q → IsPartAt old new before after q) → diff old new ≡ diff before after
   diff-parts o n b a parts =
-      let goes : filter (went new) old ≡ filter (went after) before =
-      same_rows (filter (went new) old) (filter (went after) before) (positioned-filter (went new) old o) (positioned-filter (went after) before b) (λ q exact.
-      at-went old new q o ∙ went-there q (parts q exact) ∙ sym (at-went before after q b)) in
-      let comes : filter (row_differs old) new ≡ filter (row_differs before) after =
-      same_rows (filter (row_differs old) new) (filter (row_differs before) after) (positioned-filter (row_differs old) new n) (positioned-filter (row_differs before) after a) (λ q exact.
-      at-differs old new q n ∙ came-there q (parts q exact) ∙ sym (at-differs before after q a)) in
+      let goes = goes-alike o b parts in
+      let comes = comes-alike n a parts in
       λ i. all_go (goes i) ++ all_come (comes i)
 
 -- ---- rows after a change

@@ -9,10 +9,15 @@ pub mod Beginning
 pub mod Difference
 pub mod DiffLaws
 pub mod Inputs
+pub mod Answered
 pub mod Ordered
 pub mod Raised
 pub mod RowLaws
 pub mod Work
+pub mod Telling
+pub mod Told
+pub mod ToldLaws
+pub mod Fed
 pub mod Linked
 pub mod OrderedView
 pub mod Examples

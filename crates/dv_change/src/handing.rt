@@ -1,14 +1,18 @@
 //! What a stage hands on that made some rows and now makes others.
 
-ghost use Rattle.std.specs.Prelude.{◌≡◌, ◌≤◌, ◌+◌, ◌++◌, length, OnErr, OnOk};
+ghost use Rattle.std.specs.Prelude.{◌≡◌, ◌≤◌, ◌+◌, ◌++◌, List, None, Option, Some, length, option_map, IfOk, OnErr, OnOk};
+ghost use Rattle.dv_value.specs.Tree.{Field};
 ghost use Rattle.dv_change.specs.Beginning.{BeginsWith};
-ghost use Rattle.dv_change.specs.Difference as defined;
-ghost use Rattle.dv_change.specs.Difference.{diff, gones, puts};
+ghost use Rattle.dv_change.specs.Difference.{diff};
+ghost use Rattle.dv_change.specs.Positions.{PosTree};
 ghost use Rattle.dv_change.specs.Raised.{raised};
+ghost use Rattle.dv_change.specs.Telling.{diff_by, gone_by, gones_by, put_by, puts_by};
+ghost use Rattle.dv_change.specs.Told.{change_to, diff_told};
 
 use crate::change::Change;
 use crate::ordered::Ordered;
 use crate::position::Pos;
+use crate::taking::Taken;
 use crate::ticks::Ticks;
 use dv_order::same_documents;
 use dv_value::{Document, NoMemory};
@@ -27,6 +31,91 @@ pub fn hand_on(
     ensures begins { OnErr result (BeginsWith out.new.items out.old.items) }
     ensures no_fewer { OnErr result (ticks.old ≤ ticks.new) }
 {
+    push_all(old, new, ticks, out)
+}
+
+/// The same, each change with the row that stood at its position.
+pub fn hand_over(
+    old: &Ordered<Document>,
+    new: &Ordered<Document>,
+    ticks: &mut Ticks,
+    out: &mut Vec<Taken>,
+) -> Result<(), NoMemory>
+    ensures out { OnOk result (out.new.items ≡ out.old.items ++ diff_told old.now new.now) }
+    ensures ticks { OnOk result (ticks.new ≡ raised ticks.old (1 + length (diff_told old.now new.now))) }
+    ensures begins { OnErr result (BeginsWith out.new.items out.old.items) }
+    ensures no_fewer { OnErr result (ticks.old ≤ ticks.new) }
+{
+    push_all(old, new, ticks, out)
+}
+
+/// What tells of a change of rows.
+trait Telling: Sized + Drop {
+    /// What tells of the position, of the row that stood there and of the one that stands there now.
+    ghost tells: { PosTree → Option (List Field) → Option (List Field) → Self };
+
+    /// That the row goes. Fails with `NoMemory` when memory runs out.
+    fn gone(pos: &Pos, row: &Document) -> Result<Self, NoMemory>
+        ensures { IfOk result (λ told. told ≡ tells pos.now (Some row.now) None) };
+
+    /// That the row comes, in place of the one that is there, if any. Fails with `NoMemory` when memory runs out.
+    fn put(pos: &Pos, there: Option<&Document>, row: &Document) -> Result<Self, NoMemory>
+        ensures { IfOk result (λ told. told ≡ tells pos.now (option_map (λ d. d.now) there.entry) (Some row.now)) };
+}
+
+impl Telling for Change {
+    ghost tells = { λ pos old new. change_to pos new };
+
+    fn gone(pos: &Pos, _row: &Document) -> Result<Self, NoMemory> {
+        Ok(Change::Gone {
+            pos: pos.try_clone()?,
+        })
+    }
+
+    fn put(pos: &Pos, _there: Option<&Document>, row: &Document) -> Result<Self, NoMemory> {
+        Ok(Change::Put {
+            pos: pos.try_clone()?,
+            row: row.try_clone()?,
+        })
+    }
+}
+
+impl Telling for Taken {
+    ghost tells = { λ p o n. record { pos = p; old = o; new = n } };
+
+    fn gone(pos: &Pos, row: &Document) -> Result<Self, NoMemory> {
+        Ok(Taken {
+            pos: pos.try_clone()?,
+            old: Some(row.try_clone()?),
+            new: None,
+        })
+    }
+
+    fn put(pos: &Pos, there: Option<&Document>, row: &Document) -> Result<Self, NoMemory> {
+        let old = match there {
+            Some(there) => Some(there.try_clone()?),
+            None => None,
+        };
+        Ok(Taken {
+            pos: pos.try_clone()?,
+            old,
+            new: Some(row.try_clone()?),
+        })
+    }
+}
+
+/// Puts what tells of each row that goes, and then of each that comes or isn't the same, behind what is in `out`.
+fn push_all<T: Telling>(
+    old: &Ordered<Document>,
+    new: &Ordered<Document>,
+    ticks: &mut Ticks,
+    out: &mut Vec<T>,
+) -> Result<(), NoMemory>
+    ensures out { OnOk result (out.new.items ≡ out.old.items ++ diff_by T.tells old.now new.now) }
+    ensures ticks { OnOk result (ticks.new ≡ raised ticks.old (1 + length (diff_by T.tells old.now new.now))) }
+    ensures begins { OnErr result (BeginsWith out.new.items out.old.items) }
+    ensures no_fewer { OnErr result (ticks.old ≤ ticks.new) }
+{
     let before = out.len();
     push_gones(old, new, out)?;
     push_puts(old, new, out)?;
@@ -35,45 +124,48 @@ pub fn hand_on(
     Ok(())
 }
 
-/// Puts each position of the old rows at which no new one stands behind what is in `out`.
-fn push_gones(
+/// Puts what tells of each old row at whose position no new one stands behind what is in `out`.
+fn push_gones<T: Telling>(
     old: &Ordered<Document>,
     new: &Ordered<Document>,
-    out: &mut Vec<Change>,
+    out: &mut Vec<T>,
 ) -> Result<(), NoMemory>
-    ensures out { OnOk result (out.new.items ≡ out.old.items ++ gones old.now new.now) }
+    ensures out { OnOk result (out.new.items ≡ out.old.items ++ gones_by T.tells old.now new.now) }
     ensures begins { OnErr result (BeginsWith out.new.items out.old.items) }
 {
-    let Some((pos, _)) = old.first() else {
+    let Some((pos, row)) = old.first() else {
         return Ok(());
     };
-    push_gone(pos, new, out)?;
-    'others: for (pos, _) in old.others() {
-        push_gone(pos, new, out)?;
+    push_gone(pos, row, new, out)?;
+    'others: for (pos, row) in old.others() {
+        push_gone(pos, row, new, out)?;
     }
     Ok(())
 }
 
-/// Puts the position behind what is in `out`, where no new row stands at it.
-fn push_gone(pos: &Pos, new: &Ordered<Document>, out: &mut Vec<Change>) -> Result<(), NoMemory>
-    ensures out { OnOk result (out.new.items ≡ out.old.items ++ defined.gone_from pos.now new.now) }
+/// Puts what tells that the row goes behind what is in `out`, where no new row stands at its position.
+fn push_gone<T: Telling>(
+    pos: &Pos,
+    row: &Document,
+    new: &Ordered<Document>,
+    out: &mut Vec<T>,
+) -> Result<(), NoMemory>
+    ensures out { OnOk result (out.new.items ≡ out.old.items ++ gone_by T.tells pos.now row.now new.now) }
     ensures err { OnErr result (out.new.items ≡ out.old.items) }
 {
     if new.get(pos).is_none() {
-        out.push(Change::Gone {
-            pos: pos.try_clone()?,
-        })?;
+        out.push(T::gone(pos, row)?)?;
     }
     Ok(())
 }
 
-/// Puts each new row that doesn't stand among the old ones behind what is in `out`.
-fn push_puts(
+/// Puts what tells of each new row that doesn't stand among the old ones behind what is in `out`.
+fn push_puts<T: Telling>(
     old: &Ordered<Document>,
     new: &Ordered<Document>,
-    out: &mut Vec<Change>,
+    out: &mut Vec<T>,
 ) -> Result<(), NoMemory>
-    ensures out { OnOk result (out.new.items ≡ out.old.items ++ puts old.now new.now) }
+    ensures out { OnOk result (out.new.items ≡ out.old.items ++ puts_by T.tells old.now new.now) }
     ensures begins { OnErr result (BeginsWith out.new.items out.old.items) }
 {
     let Some((pos, row)) = new.first() else {
@@ -86,24 +178,22 @@ fn push_puts(
     Ok(())
 }
 
-/// Puts the row behind what is in `out`, unless it stands at its position among the old ones.
-fn push_put(
+/// Puts what tells that the row comes behind what is in `out`, unless it stands at its position among the old ones.
+fn push_put<T: Telling>(
     old: &Ordered<Document>,
     pos: &Pos,
     row: &Document,
-    out: &mut Vec<Change>,
+    out: &mut Vec<T>,
 ) -> Result<(), NoMemory>
-    ensures out { OnOk result (out.new.items ≡ out.old.items ++ defined.put_over old.now pos.now row.now) }
+    ensures out { OnOk result (out.new.items ≡ out.old.items ++ put_by T.tells old.now pos.now row.now) }
     ensures err { OnErr result (out.new.items ≡ out.old.items) }
 {
-    if let Some(there) = old.get(pos) {
+    let stood = old.get(pos);
+    if let Some(there) = stood {
         if same_documents(there, row) {
             return Ok(());
         }
     }
-    out.push(Change::Put {
-        pos: pos.try_clone()?,
-        row: row.try_clone()?,
-    })?;
+    out.push(T::put(pos, stood, row)?)?;
     Ok(())
 }

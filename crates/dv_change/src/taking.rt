@@ -2,6 +2,7 @@
 
 ghost use Rattle.std.specs.Prelude.{◌≡◌, IfOk, OnOk};
 ghost use Rattle.dv_change.specs.Changes.{IsExactChange, IsPositioned, at, position_changed, row_in, with_change};
+ghost use Rattle.dv_change.specs.Told.{change_told};
 
 use crate::change::Change;
 use crate::position::Pos;
@@ -17,6 +18,19 @@ pub struct Taken {
     pub old: Option<Document>,
     /// The row that is there now, if any.
     pub new: Option<Document>,
+}
+
+impl Taken {
+    /// The change.
+    pub fn into_change(self) -> Change
+        ensures { result ≡ change_told self }
+    {
+        let Taken { pos, new, .. } = self;
+        match new {
+            Some(row) => Change::Put { pos, row },
+            None => Change::Gone { pos },
+        }
+    }
 }
 
 /// Takes a change into the rows, which are in the order of their positions. Fails with `NoMemory` when memory runs out.

@@ -1,6 +1,6 @@
 -- The first rows and the rest, kept by changes: where the rows stand that come and go.
-use Rattle.std.specs.Prelude.{◌≡◌, ◌+◌, ◌-◌, ◌<◌, ◌≤◌, ℕ, suc, Bool, true, false, cond, ◌&&◌, ◌↔◌, List, [], ◌∷◌, ◌++◌, length, None, Some, is_some, IsSome, OnOk, slice_get, ⊤, zero, refl}
-use Rattle.std.proofs.Common.{ap, append-nil, append_assoc, arith, inr, sym, subst, take_at, Result, Ok, Err, ◌∙◌}
+use Rattle.std.specs.Prelude.{◌≡◌, ◌+◌, ◌-◌, ◌<◌, ◌≤◌, ℕ, suc, Bool, true, false, cond, ◌&&◌, ◌↔◌, List, [], ◌∷◌, ◌++◌, length, None, Some, is_some, IsSome, slice_get, ⊤, zero, refl}
+use Rattle.std.proofs.Common.{ap, append-nil, append_assoc, arith, inr, sym, subst, take_at, ◌∙◌}
 use Rattle.std.proofs.lemmas.List.Elements.{recursion_from_All}
 use Rattle.std.proofs.lemmas.List.{length_push}
 use Rattle.std.proofs.lemmas.Map.Keys.{sorted_head}
@@ -249,8 +249,3 @@ module _ (p : PosTree) (r : List Field) where
 pub at-most-one : (b : Bool) → cond b 0 1 ≤ 1
 at-most-one true = omega arith
 at-most-one false = omega arith
-
--- what holds where there is no failure
-pub ok-one : {T E : Type 0} {P Q : Type 0} (r : Result T E) → OnOk r P → (P → Q) → OnOk r Q
-ok-one (Ok x) p f = f p
-ok-one (Err e) p f = tt

@@ -7,7 +7,7 @@ use Rattle.std.specs.Ordering.{is_eq}
 use Rattle.dv_value.specs.Tree.{Field}
 use Rattle.dv_change.specs.declared.change.Change.{Change}
 use Rattle.dv_change.specs.declared.change.Change.TheVariants.{Gone, Put}
-use Rattle.dv_change.specs.Changes.{IsExactChange, IsPositioned, Positioned, at, position_changed, with_change}
+use Rattle.dv_change.specs.Changes.{IsExactChange, IsPositioned, Positioned, at, position_changed, row_in, with_change}
 use Rattle.dv_change.specs.DiffLaws.{at-differs, at-went, diff-parts, positioned-changed, positioned-filter}
 use Rattle.dv_change.specs.Difference.{diff, gones, puts, stands_as}
 use Rattle.dv_change.specs.Ordered.{gone}
@@ -94,7 +94,7 @@ module _ (p : PosTree) (old new : Positioned) (o : IsPositioned old) (n : IsPosi
       by false b = same b
 
 pub limit-bound : (n : ℕ) (rows : Positioned) (change : Change) → IsPositioned rows → IsExactChange change → length (diff (front_at n rows) (front_at n (with_change rows change))) ≤ 2
-limit-bound n rows change are exact = by (edge_of n change rows) refl
+limit-bound n rows change are exact = by (edge_of n (row_in change) rows) refl
   where
     p : PosTree
     p = position_changed change
@@ -111,10 +111,10 @@ limit-bound n rows change are exact = by (edge_of n change rows) refl
     w : IsPositioned new
     w = limit_ordered n (with_change rows change) (positioned-changed rows change are exact)
 
-    others : (q : PosTree) → is_beside q (edge_of n change rows) ≡ false → at q (gone p old) ≡ at q (gone p new)
+    others : (q : PosTree) → is_beside q (edge_of n (row_in change) rows) ≡ false → at q (gone p old) ≡ at q (gone p new)
     others q other = gone-alike p old new o w q (λ apart. sym (at-front-changed q n rows change apart other))
 
-    by : (edge : Option PosTree) → edge_of n change rows ≡ edge → length (diff old new) ≤ 2
+    by : (edge : Option PosTree) → edge_of n (row_in change) rows ≡ edge → length (diff old new) ≤ 2
     by None e =
         let same : diff (gone p old) (gone p new) ≡ [] =
         diff-parts (gone p old) (gone p new) [] [] (positioned-gone p old o) (positioned-gone p new w) positioned-none positioned-none (λ q x. inr (refl, refl, others q (ap (is_beside q) e))) in

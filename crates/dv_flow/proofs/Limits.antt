@@ -11,12 +11,14 @@ use Rattle.std.specs.Ordering.{is_eq, match_ordering}
 use Rattle.dv_value.specs.Tree.{Field}
 use Rattle.dv_change.specs.declared.change.Change.{Change}
 use Rattle.dv_change.specs.declared.change.Change.TheVariants.{Gone, Put}
-use Rattle.dv_change.specs.Changes.{IsExactChange, IsPositioned, Positioned, at, forget, position_changed, with_change}
-use Rattle.dv_change.specs.DiffLaws.{IsPartAt, diff-parts, exact-place, or_else, positioned-changed}
+use Rattle.dv_change.specs.Changes.{IsExactChange, IsPositioned, Positioned, at, forget, position_changed, row_in, with_change}
+use Rattle.dv_change.specs.DiffLaws.{IsPartAt, exact-place, or_else, positioned-changed}
 use Rattle.dv_change.specs.Difference.{diff}
 use Rattle.dv_change.specs.Ordered.{gone, put}
 use Rattle.dv_change.specs.PositionLaws.{pos_order_total}
 use Rattle.dv_change.specs.Positions.{IsExact, PosTree, pos_order}
+use Rattle.dv_change.specs.Told.{change_to, diff_told, told_along}
+use Rattle.dv_change.specs.ToldLaws.{along-diff, told-parts}
 use Rattle.dv_change.specs.RowLaws.{at-like, at-put, positioned-none, positioned-put}
 use Rattle.dv_flow.specs.Limiting.{at_either, edge_of, last_place, limit_ordered, next_place, with_limited_row}
 use Rattle.dv_flow.specs.Placed.{front_at}
@@ -65,7 +67,7 @@ at-front-gone q p (suc n) (e ∷ rows) apart other = by (is_eq (pos_order p e.0)
         sym (at-next q n rows other) ∙ sym (ap (λ b. cond b (Some e.1) (at q (front_at n rows))) here)
     by false b rest = ap (cond (is_eq (pos_order q e.0)) (Some e.1)) rest
 
-pub at-front-changed : (q : PosTree) (n : ℕ) (rows : Positioned) (change : Change) → is_eq (pos_order q (position_changed change)) ≡ false → is_beside q (edge_of n change rows) ≡ false → at q (front_at n (with_change rows change)) ≡ at q (front_at n rows)
+pub at-front-changed : (q : PosTree) (n : ℕ) (rows : Positioned) (change : Change) → is_eq (pos_order q (position_changed change)) ≡ false → is_beside q (edge_of n (row_in change) rows) ≡ false → at q (front_at n (with_change rows change)) ≡ at q (front_at n rows)
 at-front-changed q n rows (Put p r) apart other = at-front-put q p r n rows apart other
 at-front-changed q n rows (Gone p) apart other = at-front-gone q p n rows apart other
 
@@ -132,28 +134,42 @@ exact-last : (n : ℕ) (rows : Positioned) → AllByRecursion IsExact (keys_of r
 exact-last zero rows exact = tt
 exact-last (suc n) rows exact = exact-next n rows exact
 
-exact-edge : (n : ℕ) (change : Change) (rows : Positioned) → AllByRecursion IsExact (keys_of rows) → IsExactEdge (edge_of n change rows)
-exact-edge n (Put p r) rows exact = exact-last n rows exact
-exact-edge n (Gone p) rows exact = exact-next n rows exact
+exact-edge : (n : ℕ) (row : Option (List Field)) (rows : Positioned) → AllByRecursion IsExact (keys_of rows) → IsExactEdge (edge_of n row rows)
+exact-edge n (Some r) rows exact = exact-last n rows exact
+exact-edge n None rows exact = exact-next n rows exact
 
--- ---- what the stage owes for a change: what changes at the position of the change and at the edge
+-- ---- the change that puts a row, or takes one away
+
+pub place-to : (pos : PosTree) (row : Option (List Field)) → position_changed (change_to pos row) ≡ pos
+place-to pos None = refl
+place-to pos (Some r) = refl
+
+row-to : (pos : PosTree) (row : Option (List Field)) → row_in (change_to pos row) ≡ row
+row-to pos None = refl
+row-to pos (Some r) = refl
+
+pub exact-to : (pos : PosTree) (row : Option (List Field)) → IsExact pos → IsExactChange (change_to pos row)
+exact-to pos None exact = exact
+exact-to pos (Some r) exact = exact
+
+-- ---- what the stage tells of a change: what changes at the position of the change and at the edge
 
 module _ (n : ℕ) (rows : Positioned) (change : Change) (are : IsPositioned rows) (exact : IsExactChange change) where
   after : IsPositioned (with_change rows change)
   after = positioned-changed rows change are exact
 
-  part : (q : PosTree) (here : Bool) → is_either q (position_changed change) (edge_of n change rows) ≡ here
-      → IsPartAt (front_at n rows) (front_at n (with_change rows change)) (at_either (position_changed change) (edge_of n change rows) (front_at n rows)) (at_either (position_changed change) (edge_of n change rows) (front_at n (with_change rows change))) q
+  part : (q : PosTree) (here : Bool) → is_either q (position_changed change) (edge_of n (row_in change) rows) ≡ here
+      → IsPartAt (front_at n rows) (front_at n (with_change rows change)) (at_either (position_changed change) (edge_of n (row_in change) rows) (front_at n rows)) (at_either (position_changed change) (edge_of n (row_in change) rows) (front_at n (with_change rows change))) q
   part q true here =
       let p = position_changed change in
-      let edge = edge_of n change rows in
+      let edge = edge_of n (row_in change) rows in
       inl (
         at-at-either q p edge (front_at n rows) ∙ ap (λ b. cond b (at q (front_at n rows)) None) here,
         at-at-either q p edge (front_at n (with_change rows change)) ∙ ap (λ b. cond b (at q (front_at n (with_change rows change))) None) here,
       )
   part q false here =
       let p = position_changed change in
-      let edge = edge_of n change rows in
+      let edge = edge_of n (row_in change) rows in
       let apart = neither q p edge here in
       inr (
         at-at-either q p edge (front_at n rows) ∙ ap (λ b. cond b (at q (front_at n rows)) None) here,
@@ -161,23 +177,26 @@ module _ (n : ℕ) (rows : Positioned) (change : Change) (are : IsPositioned row
         sym (at-front-changed q n rows change apart.0 apart.1),
       )
 
-  pub limit-owed : diff (front_at n rows) (front_at n (with_change rows change)) ≡ diff (at_either (position_changed change) (edge_of n change rows) (front_at n rows)) (at_either (position_changed change) (edge_of n change rows) (front_at n (with_change rows change)))
-  limit-owed =
+  pub limit-parts : told_along (front_at n rows) (diff (front_at n rows) (front_at n (with_change rows change))) ≡ diff_told (at_either (position_changed change) (edge_of n (row_in change) rows) (front_at n rows)) (at_either (position_changed change) (edge_of n (row_in change) rows) (front_at n (with_change rows change)))
+  limit-parts =
       let p = position_changed change in
-      let edge = edge_of n change rows in
+      let edge = edge_of n (row_in change) rows in
       let old = front_at n rows in
       let new = front_at n (with_change rows change) in
       let place = exact-place change exact in
-      let also = exact-edge n change rows are.exact in
-      diff-parts old new (at_either p edge old) (at_either p edge new) (limit_ordered n rows are) (limit_ordered n (with_change rows change) after) (positioned-either p edge old place also) (positioned-either p edge new place also) (λ q x.
+      let also = exact-edge n (row_in change) rows are.exact in
+      along-diff old new (limit_ordered n rows are) (limit_ordered n (with_change rows change) after)
+      ∙ told-parts old new (at_either p edge old) (at_either p edge new) (limit_ordered n rows are) (limit_ordered n (with_change rows change) after) (positioned-either p edge old place also) (positioned-either p edge new place also) (λ q x.
       part q (is_either q p edge) refl)
 
-  -- with the values that the code has
-  pub limit-handed : (pos : PosTree) (edge : Option PosTree) (front shown old new : Positioned) → pos ≡ position_changed change → edge ≡ edge_of n change rows → front ≡ front_at n rows → shown ≡ front_at n (with_change rows change)
-      → old ≡ at_either pos edge front → new ≡ at_either pos edge shown
-      → diff old new ≡ diff (front_at n rows) (front_at n (with_change rows change))
-  limit-handed pos edge front shown old new p e f s o w =
-      (λ i. diff (o i) (w i)) ∙ (λ i. diff (at_either (p i) (e i) (f i)) (at_either (p i) (e i) (s i))) ∙ sym limit-owed
+-- with the values that the code has
+pub limit-told : (n : ℕ) (rows : Positioned) (pos : PosTree) (row : Option (List Field)) → IsPositioned rows → IsExact pos → (edge : Option PosTree) (front shown old new : Positioned) → edge ≡ edge_of n row rows → front ≡ front_at n rows → shown ≡ front_at n (with_change rows (change_to pos row))
+    → old ≡ at_either pos edge front → new ≡ at_either pos edge shown
+    → diff_told old new ≡ told_along (front_at n rows) (diff (front_at n rows) (front_at n (with_change rows (change_to pos row))))
+limit-told n rows pos row are exact edge front shown old new e f s o w =
+    (λ i. diff_told (o i) (w i))
+    ∙ (λ i. diff_told (at_either (sym (place-to pos row) i) ((e ∙ ap (λ r. edge_of n r rows) (sym (row-to pos row))) i) (f i)) (at_either (sym (place-to pos row) i) ((e ∙ ap (λ r. edge_of n r rows) (sym (row-to pos row))) i) (s i)))
+    ∙ sym (limit-parts n rows (change_to pos row) are (exact-to pos row exact))
 
 -- ---- the stage without positions
 

@@ -1,5 +1,5 @@
 -- What a stage that makes its rows of each row by itself owes for a change of its rows: what it makes of the changed row alone.
-use Rattle.std.specs.Prelude.{◌≡◌, Bool, true, false, cond, List, [], Option, None, refl}
+use Rattle.std.specs.Prelude.{◌≡◌, Bool, true, false, cond, List, [], length, Option, None, refl}
 use Rattle.std.proofs.Common.{ap, sym, ◌∙◌, inl, inr}
 use Rattle.std.specs.declared.cmp.Ordering.TheVariants.{Equal}
 use Rattle.std.specs.Cmp.{Equal-is, tied_itself}
@@ -11,6 +11,8 @@ use Rattle.dv_change.specs.Difference.{diff}
 use Rattle.dv_change.specs.DiffLaws.{IsPartAt, at-alone, at-changed, diff-parts, exact-place, positioned-alone, positioned-changed}
 use Rattle.dv_change.specs.PositionLaws.{pos_order_total}
 use Rattle.dv_change.specs.Positions.{IsExact, PosTree, pos_order}
+use Rattle.dv_change.specs.Told.{diff_told, told_along}
+use Rattle.dv_change.specs.ToldLaws.{along-diff, length-told, told-parts}
 
 module _ (makes : Positioned → Positioned) (origin : PosTree → PosTree)
     (ordered : (rows : Positioned) → IsPositioned rows → IsPositioned (makes rows))
@@ -50,9 +52,23 @@ module _ (makes : Positioned → Positioned) (origin : PosTree → PosTree)
           at-own rows q are x ∙ ap (λ r. at q (makes (alone (origin q) r))) (sym same) ∙ sym (at-own (with_change rows change) q after x),
         )
 
+    -- what it owes for a change
     pub row-owed : diff (makes rows) (makes (with_change rows change)) ≡ diff (makes (alone (position_changed change) (at (position_changed change) rows))) (makes (alone (position_changed change) (row_in change)))
     row-owed =
         let p = position_changed change in
         let place = exact-place change changes in
         diff-parts (makes rows) (makes (with_change rows change)) (makes (alone p (at p rows))) (makes (alone p (row_in change))) (ordered rows are) (ordered (with_change rows change) after) (ordered (alone p (at p rows)) (positioned-alone p (at p rows) place)) (ordered (alone p (row_in change)) (positioned-alone p (row_in change) place)) (λ q x.
         part q (is_eq (pos_order (origin q) p)) x refl)
+
+    -- and that, told with what stood there
+    pub row-told : told_along (makes rows) (diff (makes rows) (makes (with_change rows change))) ≡ diff_told (makes (alone (position_changed change) (at (position_changed change) rows))) (makes (alone (position_changed change) (row_in change)))
+    row-told =
+        let p = position_changed change in
+        let place = exact-place change changes in
+        along-diff (makes rows) (makes (with_change rows change)) (ordered rows are) (ordered (with_change rows change) after)
+        ∙ told-parts (makes rows) (makes (with_change rows change)) (makes (alone p (at p rows))) (makes (alone p (row_in change))) (ordered rows are) (ordered (with_change rows change) after) (ordered (alone p (at p rows)) (positioned-alone p (at p rows) place)) (ordered (alone p (row_in change)) (positioned-alone p (row_in change) place)) (λ q x.
+        part q (is_eq (pos_order (origin q) p)) x refl)
+
+    -- and how much
+    pub row-count : length (diff (makes rows) (makes (with_change rows change))) ≡ length (diff_told (makes (alone (position_changed change) (at (position_changed change) rows))) (makes (alone (position_changed change) (row_in change))))
+    row-count = sym (length-told (makes rows) (diff (makes rows) (makes (with_change rows change)))) ∙ ap length row-told

@@ -1,16 +1,15 @@
-//! Stages that make their rows of each row by itself, kept by changes.
+//! Stages that make their rows of each row by itself, told which row was at the position of a change.
 
 ghost use Rattle.std.specs.Prelude.{◌≡◌, ◌∷◌, [], IfOk, OnOk};
 ghost use Rattle.std.specs.declared.cmp.Ordering.TheVariants.{Equal};
-ghost use Rattle.dv_change.specs.Changes.{HaveOneLength, IsPositioned, Positioned, alone, at, with_change};
-ghost use Rattle.dv_change.specs.Difference.{diff};
+ghost use Rattle.dv_change.specs.Changes.{HaveOneLength, IsPositioned, Positioned, alone, at};
 ghost use Rattle.dv_change.specs.Positions.{IsExact, PosTree, pos_order};
-ghost use Rattle.dv_flow.specs.Rows.{IsSoundRows, rows_left};
+ghost use Rattle.dv_change.specs.Told.{no_lists};
+ghost use Rattle.dv_flow.specs.Rows.{HoldsRows};
 
-use dv_change::{Change, Input, Ordered, Pos, Taken, Ticks, Turn, hand_on, take_in};
+use dv_change::{Input, Operator, Ordered, Pos, Taken, Ticks, hand_over};
 use dv_value::{Document, NoMemory};
 use std::alloc::Global;
-use std::collections::BTreeMap;
 
 /// A stage that makes its rows of each row by itself, at positions that say which row they are made of.
 pub trait ByRow {
@@ -53,51 +52,43 @@ pub trait ByRow {
     ghost single: { (s : Self) (rows : Positioned) (q p : PosTree) → IsPositioned rows → IsExact q → IsExact p → pos_order (origin s q) p ≡ Equal → at q (makes s rows) ≡ at q (makes s (alone p (at p rows))) };
 }
 
-/// A stage that makes its rows of each row by itself, kept by changes. Looks only at the changed row.
+/// A stage that makes its rows of each row by itself. It keeps none of the rows that it takes in.
 #[derive(Drop)]
-pub struct RowTurn<S> {
+pub struct RowOperator<S> {
     alloc: Global,
     stage: S,
-    rows: BTreeMap<Pos, Document>,
     /// A row that it made, which lends its names.
     last: Option<Document>,
 }
 
-impl<S: ByRow> RowTurn<S> {
+impl<S: ByRow> RowOperator<S> {
     /// The stage, which has taken in nothing. Fails with `NoMemory` when memory runs out.
     pub fn new(alloc: Global, stage: &S) -> Result<Self, NoMemory>
-        ensures stage { IfOk result (λ t. t.stage ≡ stage.now) }
-        ensures left { IfOk result (λ t. rows_left t ≡ []) }
-        ensures sound { IfOk result (λ t. IsSoundRows t) }
+        ensures stage { IfOk result (λ o. o.stage ≡ stage.now) }
+        ensures holds { IfOk result (λ o. HoldsRows o [] []) }
     {
-        Ok(RowTurn {
+        Ok(RowOperator {
             alloc,
             stage: stage.try_clone()?,
-            rows: BTreeMap::new(alloc),
             last: None,
         })
     }
 
-    /// Takes in a change of its rows. Gives what it made of the row that stood at its place, and what it makes of the one that
-    /// stands there now.
-    fn take(&mut self, change: Change) -> Result<(Ordered<Document>, Ordered<Document>), NoMemory>
-        requires { IsSoundRows self.old }
-        ensures sound { OnOk result (IsSoundRows self.new) }
+    /// What it made of the row that was at the position of a change, and what it makes of the one that is there now.
+    fn both(&mut self, taken: &Taken) -> Result<(Ordered<Document>, Ordered<Document>), NoMemory>
         ensures stage { OnOk result (self.new.stage ≡ self.old.stage) }
-        ensures left { OnOk result (rows_left self.new ≡ with_change (rows_left self.old) change) }
-        ensures owed { IfOk result (λ made. diff made.0 made.1 ≡ diff (S.makes self.old.stage (rows_left self.old)) (S.makes self.old.stage (with_change (rows_left self.old) change))) }
+        ensures old { IfOk result (λ made. made.0 ≡ S.makes self.old.stage (alone taken.now.pos taken.now.old)) }
+        ensures new { IfOk result (λ made. made.1 ≡ S.makes self.old.stage (alone taken.now.pos taken.now.new)) }
     {
-        let Taken { pos, old, new } = take_in(&mut self.rows, change)?;
-        let old = self.made(&pos, &old)?;
-        let new = self.made(&pos, &new)?;
+        let old = self.made(&taken.pos, &taken.old)?;
+        let new = self.made(&taken.pos, &taken.new)?;
         self.keep_last(&new)?;
         Ok((old, new))
     }
 
     /// Keeps the first row that it made of a row, where it made any, so that it lends its names.
     fn keep_last(&mut self, made: &Ordered<Document>) -> Result<(), NoMemory>
-        ensures rows { self.new.rows ≡ self.old.rows }
-        ensures stage { self.new.stage ≡ self.old.stage }
+        ensures { self.new.stage ≡ self.old.stage }
     {
         if let Some((_, row)) = made.first() {
             self.last = Some(row.try_clone()?);
@@ -116,38 +107,36 @@ impl<S: ByRow> RowTurn<S> {
     }
 }
 
-impl<S: ByRow> Turn for RowTurn<S> {
-    ghost left = { rows_left };
+impl<S: ByRow> Operator for RowOperator<S> {
+    ghost makes = { λ o others rows. S.makes o.stage rows };
 
-    ghost others = { λ t. [] };
+    ghost sound = { λ o. Unit {0} };
 
-    ghost makes = { λ t named rows. S.makes t.stage rows };
+    ghost holds = { HoldsRows };
 
-    ghost sound = { IsSoundRows };
+    ghost positioned = { λ o others left held. (held.positioned, no_lists others held.none) };
 
-    ghost positioned = { λ t sound. (sound, tt) };
+    ghost ordered = { λ o others rows are. S.ordered o.stage rows are };
 
-    ghost ordered = { λ t named rows are. S.ordered t.stage rows are };
+    ghost even = { λ o others rows are one. S.even o.stage rows are one };
 
-    ghost even = { λ t named rows are one. S.even t.stage rows are one };
-
-    ghost empty = { λ t named. S.empty t.stage };
+    ghost empty = { λ o others. S.empty o.stage };
 
     fn named(&self) -> usize {
         0
     }
 
-    fn change(
+    fn take(
         &mut self,
         input: Input,
-        change: Change,
+        taken: Taken,
         ticks: &mut Ticks,
-        out: &mut Vec<Change>,
+        out: &mut Vec<Taken>,
     ) -> Result<(), NoMemory> {
         match input {
             Input::Left => {
-                let (old, new) = self.take(change)?;
-                hand_on(&old, &new, ticks, out)
+                let (old, new) = self.both(&taken)?;
+                hand_over(&old, &new, ticks, out)
             }
             Input::Named(_) => Ok(()),
         }

@@ -1,22 +1,23 @@
-//! `$limit`, kept by changes.
+//! `$limit`, told of each change.
 
 ghost use Rattle.std.specs.Prelude.{◌≡◌, ◌+◌, ◌++◌, ◌≤◌, ◌∷◌, false, [], length, IfOk, IsTrue, OnErr, OnOk};
 ghost use Rattle.dv_change.specs.Beginning.{BeginsWith};
-ghost use Rattle.dv_change.specs.Changes.{at, position_changed, with_change};
+ghost use Rattle.dv_change.specs.Changes.{at, with_change};
 ghost use Rattle.dv_change.specs.Difference.{diff};
 ghost use Rattle.dv_change.specs.Ordered.{gone, put};
 ghost use Rattle.dv_change.specs.Raised.{raised};
-ghost use Rattle.dv_flow.specs.Limiting.{IsBehind, IsOverfull, IsSoundLimit, IsUnderfull, IsWithinLimit, at_either, edge_of, is_past, last_place, limit_empty, limit_even, limit_left, limit_makes, limit_ordered, next_place, with_limited_row};
+ghost use Rattle.dv_change.specs.Told.{change_to, no_lists, told_along};
+ghost use Rattle.dv_flow.specs.Limiting.{HoldsLimit, IsBehind, IsCut, IsOverfull, IsUnderfull, IsWithinLimit, at_either, edge_of, is_past, last_place, limit_empty, limit_even, limit_ordered, limit_rows, next_place, positioned_held, with_limited_row};
 ghost use Rattle.dv_flow.specs.Placed.{front_at};
 
-use dv_change::{Change, Input, Ordered, Pos, Ticks, Turn, hand_on, take_in};
+use dv_change::{Input, Operator, Ordered, Pos, Taken, Ticks, hand_over};
 use dv_value::{Document, NoMemory};
 use std::alloc::Global;
 use std::collections::BTreeMap;
 
-/// The first rows, kept by changes. Looks at the changed row and at those on both sides of the end.
+/// The first rows. Keeps all rows, and looks at the changed row and at those on both sides of the end.
 #[derive(Drop)]
-pub struct LimitTurn {
+pub struct LimitOperator {
     alloc: Global,
     count: u64,
     /// The first rows, as many as are shown.
@@ -25,14 +26,14 @@ pub struct LimitTurn {
     rest: BTreeMap<Pos, Document>,
 }
 
-impl LimitTurn {
+impl LimitOperator {
     /// The first `count` rows; it has taken in nothing.
     pub fn new(alloc: Global, count: u64) -> Self
         ensures count { result.count ≡ count }
-        ensures left { limit_left result ≡ [] }
-        ensures sound { IsSoundLimit result }
+        ensures sound { IsCut result }
+        ensures holds { HoldsLimit result [] [] }
     {
-        LimitTurn {
+        LimitOperator {
             alloc,
             count,
             front: BTreeMap::new(alloc),
@@ -40,52 +41,70 @@ impl LimitTurn {
         }
     }
 
-    /// Takes in a change of its rows, and hands on what changes of the first ones.
-    fn take(
+    /// Takes in which row is at the position from now on, if any, and tells what changes of the first ones.
+    fn take_row(
         &mut self,
-        change: Change,
+        pos: Pos,
+        row: Option<Document>,
         ticks: &mut Ticks,
-        out: &mut Vec<Change>,
+        out: &mut Vec<Taken>,
     ) -> Result<(), NoMemory>
-        requires { IsSoundLimit self.old }
-        ensures sound { OnOk result (IsSoundLimit self.new) }
+        requires { IsCut self.old }
+        ensures sound { OnOk result (IsCut self.new) }
         ensures count { OnOk result (self.new.count ≡ self.old.count) }
-        ensures left { OnOk result (limit_left self.new ≡ with_change (limit_left self.old) change) }
-        ensures out { OnOk result (out.new.items ≡ out.old.items ++ diff (front_at self.old.count (limit_left self.old)) (front_at self.old.count (with_change (limit_left self.old) change))) }
-        ensures ticks { OnOk result (ticks.new ≡ raised ticks.old (1 + length (diff (front_at self.old.count (limit_left self.old)) (front_at self.old.count (with_change (limit_left self.old) change))))) }
+        ensures left { OnOk result (limit_rows self.new ≡ with_change (limit_rows self.old) (change_to pos row)) }
+        ensures out { OnOk result (out.new.items ≡ out.old.items ++ told_along (front_at self.old.count (limit_rows self.old)) (diff (front_at self.old.count (limit_rows self.old)) (front_at self.old.count (with_change (limit_rows self.old) (change_to pos row))))) }
+        ensures ticks { OnOk result (ticks.new ≡ raised ticks.old (1 + length (diff (front_at self.old.count (limit_rows self.old)) (front_at self.old.count (with_change (limit_rows self.old) (change_to pos row)))))) }
         ensures begins { OnErr result (BeginsWith out.new.items out.old.items) }
         ensures no_fewer { OnErr result (ticks.old ≤ ticks.new) }
     {
-        change.is_exact();
-        let pos = position_of(&change).try_clone()?;
+        pos.is_exact();
         if self.is_behind(&pos) {
             // Nothing that is shown changes.
-            take_in(&mut self.rest, change)?;
+            self.change_rest(pos, row)?;
             ticks.add(1);
             return Ok(());
         }
-        let edge = self.edge_of(&change)?;
+        let edge = self.edge_of(&row)?;
         let old = self.shown_at(&pos, &edge)?;
-        self.change_front(change)?;
+        self.change_front(&pos, row)?;
         let new = self.shown_at(&pos, &edge)?;
-        hand_on(&old, &new, ticks, out)
+        hand_over(&old, &new, ticks, out)
     }
 
-    /// The other position at which the change may change what is shown.
-    fn edge_of(&self, change: &Change) -> Result<Option<Pos>, NoMemory>
-        requires { IsSoundLimit self.now }
-        ensures { IfOk result (λ edge. edge ≡ edge_of self.now.count change.now (limit_left self.now)) }
+    /// Takes in which row is at the position from now on, if any, where it is none of the first ones.
+    fn change_rest(&mut self, pos: Pos, row: Option<Document>) -> Result<(), NoMemory>
+        ensures count { self.new.count ≡ self.old.count }
+        ensures front { self.new.front ≡ self.old.front }
+        ensures rest { OnOk result (self.new.rest.entries ≡ with_change self.old.rest.entries (change_to pos row)) }
     {
-        match change {
-            Change::Put { .. } => self.last_place(),
-            Change::Gone { .. } => self.next_place(),
+        match row {
+            Some(row) => {
+                self.rest.insert(pos, row)?;
+                Ok(())
+            }
+            None => {
+                self.rest.remove(&pos);
+                Ok(())
+            }
+        }
+    }
+
+    /// The other position at which what is shown may change, where the row comes, or one goes.
+    fn edge_of(&self, row: &Option<Document>) -> Result<Option<Pos>, NoMemory>
+        requires { IsCut self.now }
+        ensures { IfOk result (λ edge. edge ≡ edge_of self.now.count row.now (limit_rows self.now)) }
+    {
+        match row {
+            Some(_) => self.last_place(),
+            None => self.next_place(),
         }
     }
 
     /// The position of the last row that is shown, where no further one is.
     fn last_place(&self) -> Result<Option<Pos>, NoMemory>
-        requires { IsSoundLimit self.now }
-        ensures { IfOk result (λ place. place ≡ last_place self.now.count (limit_left self.now)) }
+        requires { IsCut self.now }
+        ensures { IfOk result (λ place. place ≡ last_place self.now.count (limit_rows self.now)) }
     {
         if (self.front.len() as u64) < self.count {
             return Ok(None);
@@ -98,8 +117,8 @@ impl LimitTurn {
 
     /// The position of the first row behind those that are shown.
     fn next_place(&self) -> Result<Option<Pos>, NoMemory>
-        requires { IsSoundLimit self.now }
-        ensures { IfOk result (λ place. place ≡ next_place self.now.count (limit_left self.now)) }
+        requires { IsCut self.now }
+        ensures { IfOk result (λ place. place ≡ next_place self.now.count (limit_rows self.now)) }
     {
         match self.rest.first_key_value() {
             Some((pos, _)) => Ok(Some(pos.try_clone()?)),
@@ -128,27 +147,27 @@ impl LimitTurn {
         }
     }
 
-    /// Takes a change into the rows, at a position at which a row would be one of the first.
-    fn change_front(&mut self, change: Change) -> Result<(), NoMemory>
-        requires sound { IsSoundLimit self.old }
-        requires within { IsWithinLimit self.old (position_changed change) }
-        ensures sound { OnOk result (IsSoundLimit self.new) }
+    /// Takes in which row is at the position from now on, if any, where it is one of the first ones.
+    fn change_front(&mut self, pos: &Pos, row: Option<Document>) -> Result<(), NoMemory>
+        requires sound { IsCut self.old }
+        requires within { IsWithinLimit self.old pos.now }
+        ensures sound { OnOk result (IsCut self.new) }
         ensures count { OnOk result (self.new.count ≡ self.old.count) }
-        ensures left { OnOk result (limit_left self.new ≡ with_change (limit_left self.old) change) }
+        ensures left { OnOk result (limit_rows self.new ≡ with_change (limit_rows self.old) (change_to pos.now row)) }
     {
-        match change {
-            Change::Put { pos, row } => self.put(pos, row),
-            Change::Gone { pos } => self.remove(&pos),
+        match row {
+            Some(row) => self.put(pos.try_clone()?, row),
+            None => self.remove(pos),
         }
     }
 
     /// Sets the row at the position, at which it is one of the first.
     fn put(&mut self, pos: Pos, row: Document) -> Result<(), NoMemory>
-        requires sound { IsSoundLimit self.old }
+        requires sound { IsCut self.old }
         requires within { IsWithinLimit self.old pos }
-        ensures sound { OnOk result (IsSoundLimit self.new) }
+        ensures sound { OnOk result (IsCut self.new) }
         ensures count { OnOk result (self.new.count ≡ self.old.count) }
-        ensures left { OnOk result (limit_left self.new ≡ put pos row (limit_left self.old)) }
+        ensures left { OnOk result (limit_rows self.new ≡ put pos row (limit_rows self.old)) }
     {
         pos.is_exact();
         self.front.insert(pos, row)?;
@@ -176,9 +195,9 @@ impl LimitTurn {
     /// Shows the last row no more, where one too many is shown.
     fn spill(&mut self) -> Result<(), NoMemory>
         requires { IsOverfull self.old }
-        ensures sound { OnOk result (IsSoundLimit self.new) }
+        ensures sound { OnOk result (IsCut self.new) }
         ensures count { OnOk result (self.new.count ≡ self.old.count) }
-        ensures left { OnOk result (limit_left self.new ≡ limit_left self.old) }
+        ensures left { OnOk result (limit_rows self.new ≡ limit_rows self.old) }
     {
         if self.front.len() as u64 > self.count {
             if let Some((pos, row)) = self.front.pop_last() {
@@ -190,10 +209,10 @@ impl LimitTurn {
 
     /// Takes out the row at the position, where one stands there.
     fn remove(&mut self, pos: &Pos) -> Result<(), NoMemory>
-        requires { IsSoundLimit self.old }
-        ensures sound { OnOk result (IsSoundLimit self.new) }
+        requires { IsCut self.old }
+        ensures sound { OnOk result (IsCut self.new) }
         ensures count { OnOk result (self.new.count ≡ self.old.count) }
-        ensures left { OnOk result (limit_left self.new ≡ gone pos.now (limit_left self.old)) }
+        ensures left { OnOk result (limit_rows self.new ≡ gone pos.now (limit_rows self.old)) }
     {
         if self.front.remove(pos).is_some() {
             self.pull()
@@ -206,9 +225,9 @@ impl LimitTurn {
     /// Shows one row more, where there are others.
     fn pull(&mut self) -> Result<(), NoMemory>
         requires { IsUnderfull self.old }
-        ensures sound { OnOk result (IsSoundLimit self.new) }
+        ensures sound { OnOk result (IsCut self.new) }
         ensures count { OnOk result (self.new.count ≡ self.old.count) }
-        ensures left { OnOk result (limit_left self.new ≡ limit_left self.old) }
+        ensures left { OnOk result (limit_rows self.new ≡ limit_rows self.old) }
     {
         if let Some((pos, row)) = self.rest.pop_first() {
             self.front.insert(pos, row)?;
@@ -217,47 +236,38 @@ impl LimitTurn {
     }
 }
 
-impl Turn for LimitTurn {
-    ghost left = { limit_left };
+impl Operator for LimitOperator {
+    ghost makes = { λ o others rows. front_at o.count rows };
 
-    ghost others = { λ t. [] };
+    ghost sound = { IsCut };
 
-    ghost makes = { limit_makes };
+    ghost holds = { HoldsLimit };
 
-    ghost sound = { IsSoundLimit };
+    ghost positioned = { λ o others left held. (positioned_held o others left held, no_lists others held.none) };
 
-    ghost positioned = { λ t sound. (sound.positioned, tt) };
+    ghost ordered = { λ o others rows are. limit_ordered o.count rows are };
 
-    ghost ordered = { λ t named rows are. limit_ordered t.count rows are };
+    ghost even = { λ o others rows are one. limit_even o.count rows one };
 
-    ghost even = { λ t named rows are one. limit_even t.count rows one };
-
-    ghost empty = { λ t named. limit_empty t.count };
+    ghost empty = { λ o others. limit_empty o.count };
 
     fn named(&self) -> usize {
         0
     }
 
-    fn change(
+    fn take(
         &mut self,
         input: Input,
-        change: Change,
+        taken: Taken,
         ticks: &mut Ticks,
-        out: &mut Vec<Change>,
+        out: &mut Vec<Taken>,
     ) -> Result<(), NoMemory> {
         match input {
-            Input::Left => self.take(change, ticks, out),
+            Input::Left => {
+                let Taken { pos, new, .. } = taken;
+                self.take_row(pos, new, ticks, out)
+            }
             Input::Named(_) => Ok(()),
         }
-    }
-}
-
-/// The position of the change.
-fn position_of(change: &Change) -> &Pos
-    ensures { result.now ≡ position_changed change.now }
-{
-    match change {
-        Change::Put { pos, .. } => pos,
-        Change::Gone { pos } => pos,
     }
 }

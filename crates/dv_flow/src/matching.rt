@@ -4,7 +4,8 @@ ghost use Rattle.std.specs.Prelude.{refl};
 ghost use Rattle.dv_flow.specs.Matching.{match_even, match_ordered, match_single};
 ghost use Rattle.dv_flow.specs.Placed.{matched_at};
 
-use crate::by_row::{ByRow, RowTurn};
+use crate::by_row::ByRow;
+use crate::row_turn::RowTurn;
 use dv_change::{Ordered, Pos};
 use dv_match::Filter;
 use dv_value::{Document, NoMemory};

@@ -4,7 +4,8 @@ ghost use Rattle.std.specs.Prelude.{refl};
 ghost use Rattle.dv_flow.specs.Placed.{shown_at};
 ghost use Rattle.dv_flow.specs.Projecting.{project_even, project_ordered, project_single};
 
-use crate::by_row::{ByRow, RowTurn};
+use crate::by_row::ByRow;
+use crate::row_turn::RowTurn;
 use dv_change::{Ordered, Pos};
 use dv_row::Project;
 use dv_value::{Document, NoMemory};

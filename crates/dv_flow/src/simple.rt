@@ -3,7 +3,7 @@
 ghost use Rattle.std.specs.Prelude.{[]};
 ghost use Rattle.dv_flow.specs.Simple.{IsSoundSimple, simple_empty, simple_even, simple_left, simple_makes, simple_ordered, simple_positioned};
 
-use crate::limit::LimitTurn;
+use crate::limit_turn::LimitTurn;
 use crate::matching::MatchTurn;
 use crate::project::ProjectTurn;
 use crate::sort::SortTurn;

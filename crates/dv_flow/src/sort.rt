@@ -5,7 +5,8 @@ ghost use Rattle.dv_flow.specs.Placed as defined;
 ghost use Rattle.dv_flow.specs.Placed.{sorted_at};
 ghost use Rattle.dv_flow.specs.Sorting.{sort_empty, sort_even, sort_exact, sort_ordered, sort_single};
 
-use crate::by_row::{ByRow, RowTurn};
+use crate::by_row::ByRow;
+use crate::row_turn::RowTurn;
 use dv_change::{Ordered, Part, Pos};
 use dv_order::Key;
 use dv_path::{Direction, SortSpec, sort_key};

@@ -5,7 +5,8 @@ ghost use Rattle.dv_change.specs.Changes.{in_row_order};
 ghost use Rattle.dv_flow.specs.Placed.{rows_numbered, unwound_at};
 ghost use Rattle.dv_flow.specs.Unwinding.{but_last, unwind_empty, unwind_even, unwind_exact, unwind_ordered, unwind_single};
 
-use crate::by_row::{ByRow, RowTurn};
+use crate::by_row::ByRow;
+use crate::row_turn::RowTurn;
 use dv_change::{Ordered, Part, Pos};
 use dv_row::Unwind;
 use dv_value::{Document, NoMemory};

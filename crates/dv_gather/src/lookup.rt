@@ -1,6 +1,7 @@
 //! `$lookup`.
 
 ghost use Rattle.std.specs.Prelude.{◌≡◌, IfOk, OnOk};
+ghost use Rattle.dv_value.specs.Tree.{array, elements_of};
 ghost use Rattle.dv_value.specs.View.{tree};
 ghost use Rattle.dv_gather.specs.KeySets.{referred};
 ghost use Rattle.dv_gather.specs.Lookups as defined;
@@ -9,7 +10,7 @@ use crate::joining::{matches_of, places_of};
 use dv_candidates::Path;
 use dv_order::Key;
 use dv_row::{copy_beside, push_field};
-use dv_value::{Document, NoMemory, Str, Value};
+use dv_value::{Document, List, NoMemory, Str, Value};
 use std::alloc::Global;
 use std::collections::BTreeMap;
 use std::marker::Model;
@@ -76,6 +77,24 @@ impl Lookup {
         })
     }
 
+    /// The row with an array of these values in place of the field of the target's name, or after the other fields. It shares
+    /// names with `before`, a row that was returned before it, if there is one; and with the row itself if that has such a field.
+    /// Fails with `NoMemory` when memory runs out.
+    pub fn row_with(
+        &self,
+        alloc: Global,
+        row: &Document,
+        values: List,
+        before: Option<&Document>,
+    ) -> Result<Document, NoMemory>
+        ensures { IfOk result (λ joined. joined ≡ defined.set_field self.now.target (array (elements_of values)) row.now) }
+    {
+        let target = self.target.as_str();
+        let mut joined = copy_for(alloc, row, target, before)?;
+        set_field(&mut joined, target, Value::Array(values))?;
+        Ok(joined)
+    }
+
     /// A copy of its own. Fails with `NoMemory` when memory runs out.
     pub fn try_clone(&self) -> Result<Self, NoMemory>
         ensures { IfOk result (λ copy. copy ≡ self.now) }
@@ -102,11 +121,8 @@ impl<'a> Join<'a> {
     ) -> Result<Document, NoMemory>
         ensures { IfOk result (λ joined. joined ≡ defined.joined_row self.now.0 self.now.1 row.now) }
     {
-        let target = self.lookup.target.as_str();
         let matches = matches_of(alloc, self.lookup, row, self.documents, &self.places)?;
-        let mut joined = copy_for(alloc, row, target, before)?;
-        set_field(&mut joined, target, Value::Array(matches))?;
-        Ok(joined)
+        self.lookup.row_with(alloc, row, matches, before)
     }
 }
 

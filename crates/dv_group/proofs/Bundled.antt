@@ -17,6 +17,7 @@ use Rattle.dv_group.specs.declared.running.Running as memory
 use Rattle.dv_group.specs.declared.running.Running.TheVariants.{Summed}
 use Rattle.dv_group.specs.declared.running.Way.TheVariants.{Comes, Goes}
 use Rattle.dv_group.specs.declared.summing.KeptSum.{KeptSum}
+use Rattle.dv_group.specs.Members.{set_at}
 use Rattle.dv_group.specs.Room.{AreNarrowIn, HaveRoom, IsBundle, IsNarrow, IsNarrowIn, IsNarrowValue, most_rows}
 use Rattle.dv_group.specs.Running.{Running, moved_from, running_of, field_value, with_told}
 use Rattle.dv_group.specs.RunningView.{running_seen}
@@ -50,6 +51,11 @@ gone-none p (e ∷ rows) none = by (is_eq (pos_order p e.0)) none (λ none. gone
     by : (b : Bool) → cond b (Some e.1) (at p rows) ≡ None → (at p rows ≡ None → gone p rows ≡ rows) → cond b rows (e ∷ gone p rows) ≡ e ∷ rows
     by true none rest = cc
     by false none rest = ap (λ es. e ∷ es) (rest none)
+
+-- what is set takes the place of what goes
+pub set-over : (p : PosTree) (r : Option Row) (rows : Positioned) → IsPositioned rows → IsExact p → set_at p r (gone p rows) ≡ set_at p r rows
+set-over p None rows are x = gone-none p (gone p rows) (none-left p rows are)
+set-over p (Some d) rows are x = put-over p d rows are x
 
 module _ (fields : List Accumulation) (p : PosTree) (x : IsExact p) (before : Bundle) (sound : IsBundle fields before) where
   -- ---- there is room
@@ -106,7 +112,3 @@ row-told g (r ∷ rows) e ts are first same =
     ap (λ us. Some (with_told g.fields us ((codes "_id", key_in g e.1) ∷ []))) same
     ∙ ap Some (all-told g.fields (r ∷ rows) ((codes "_id", key_in g e.1) ∷ []) are)
     ∙ ap (λ f. Some (with_accumulated g.fields (forget (r ∷ rows)) ((codes "_id", key_in g f.1) ∷ []))) (sym own)
-
-pub no-row : (g : Grouping) (rows : Positioned) → slice_get rows 0 ≡ None → None ≡ row_shown g (forget rows)
-no-row g [] none = refl
-no-row g (r ∷ rows) none = absurd cc

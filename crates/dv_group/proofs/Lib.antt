@@ -1,4 +1,5 @@
 pub mod Under
+pub mod Telling
 pub mod Owed
 pub mod Bounds
 pub mod Forgetting

@@ -15,15 +15,18 @@ use Rattle.dv_order.specs.OwnKeys.{IsOwn}
 use Rattle.dv_row.specs.Row.{Row}
 use Rattle.dv_change.specs.declared.change.Change.{Change}
 use Rattle.dv_change.specs.declared.position.Part.TheVariants.{Up, Down, At}
-use Rattle.dv_change.specs.Changes.{IsExactChange, IsPositioned, Positioned, at, forget, position_changed, row_in, with_change}
+use Rattle.dv_change.specs.declared.taking.Taken.{Taken}
+use Rattle.dv_change.specs.Changes.{IsExactChange, IsPositioned, Positioned, at, forget, position_changed, row_in, with_change, with_changes}
 use Rattle.dv_change.specs.Difference.{diff}
 use Rattle.dv_change.specs.DiffLaws.{IsPartAt, at-changed, at-filter, diff-parts, exact-place, or_else, positioned-changed, positioned-filter}
 use Rattle.dv_change.specs.Ordered.{gone}
 use Rattle.dv_change.specs.Positions.{IsExact, PosTree, pos_order}
 use Rattle.dv_change.specs.RowLaws.{all-put, at-gone, at-like, at-put, at_back, positioned-gone, positioned-none, positioned-put, same_rows}
+use Rattle.dv_change.specs.Told.{diff_told, told_along, with_old}
+use Rattle.dv_change.specs.ToldLaws.{along-diff, told-parts}
 use Rattle.dv_gather.specs.Grouping.{Grouping, row_shown}
 use Rattle.dv_group.specs.Grouped.{IsKeyPlace, at-grouped, beside, group_ordered, grouped-places, one-part}
-use Rattle.dv_group.specs.Members.{AreMembers, KeptGroups, row_has_key, is_key, group_members, moved, put_some, row_key, rows_in, rows_with, shown_of, with_shown}
+use Rattle.dv_group.specs.Members.{AreMembers, KeptGroups, row_has_key, is_key, group_members, moved, moved_all, moved_as, put_some, row_key, rows_in, rows_with, set_at, shown_as, shown_of, with_shown}
 use Rattle.dv_group.specs.Placed.{grouped_at}
 
 -- ---- a row more, where there is one
@@ -43,6 +46,16 @@ positioned-put_some p (Some d) rows are x = positioned-put p d rows are x
 pub all-put_some : (P : PosTree → Type 0) (p : PosTree) (r : Option Row) (rows : Positioned) → AllByRecursion P (keys_of rows) → P p → AllByRecursion P (keys_of (put_some p r rows))
 all-put_some P p None rows all here = all
 all-put_some P p (Some d) rows all here = all-put P p d rows all here
+
+-- ---- what is set
+
+at-set_at : (q p : PosTree) (r : Option Row) (rows : Positioned) → IsPositioned rows → at q (set_at p r rows) ≡ cond (is_eq (pos_order q p)) r (at q rows)
+at-set_at q p None rows are = at-gone q p rows are.ascending ∙ ap (λ b. cond b None (at q rows)) (at_back p q)
+at-set_at q p (Some d) rows are = at-put q p d rows
+
+positioned-set_at : (p : PosTree) (r : Option Row) (rows : Positioned) → IsPositioned rows → IsExact p → IsPositioned (set_at p r rows)
+positioned-set_at p None rows are x = positioned-gone p rows are
+positioned-set_at p (Some d) rows are x = positioned-put p d rows are x
 
 -- ---- positions that aren't a key alone
 
@@ -71,13 +84,13 @@ either-same false m = refl
 
 -- what passes is taken out where it stood, and put in where it comes
 settled : (h : Row → Bool) (b c here : Bool) (old new there : Option Row) → (b ≡ false → option_filter h old ≡ None) → (c ≡ false → option_filter h new ≡ None) → (c ≡ true → option_filter h new ≡ new) → (here ≡ true → there ≡ old)
-    → (left : Option Row) → left ≡ cond b (cond here None (option_filter h there)) (option_filter h there) → cond c (cond here (or_else new left) left) left ≡ option_filter h (cond here new there)
+    → (left : Option Row) → left ≡ cond b (cond here None (option_filter h there)) (option_filter h there) → cond c (cond here new left) left ≡ option_filter h (cond here new there)
 settled h b c true old new there goes none stays same left is =
     let out : left ≡ None = is ∙ none-left b (option_filter h there) (λ e. ap (option_filter h) (same refl) ∙ goes e) in
-    ap (λ l. cond c (or_else new l) l) out ∙ comes c none stays
+    ap (λ l. cond c new l) out ∙ comes c none stays
   where
-    comes : (c : Bool) → (c ≡ false → option_filter h new ≡ None) → (c ≡ true → option_filter h new ≡ new) → cond c (or_else new None) None ≡ option_filter h new
-    comes true none stays = nothing-else new ∙ sym (stays refl)
+    comes : (c : Bool) → (c ≡ false → option_filter h new ≡ None) → (c ≡ true → option_filter h new ≡ new) → cond c new None ≡ option_filter h new
+    comes true none stays = sym (stays refl)
     comes false none stays = sym (none refl)
 settled h b c false old new there goes none stays same left is = either-same c left ∙ is ∙ either-same b (option_filter h there)
 
@@ -222,7 +235,7 @@ module _ (g : Grouping) where
       left = cond (is_key k key) (gone pos have) have
 
       abbrev now : Positioned
-      now = cond (is_key k other) (put_some pos (row_in change) left) left
+      now = cond (is_key k other) (set_at pos (row_in change) left) left
 
       are-have : IsPositioned have
       are-have = positioned-filter (λ e. row_has_key g k e.1) rows are
@@ -231,7 +244,7 @@ module _ (g : Grouping) where
       are-left = either (λ (es : Positioned). IsPositioned es) (is_key k key) (gone pos have) have (positioned-gone pos have are-have) are-have
 
       are-now : IsPositioned now
-      are-now = either (λ (es : Positioned). IsPositioned es) (is_key k other) (put_some pos (row_in change) left) left (positioned-put_some pos (row_in change) left are-left (exact-place change exact)) are-left
+      are-now = either (λ (es : Positioned). IsPositioned es) (is_key k other) (set_at pos (row_in change) left) left (positioned-set_at pos (row_in change) left are-left (exact-place change exact)) are-left
 
       at-either : (q : PosTree) (b : Bool) (es fs : Positioned) → at q (cond b es fs) ≡ cond b (at q es) (at q fs)
       at-either q true es fs = refl
@@ -246,8 +259,8 @@ module _ (g : Grouping) where
 
       at-now : (q : PosTree) → at q now ≡ at q (rows_with g k after)
       at-now q =
-          at-either q (is_key k other) (put_some pos (row_in change) left) left
-          ∙ ap (λ a. cond (is_key k other) a (at q left)) (at-put_some q pos (row_in change) left)
+          at-either q (is_key k other) (set_at pos (row_in change) left) left
+          ∙ ap (λ a. cond (is_key k other) a (at q left)) (at-set_at q pos (row_in change) left are-left)
           ∙ settled (row_has_key g k) (is_key k key) (is_key k other) (is_eq (pos_order q pos)) (at pos rows) (row_in change) (at q rows) (without-key k (at pos rows)) (without-key k (row_in change)) (with-key k (row_in change)) (λ here. at-like q pos ((Equal-is (pos_order q pos)).0 here) rows) (at q left) (at-left q)
           ∙ sym (at-with k q after changed ∙ ap (option_filter (row_has_key g k)) (at-changed q rows change are))
 
@@ -257,7 +270,7 @@ module _ (g : Grouping) where
       stays : is_key k key || is_key k other ≡ false → rows_with g k after ≡ have
       stays apart = sym now-is ∙ by (is_key k key) (is_key k other) apart
         where
-          by : (b c : Bool) → b || c ≡ false → cond c (put_some pos (row_in change) (cond b (gone pos have) have)) (cond b (gone pos have) have) ≡ have
+          by : (b c : Bool) → b || c ≡ false → cond c (set_at pos (row_in change) (cond b (gone pos have) have)) (cond b (gone pos have) have) ≡ have
           by true c apart = cc
           by false true apart = cc
           by false false apart = refl
@@ -303,31 +316,38 @@ module _ (g : Grouping) where
       pub group-owed : diff (grouped_at g rows) (grouped_at g after) ≡ diff before_rows after_rows
       group-owed = diff-parts (grouped_at g rows) (grouped_at g after) before_rows after_rows (group_ordered g rows are) (group_ordered g after changed) (shown-are was) (shown-are is) (λ q x. part q)
 
-  -- ---- the same in memory: the key of the row that went, and of the one that came, and the groups before and after
+      pub group-told : told_along (grouped_at g rows) (diff (grouped_at g rows) (grouped_at g after)) ≡ diff_told before_rows after_rows
+      group-told =
+          along-diff (grouped_at g rows) (grouped_at g after) (group_ordered g rows are) (group_ordered g after changed)
+          ∙ told-parts (grouped_at g rows) (grouped_at g after) before_rows after_rows (group_ordered g rows are) (group_ordered g after changed) (shown-are was) (shown-are is) (λ q x. part q)
 
-  module _ (rows : Positioned) (change : Change) (are : IsPositioned rows) (exact : IsExactChange change) (kept still : KeptGroups) (pos : PosTree) (old new : Option Row) (key other : Option KeyTree)
-      (pos-is : pos ≡ position_changed change) (old-is : old ≡ at (position_changed change) rows) (new-is : new ≡ row_in change) (key-is : key ≡ option_map (row_key g) old) (other-is : other ≡ option_map (row_key g) new)
+  -- ---- the same in memory: a change that is told, and the groups before and after
+
+  module _ (rows : Positioned) (change : Change) (are : IsPositioned rows) (exact : IsExactChange change) (kept still : KeptGroups) (taken : Taken) (told : taken ≡ with_old rows change)
       (are-kept : AreMembers g (λ k. group_members k kept) rows)
-      (is-moved : (k : KeyTree) → group_members k still ≡ moved pos key other new k (group_members k kept)) where
-    own-key : key ≡ option_map (row_key g) (at (position_changed change) rows)
-    own-key = key-is ∙ ap (option_map (row_key g)) old-is
-
-    own-other : other ≡ option_map (row_key g) (row_in change)
-    own-other = other-is ∙ ap (option_map (row_key g)) new-is
-
-    are-still : AreMembers g (λ k. group_members k still) (with_change rows change)
+      (is-moved : (k : KeyTree) → group_members k still ≡ moved_as g k (group_members k kept) taken) where
+    pub are-still : AreMembers g (λ k. group_members k still) (with_change rows change)
     are-still =
         still-members rows change are exact (λ k. group_members k kept) (λ k. group_members k still) are-kept
-        (λ k. is-moved k ∙ (λ i. moved (pos-is i) (own-key i) (own-other i) (new-is i) k (group_members k kept)))
+        (λ k. is-moved k ∙ ap (moved_as g k (group_members k kept)) told)
 
-    -- it is sound after it
-    pub taken-sound : (h : Grouping) (left : Positioned) → h ≡ g → left ≡ with_change rows change → IsPositioned left × AreMembers h (λ k. group_members k still) left
-    taken-sound h left same here = (rw here (positioned-changed rows change are exact), λ k. are-still k ∙ (λ i. rows_with (sym same i) k (sym here i)))
+    pub taken-told : diff_told (shown_as g kept taken) (shown_as g still taken) ≡ told_along (grouped_at g rows) (diff (grouped_at g rows) (grouped_at g (with_change rows change)))
+    taken-told =
+        (λ i. diff_told (shown_as g kept (told i)) (shown_as g still (told i)))
+        ∙ sym (group-told rows change are exact (λ k. group_members k kept) (λ k. group_members k still) are-kept are-still)
 
-    pub taken-owed : diff (shown_of g (λ k. group_members k kept) key other) (shown_of g (λ k. group_members k still) key other) ≡ diff (grouped_at g rows) (grouped_at g (with_change rows change))
-    taken-owed =
-        (λ i. diff (shown_of g (λ k. group_members k kept) (own-key i) (own-other i)) (shown_of g (λ k. group_members k still) (own-key i) (own-other i)))
-        ∙ sym (group-owed rows change are exact (λ k. group_members k kept) (λ k. group_members k still) are-kept are-still)
+  -- ---- changes of rows, one after the other
+
+  pub members-along : (changes : List Change) (rows : Positioned) (was is : KeyTree → Positioned) → IsPositioned rows → AllByRecursion IsExactChange changes → AreMembers g was rows
+      → ((k : KeyTree) → is k ≡ moved_all g k (was k) (told_along rows changes)) → AreMembers g is (with_changes rows changes)
+  members-along [] rows was is are exact kept are-moved = λ k. are-moved k ∙ kept k
+  members-along (change ∷ changes) rows was is are exact kept are-moved =
+      let next : KeyTree → Positioned = λ k. moved_as g k (was k) (with_old rows change) in
+      members-along changes (with_change rows change) next is (positioned-changed rows change are exact.0) exact.1 (still-members rows change are exact.0 was next kept (λ k. refl)) are-moved
+
+-- groups that are the same have the same rows
+pub members-same : (g h : Grouping) (es fs : KeptGroups) (left : Positioned) → h ≡ g → fs ≡ es → AreMembers g (λ k. group_members k es) left → AreMembers h (λ k. group_members k fs) left
+members-same g h es fs left same groups members = λ k. ap (group_members k) groups ∙ members k ∙ ap (λ (i : Grouping). rows_with i k left) (sym same)
 
 -- under a key that no group has stands nothing
 pub none-under : (k : KeyTree) (es : KeptGroups) → list_any (λ l. is_eq (key_order k l)) (keys_of es) ≡ false → group_members k es ≡ []
@@ -339,14 +359,10 @@ none-under k (e ∷ es) none = by (is_eq (key_order k e.0)) none (none-under k e
     by false none rest = rest none
 
 -- where all goes well
+pub ok-any : {A E P : Type 0} (r : Result A E) → P → OnOk r P
+ok-any (Ok a) p = p
+ok-any (Err e) p = tt
+
 pub ok-then : {A E : Type 0} {P Q : A → Type 0} (r : Result A E) → IfOk r P → ((x : A) → P x → Q x) → IfOk r Q
 ok-then (Ok a) p f = f a p
 ok-then (Err e) p f = tt
-
-pub both-ok : {A E P Q R : Type 0} (r : Result A E) → OnOk r P → OnOk r Q → (P → Q → R) → OnOk r R
-both-ok (Ok a) p q f = f p q
-both-ok (Err e) p q f = tt
-
-pub four-ok : {A E P Q R S U : Type 0} (r : Result A E) → OnOk r P → OnOk r Q → OnOk r R → OnOk r S → (P → Q → R → S → U) → OnOk r U
-four-ok (Ok a) p q r s f = f p q r s
-four-ok (Err e) p q r s f = tt

@@ -4,7 +4,6 @@ use Rattle.std.proofs.Common.{add-one, ap, arith, inl, inr, subst, sym, ◌∙�
 use Rattle.std.proofs.lemmas.List.{drop_more}
 use Rattle.dv_value.specs.Tree.{Field}
 use Rattle.dv_row.specs.Row.{Row}
-use Rattle.dv_change.specs.Changes.{Positioned}
 use Rattle.dv_change.specs.Positions.{PosTree}
 use Rattle.dv_gather.specs.Grouping.{Accumulation}
 use Rattle.dv_group.specs.declared.running.Running as memory

@@ -12,7 +12,7 @@ use Rattle.dv_order.specs.KeyLaws.{key_order_total}
 use Rattle.dv_row.specs.Row.{Row}
 use Rattle.dv_change.specs.declared.position.Part.TheVariants.{Up}
 use Rattle.dv_change.specs.Changes.{IsPositioned, Positioned, forget}
-use Rattle.dv_change.specs.Ordered.{gone, put}
+use Rattle.dv_change.specs.Ordered.{gone}
 use Rattle.dv_change.specs.Positions.{IsExact, PosTree}
 use Rattle.dv_change.specs.RowLaws.{positioned-none}
 use Rattle.dv_gather.specs.Grouping.{Grouping, row_shown}
@@ -20,10 +20,13 @@ use Rattle.dv_group.specs.declared.bundle.Bundle.{Bundle}
 use Rattle.dv_group.specs.declared.kept.Kept.{Kept}
 use Rattle.dv_group.specs.Grouped.{beside}
 use Rattle.dv_group.specs.Room.{IsBundle}
-use Rattle.dv_group.specs.Members.{AreBundles, IsKept, IsRowOf, KeptGroups, are_one, group_members, is_key, moved, put_some, rows_in, shown_of, with_shown}
-use Rattle.dv_group.proofs.Bundled.{put-over}
+use Rattle.dv_group.specs.declared.shift.Shift.{Shift}
+use Rattle.dv_group.specs.declared.shift.Telling.{Telling}
+use Rattle.dv_group.specs.declared.shift.Telling.TheVariants.{Told, Untold}
+use Rattle.dv_group.specs.Members.{AreBundles, IsKept, IsRowOf, IsShift, IsTold, KeptGroups, are_one, group_members, is_key, moved, put_some, rows_in, set_at, shown_of, with_shown}
+use Rattle.dv_group.proofs.Bundled.{set-over}
 
-back : (k l : KeyTree) → is_eq (key_order k l) ≡ is_eq (key_order l k)
+pub back : (k l : KeyTree) → is_eq (key_order k l) ≡ is_eq (key_order l k)
 back k l = (eq_by_cmp_equiv key_order_total).symm k l
 
 -- under equal keys stands the same
@@ -49,14 +52,6 @@ module _ (es fs : KeptGroups) (key : KeyTree) where
       by true here = is ∙ ap change (sym (members-alike k key ((Equal-is (key_order k key)).0 here) es))
       by false here = refl
 
-cond-same : {A : Type 0} (b : Bool) (x : A) → cond b x x ≡ x
-cond-same true x = refl
-cond-same false x = refl
-
--- a key's rows stay as they are
-pub same-under : (es fs : KeptGroups) (key : KeyTree) (new : Option Kept) → rows_in new ≡ group_members key es → ((k : KeyTree) → lookup (is_at (key_order k)) fs ≡ cond (is_at (key_order key) k) new (lookup (is_at (key_order k)) es)) → (k : KeyTree) → group_members k fs ≡ group_members k es
-same-under es fs key new is written k = changed-under es fs key (λ rows. rows) new is written k ∙ cond-same (is_eq (key_order k key)) (group_members k es)
-
 cond-over : {A : Type 0} (b : Bool) (x y z : A) → cond b x (cond b y z) ≡ cond b x z
 cond-over true x y z = refl
 cond-over false x y z = refl
@@ -80,16 +75,8 @@ pub written-there : (m n : BTreeMap KeyTree Kept) (key : KeyTree) (old new : Kep
     → (k : KeyTree) → lookup (is_at (key_order k)) n.entries ≡ cond (is_at (key_order key) k) (Some new) (lookup (is_at (key_order k)) m.entries)
 written-there m n key old new there writes = (writes.3 (rw (← there) refl)).0
 
--- where no group has the key, a change that leaves no rows as they are changes nothing
-pub none-changed : (es : KeptGroups) (key : KeyTree) (change : Positioned → Positioned) → change [] ≡ [] → None ≡ lookup (is_at (key_order key)) es
-    → (k : KeyTree) → group_members k es ≡ cond (is_eq (key_order k key)) (change (group_members k es)) (group_members k es)
-none-changed es key change keeps none k = by (is_eq (key_order k key)) refl
-  where
-    by : (b : Bool) → is_eq (key_order k key) ≡ b → group_members k es ≡ cond b (change (group_members k es)) (group_members k es)
-    by true here =
-        let nothing : group_members k es ≡ [] = members-alike k key ((Equal-is (key_order k key)).0 here) es ∙ ap rows_in (sym none) in
-        nothing ∙ sym keeps ∙ ap change (sym nothing)
-    by false here = refl
+pub found-there : (m n : BTreeMap KeyTree Kept) (key : KeyTree) (old new : Kept) → Some old ≡ get key_order m key → WritesThrough key_order (key_order key) m new n → Some new ≡ get key_order n key
+found-there m n key old new there writes = sym (writes.3 (rw (← there) refl)).1
 
 -- ---- two keys
 
@@ -98,16 +85,6 @@ one-key : (key other : Option KeyTree) → are_one key other ≡ true → (k : K
 one-key None other one k = cc
 one-key (Some a) None one k = cc
 one-key (Some a) (Some b) one k = back k a ∙ beside a b k ((Equal-is (key_order a b)).0 one) ∙ back b k
-
--- a row that stays in its group comes in the place of the one that goes
-pub stays-one : (pos : PosTree) (key other : Option KeyTree) (new : Option Row) → are_one key other ≡ true → (k : KeyTree) (rows : Positioned)
-    → cond (is_key k key) (put_some pos new (gone pos rows)) rows ≡ moved pos key other new k rows
-stays-one pos key other new one k rows =
-    by (is_key k key) ∙ ap (λ b. cond b (put_some pos new (cond (is_key k key) (gone pos rows) rows)) (cond (is_key k key) (gone pos rows) rows)) (one-key key other one k)
-  where
-    by : (b : Bool) → cond b (put_some pos new (gone pos rows)) rows ≡ cond b (put_some pos new (cond b (gone pos rows) rows)) (cond b (gone pos rows) rows)
-    by true = refl
-    by false = refl
 
 -- the row of the group of a key comes once, where another key is equal
 pub shown-once : (g : Grouping) (es : KeptGroups) (key other : Option KeyTree) → are_one key other ≡ true → with_shown g (λ k. group_members k es) key [] ≡ shown_of g (λ k. group_members k es) key other
@@ -142,11 +119,20 @@ module _ (g : Grouping) where
   row-of rows None is = tt
   row-of rows (Some d) is = is
 
-  pub kept-settled : (before after : Kept) → after.bundle ≡ before.bundle → after.row ≡ row_shown g (forget before.bundle.members) → IsKept g before → IsKept g after
-  kept-settled before after is shown sound = record {
-    bundle = subst (λ (x : Bundle). IsBundle g.fields x) (sym is) sound.bundle;
-    row = row-of after.bundle.members after.row (shown ∙ ap (λ (x : Bundle). row_shown g (forget x.members)) (sym is));
-  }
+  told-row : (telling : Telling) (rows : Positioned) (row : Option Row) → IsTold telling g rows row → IsRowOf g rows row
+  told-row Untold rows row is = subst (IsRowOf g rows) (sym is) tt
+  told-row (Told lender) rows row is = row-of rows row is
+
+  -- one whose row is what is told of it
+  pub kept-told : (telling : Telling) (before : Kept) (row : Option Row) → IsTold telling g before.bundle.members row → IsKept g before → IsKept g (record { bundle = before.bundle; row = row })
+  kept-told telling before row is sound = record { bundle = sound.bundle; row = told-row telling before.bundle.members row is }
+
+  -- ---- what is told
+
+  -- of the same rows
+  pub told-alike : (telling : Telling) (was now rows more : Positioned) (shift : Shift) → was ≡ rows → now ≡ more → IsShift telling g was now shift → IsShift telling g rows more shift
+  told-alike telling was now rows more shift before after told =
+      (subst (λ (es : Positioned). IsTold telling g es shift.before) before told.0, subst (λ (es : Positioned). IsTold telling g es shift.after) after told.1)
 
   with-entry : (k : KeyTree) (b : Kept) (es : KeptGroups) → IsKept g b → AreBundles g es → AreBundles g (insert_entry key_order es k b)
   with-entry k b [] sound all = (sound, tt)
@@ -190,9 +176,18 @@ module _ (g : Grouping) where
       by true rest = all.0.bundle.positioned
       by false rest = rest
 
-  -- a row comes in the place of one that goes
-  pub members-over : (pos : PosTree) (d : Row) (es : KeptGroups) → IsExact pos → AreBundles g es → (k : KeyTree) → put pos d (group_members k es) ≡ put pos d (gone pos (group_members k es))
-  members-over pos d es exact all k = sym (put-over pos d (group_members k es) (members-positioned k es all) exact)
+  -- what is set in a group takes the place of what goes
+  pub stays-one : (pos : PosTree) (key other : Option KeyTree) (new : Option Row) → are_one key other ≡ true → (es : KeptGroups) → IsExact pos → AreBundles g es → (k : KeyTree)
+      → cond (is_key k key) (set_at pos new (group_members k es)) (group_members k es) ≡ moved pos key other new k (group_members k es)
+  stays-one pos key other new one es exact all k =
+      by (is_key k key) ∙ ap (λ b. cond b (set_at pos new (cond (is_key k key) (gone pos rows) rows)) (cond (is_key k key) (gone pos rows) rows)) (one-key key other one k)
+    where
+      rows : Positioned
+      rows = group_members k es
+
+      by : (b : Bool) → cond b (set_at pos new rows) rows ≡ cond b (set_at pos new (cond b (gone pos rows) rows)) (cond b (gone pos rows) rows)
+      by true = sym (set-over pos new rows (members-positioned k es all) exact)
+      by false = refl
 
   pub bundle-there : (k : KeyTree) (b : Kept) (es : KeptGroups) → lookup (is_at (key_order k)) es ≡ Some b → AreBundles g es → IsKept g b
   bundle-there k b [] there all = cc

@@ -1,5 +1,6 @@
 pub mod Placed
 pub mod Members
+pub mod Held
 pub mod Turned
 pub mod Grouped
 pub mod Running

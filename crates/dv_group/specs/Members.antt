@@ -1,6 +1,7 @@
 -- Rows by their keys, and the rows of the groups of some keys: words of bodies.
-use Rattle.std.specs.Prelude.{◌≡◌, Bool, false, List, [], ◌∷◌, Option, Some, None, cond, filter, ⊤}
+use Rattle.std.specs.Prelude.{◌≡◌, Bool, false, List, [], ◌∷◌, Option, Some, None, cond, filter, fold, ⊤}
 use Rattle.std.specs.List.{AllByRecursion}
+use Rattle.std.specs.Option.{option_map}
 use Rattle.std.specs.Ordering.{is_eq}
 use Rattle.std.specs.Map.{lookup}
 use Rattle.std.specs.BTreeMap.{is_at}
@@ -8,11 +9,16 @@ use Rattle.dv_order.specs.Order.{canon}
 use Rattle.dv_order.specs.Key.{KeyTree, key_order, value}
 use Rattle.dv_row.specs.Row.{Row}
 use Rattle.dv_change.specs.declared.position.Part.TheVariants.{Up}
+use Rattle.dv_change.specs.declared.taking.Taken.{Taken}
 use Rattle.dv_change.specs.Changes.{Positioned, forget}
 use Rattle.dv_change.specs.Ordered.{gone, put}
 use Rattle.dv_change.specs.Positions.{PosTree}
 use Rattle.dv_gather.specs.Grouping.{Grouping, key_in, row_shown}
 use Rattle.dv_group.specs.declared.kept.Kept.{Kept}
+use Rattle.dv_group.specs.declared.shift.Shift.{Shift}
+use Rattle.dv_group.specs.declared.shift.Shifts.{Shifts}
+use Rattle.dv_group.specs.declared.shift.Telling.{Telling}
+use Rattle.dv_group.specs.declared.shift.Telling.TheVariants.{Told, Untold}
 use Rattle.dv_group.specs.Room.{IsBundle}
 
 -- the key of a row
@@ -73,6 +79,11 @@ abbrev pub put_some : PosTree → Option Row → Positioned → Positioned
 put_some pos None rows = rows
 put_some pos (Some d) rows = put pos d rows
 
+-- rows with this one at a position, or with none there
+abbrev pub set_at : PosTree → Option Row → Positioned → Positioned
+set_at pos None rows = gone pos rows
+set_at pos (Some d) rows = put pos d rows
+
 -- rows with that of the group of a key, where there is a key and the group has rows; under keys stand these
 abbrev pub with_shown : Grouping → (KeyTree → Positioned) → Option KeyTree → Positioned → Positioned
 with_shown g under None rows = rows
@@ -84,4 +95,45 @@ shown_of g under key other = with_shown g under other (with_shown g under key []
 
 -- what stands under k, where a row goes from a position under one key, and one comes to it under another
 abbrev pub moved : PosTree → Option KeyTree → Option KeyTree → Option Row → KeyTree → Positioned → Positioned
-moved pos key other new k rows = cond (is_key k other) (put_some pos new (cond (is_key k key) (gone pos rows) rows)) (cond (is_key k key) (gone pos rows) rows)
+moved pos key other new k rows = cond (is_key k other) (set_at pos new (cond (is_key k key) (gone pos rows) rows)) (cond (is_key k key) (gone pos rows) rows)
+
+-- the key of a row, where there is one
+abbrev pub own_key : Grouping → Option Row → Option KeyTree
+own_key g row = option_map (row_key g) row
+
+-- what stands under k after a change that is told, and after some, one after the other
+abbrev pub moved_as : Grouping → KeyTree → Positioned → Taken → Positioned
+moved_as g k rows taken = moved taken.pos (own_key g taken.old) (own_key g taken.new) taken.new k rows
+
+abbrev pub moved_all : Grouping → KeyTree → Positioned → List Taken → Positioned
+moved_all g k rows all = fold (moved_as g k) rows all
+
+-- the rows of the groups of which a change that is told takes a row, or gives one to
+abbrev pub shown_as : Grouping → KeptGroups → Taken → Positioned
+shown_as g es taken = shown_of g (λ k. group_members k es) (own_key g taken.old) (own_key g taken.new)
+
+-- ---- the rows of groups before a change and after it
+
+-- the row of a group of these rows, where it is told
+abbrev pub IsTold : Telling → Grouping → Positioned → Option Row → Type 0
+IsTold Untold g rows row = row ≡ None
+IsTold (Told lender) g rows row = row ≡ row_shown g (forget rows)
+
+-- the rows of a group before a change of its rows, and after it
+abbrev pub IsShift : Telling → Grouping → Positioned → Positioned → Shift → Type 0
+IsShift telling g was now shift = IsTold telling g was shift.before × IsTold telling g now shift.after
+
+-- the same of the group of a key, where there is a key
+abbrev pub IsShiftAt : Telling → Grouping → (KeyTree → Positioned) → (KeyTree → Positioned) → Option KeyTree → Shift → Type 0
+IsShiftAt telling g was now None shift = ⊤
+IsShiftAt telling g was now (Some k) shift = IsShift telling g (was k) (now k) shift
+
+-- rows with the one of a key, where there are both
+abbrev pub with_row : Option KeyTree → Option Row → Positioned → Positioned
+with_row None row rows = rows
+with_row (Some k) row rows = put_some (Up k ∷ []) row rows
+
+-- the rows of the groups of two keys before a change and after it, where they are told
+abbrev pub AreShifts : Telling → Grouping → (KeyTree → Positioned) → (KeyTree → Positioned) → Option KeyTree → Option KeyTree → Shifts → Type 0
+AreShifts Untold g was now key other shifts = ⊤
+AreShifts (Told lender) g was now key other shifts = (shifts.before ≡ shown_of g was key other) × (shifts.after ≡ shown_of g now key other)

@@ -2,9 +2,10 @@
 
 ghost use Rattle.std.specs.Prelude.{◌≡◌, ◌↔◌, [], ◌∷◌, IfOk, IsTrue, OnOk, drop, map};
 ghost use Rattle.dv_change.specs.Changes.{forget};
-ghost use Rattle.dv_change.specs.Ordered.{gone, put};
+ghost use Rattle.dv_change.specs.Ordered.{gone};
 ghost use Rattle.dv_gather.specs.GroupView.{accumulation};
 ghost use Rattle.dv_gather.specs.Grouping.{row_shown};
+ghost use Rattle.dv_group.specs.Members.{set_at};
 ghost use Rattle.dv_group.specs.Room.{AreNarrowIn, HaveRoom, IsBundle};
 ghost use Rattle.dv_group.specs.Running.{moved_at, moved_from, running_of, with_told};
 ghost use Rattle.dv_group.specs.RunningView.{running_seen};
@@ -44,40 +45,22 @@ impl Bundle {
         self.members.is_empty()
     }
 
-    /// Puts the row at the position, in the place of one that stands there. Fails where memory is wanting; then it is spent.
-    pub(crate) fn put_in(
+    /// Sets what stands at the position: the row, or nothing. Fails where memory is wanting; then it is spent.
+    pub(crate) fn set(
         &mut self,
         alloc: Global,
         group: &Group,
         pos: Pos,
-        row: Document,
+        row: Option<Document>,
     ) -> Result<(), NoMemory>
         requires { IsBundle group.now.fields self.old }
-        ensures rows { OnOk result (self.new.members ≡ put pos row self.old.members) }
+        ensures rows { OnOk result (self.new.members ≡ set_at pos row self.old.members) }
         ensures sound { OnOk result (IsBundle group.now.fields self.new) }
     {
-        follow_put(alloc, &mut self.totals, &self.members, group, &pos, &row)?;
+        follow_set(alloc, &mut self.totals, &self.members, group, &pos, &row)?;
         let rows = replace(&mut self.members, Ordered::new(alloc));
-        let more = rows.with(pos, row)?;
-        self.members = more;
-        Ok(())
-    }
-
-    /// Takes out what stands at the position. Fails where memory is wanting; then it is spent.
-    pub(crate) fn take_out(
-        &mut self,
-        alloc: Global,
-        group: &Group,
-        pos: &Pos,
-    ) -> Result<(), NoMemory>
-        requires { IsBundle group.now.fields self.old }
-        ensures rows { OnOk result (self.new.members ≡ gone pos.now self.old.members) }
-        ensures sound { OnOk result (IsBundle group.now.fields self.new) }
-    {
-        follow_gone(alloc, &mut self.totals, &self.members, group, pos)?;
-        let rows = replace(&mut self.members, Ordered::new(alloc));
-        let left = rows.without(pos);
-        self.members = left;
+        let now = with_set(rows, pos, row)?;
+        self.members = now;
         Ok(())
     }
 
@@ -131,24 +114,41 @@ fn totals_of_none(alloc: Global, fields: &[GroupField]) -> Result<Vec<Running>, 
     Ok(totals)
 }
 
-/// Has what has come of each field follow the row, as it comes to the position, in the place of one that stands there. Fails
-/// where memory is wanting.
-fn follow_put(
+/// The rows, with this one at the position, or with none there. Fails where memory is wanting.
+fn with_set(
+    rows: Ordered<Document>,
+    pos: Pos,
+    row: Option<Document>,
+) -> Result<Ordered<Document>, NoMemory>
+    ensures { IfOk result (λ now. now ≡ set_at pos row rows) }
+{
+    match row {
+        Some(row) => rows.with(pos, row),
+        None => Ok(rows.without(&pos)),
+    }
+}
+
+/// Has what has come of each field follow what stands at the position, as it goes, and the row, where there is one, as it comes
+/// in its place. Fails where memory is wanting.
+fn follow_set(
     alloc: Global,
     totals: &mut Vec<Running>,
     members: &Ordered<Document>,
     group: &Group,
     pos: &Pos,
-    row: &Document,
+    row: &Option<Document>,
 ) -> Result<(), NoMemory>
     requires { IsBundle group.now.fields (record { members = members.now; totals = totals.old }) }
-    ensures { OnOk result (IsBundle group.now.fields (record { members = put pos.now row.now members.now; totals = totals.new })) }
+    ensures { OnOk result (IsBundle group.now.fields (record { members = set_at pos.now row.now members.now; totals = totals.new })) }
 {
     pos.is_exact();
     // No sum of so many numbers is beyond 128 bits.
     let _ = members.len();
     follow_gone(alloc, totals, members, group, pos)?;
-    follow_each(alloc, totals, group.fields(), Way::Comes, pos, row)
+    match row {
+        Some(row) => follow_each(alloc, totals, group.fields(), Way::Comes, pos, row),
+        None => Ok(()),
+    }
 }
 
 /// Has what has come of each field follow what stands at the position, as it goes. Fails where memory is wanting.

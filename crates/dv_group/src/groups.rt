@@ -1,16 +1,16 @@
 //! The rows of groups.
 
-ghost use Rattle.std.specs.Prelude.{◌≡◌, [], OnOk, Some, cond};
-ghost use Rattle.dv_change.specs.Ordered.{gone, put};
+ghost use Rattle.std.specs.Prelude.{◌≡◌, [], IfOk, OnOk, Some, cond};
 ghost use Rattle.dv_order.specs.Key.{KeyTree};
 ghost use Rattle.dv_group.specs.Members as defined;
-ghost use Rattle.dv_group.specs.Members.{AreBundles, is_key, group_members, moved, put_some};
+ghost use Rattle.dv_group.specs.Members.{AreBundles, AreShifts, IsShift, IsShiftAt, is_key, group_members, moved, moved_all, moved_as, own_key, set_at};
 
 use crate::bundle::Bundle;
 use crate::kept::Kept;
-use dv_change::Pos;
+use crate::shift::{Shift, Shifts, Telling};
+use dv_change::{Pos, Taken};
 use dv_gather::Group;
-use dv_order::Key;
+use dv_order::{Key, key_of};
 use dv_value::{Document, NoMemory};
 use std::alloc::Global;
 use std::collections::BTreeMap;
@@ -18,9 +18,61 @@ use std::collections::BTreeMap;
 /// The groups, by their keys.
 pub(crate) type Groups = BTreeMap<Key, Kept>;
 
+/// Takes in changes of rows, one after the other, of which nothing is told. Fails where memory is wanting.
+pub(crate) fn follow_all(
+    alloc: Global,
+    group: &Group,
+    groups: &mut Groups,
+    all: Vec<Taken>,
+) -> Result<(), NoMemory>
+    requires { AreBundles group.now groups.old.entries }
+    ensures rows { OnOk result ((k : KeyTree) → group_members k groups.new.entries ≡ moved_all group.now k (group_members k groups.old.entries) all.items) }
+    ensures sound { OnOk result (AreBundles group.now groups.new.entries) }
+{
+    'all: for taken in all {
+        follow(alloc, group, groups, taken, Telling::Untold)?;
+    }
+    Ok(())
+}
+
+/// Takes in a change of a row: the one that stood at its position goes from the group of its key, and the one that stands there now
+/// comes into that of its own. Gives the rows of these groups before it and after it, where they are told. Fails where memory is
+/// wanting.
+pub(crate) fn follow(
+    alloc: Global,
+    group: &Group,
+    groups: &mut Groups,
+    taken: Taken,
+    telling: Telling<'_>,
+) -> Result<Shifts, NoMemory>
+    requires { AreBundles group.now groups.old.entries }
+    ensures rows { OnOk result ((k : KeyTree) → group_members k groups.new.entries ≡ moved_as group.now k (group_members k groups.old.entries) taken) }
+    ensures sound { OnOk result (AreBundles group.now groups.new.entries) }
+    ensures told { IfOk result (λ shifts. AreShifts telling.entry group.now (λ k. group_members k groups.old.entries) (λ k. group_members k groups.new.entries) (own_key group.now taken.old) (own_key group.now taken.new) shifts) }
+{
+    let Taken { pos, old, new } = taken;
+    let key = key_of_row(alloc, group, &old)?;
+    let other = key_of_row(alloc, group, &new)?;
+    move_row(alloc, group, groups, pos, &key, &other, new, telling)
+}
+
+/// The key of the row, where there is one. Fails where memory is wanting.
+fn key_of_row(alloc: Global, group: &Group, row: &Option<Document>) -> Result<Option<Key>, NoMemory>
+    ensures { IfOk result (λ key. key ≡ own_key group.now row.now) }
+{
+    match row {
+        Some(row) => {
+            let key = group.key_in(alloc, row)?;
+            Ok(Some(key_of(key.get())?))
+        }
+        None => Ok(None),
+    }
+}
+
 /// Takes what stands at the position out of the group of the one key, and puts the row there into that of the other one, where
-/// there are keys and a row. Fails where memory is wanting.
-pub(crate) fn move_row(
+/// there are keys and a row. Gives the rows of these groups before it and after it, where they are told. Fails where memory is
+/// wanting.
+fn move_row(
     alloc: Global,
     group: &Group,
     groups: &mut Groups,
@@ -28,179 +80,103 @@ pub(crate) fn move_row(
     key: &Option<Key>,
     other: &Option<Key>,
     new: Option<Document>,
-) -> Result<(), NoMemory>
+    telling: Telling<'_>,
+) -> Result<Shifts, NoMemory>
     requires { AreBundles group.now groups.old.entries }
     ensures rows { OnOk result ((k : KeyTree) → group_members k groups.new.entries ≡ moved pos key.now other.now new k (group_members k groups.old.entries)) }
     ensures sound { OnOk result (AreBundles group.now groups.new.entries) }
-{
-    if are_one(key, other) {
-        return replace_in(alloc, group, groups, key, pos, new);
-    }
-    take_out(alloc, group, groups, key, &pos)?;
-    put_in(alloc, group, groups, other, pos, new)
-}
-
-/// Puts the row into the group of the key, in the place of what stands at the position, or takes that out where there is no row.
-fn replace_in(
-    alloc: Global,
-    group: &Group,
-    groups: &mut Groups,
-    key: &Option<Key>,
-    pos: Pos,
-    new: Option<Document>,
-) -> Result<(), NoMemory>
-    requires { AreBundles group.now groups.old.entries }
-    ensures rows { OnOk result ((k : KeyTree) → group_members k groups.new.entries ≡ cond (is_key k key.now) (put_some pos new (gone pos (group_members k groups.old.entries))) (group_members k groups.old.entries)) }
-    ensures sound { OnOk result (AreBundles group.now groups.new.entries) }
+    ensures told { IfOk result (λ shifts. AreShifts telling.entry group.now (λ k. group_members k groups.old.entries) (λ k. group_members k groups.new.entries) key.now other.now shifts) }
 {
     pos.is_exact();
-    match new {
-        Some(row) => put_in(alloc, group, groups, key, pos, Some(row)),
-        None => take_out(alloc, group, groups, key, &pos),
+    let empty = Shifts::none(alloc);
+    if are_one(key, other) {
+        let shift = set_in(alloc, group, groups, key, pos, new, telling)?;
+        let one = empty.with(alloc, key, shift)?;
+        return Ok(one);
     }
+    let place = pos.try_clone()?;
+    let left = set_in(alloc, group, groups, key, place, None, telling)?;
+    let come = set_in(alloc, group, groups, other, pos, new, telling)?;
+    let first = empty.with(alloc, key, left)?;
+    let both = first.with(alloc, other, come)?;
+    Ok(both)
 }
 
-/// Makes the row of the group of the key, where there are a key and a group, and the row isn't made since its rows changed. A
-/// row before it lends its names. Fails where memory is wanting.
-pub(crate) fn settle(
-    alloc: Global,
-    group: &Group,
-    groups: &mut Groups,
-    key: &Option<Key>,
-    before: Option<&Document>,
-) -> Result<(), NoMemory>
-    requires { AreBundles group.now groups.old.entries }
-    ensures rows { OnOk result ((k : KeyTree) → group_members k groups.new.entries ≡ group_members k groups.old.entries) }
-    ensures sound { OnOk result (AreBundles group.now groups.new.entries) }
-{
-    match key {
-        Some(key) => settle_under(alloc, group, groups, key, before),
-        None => Ok(()),
-    }
-}
-
-/// Makes the row of the group of the key, where there is one, and its row isn't made since its rows changed.
-fn settle_under(
-    alloc: Global,
-    group: &Group,
-    groups: &mut Groups,
-    key: &Key,
-    before: Option<&Document>,
-) -> Result<(), NoMemory>
-    requires { AreBundles group.now groups.old.entries }
-    ensures rows { OnOk result ((k : KeyTree) → group_members k groups.new.entries ≡ group_members k groups.old.entries) }
-    ensures sound { OnOk result (AreBundles group.now groups.new.entries) }
-{
-    match groups.get_mut(key) {
-        Some(kept) => kept.settle(alloc, group, before),
-        None => Ok(()),
-    }
-}
-
-/// Takes what stands at the position out of the group of the key, where there is a key.
-fn take_out(
-    alloc: Global,
-    group: &Group,
-    groups: &mut Groups,
-    key: &Option<Key>,
-    pos: &Pos,
-) -> Result<(), NoMemory>
-    requires { AreBundles group.now groups.old.entries }
-    ensures rows { OnOk result ((k : KeyTree) → group_members k groups.new.entries ≡ cond (is_key k key.now) (gone pos.now (group_members k groups.old.entries)) (group_members k groups.old.entries)) }
-    ensures sound { OnOk result (AreBundles group.now groups.new.entries) }
-{
-    match key {
-        Some(key) => take_from(alloc, group, groups, key, pos),
-        None => Ok(()),
-    }
-}
-
-/// Takes what stands at the position out of the group of the key. A group without rows goes.
-fn take_from(
-    alloc: Global,
-    group: &Group,
-    groups: &mut Groups,
-    key: &Key,
-    pos: &Pos,
-) -> Result<(), NoMemory>
-    requires { AreBundles group.now groups.old.entries }
-    ensures rows { OnOk result ((k : KeyTree) → group_members k groups.new.entries ≡ cond (is_key k (Some key.now)) (gone pos.now (group_members k groups.old.entries)) (group_members k groups.old.entries)) }
-    ensures sound { OnOk result (AreBundles group.now groups.new.entries) }
-{
-    let Some(kept) = groups.get_mut(key) else {
-        return Ok(());
-    };
-    kept.take_out(alloc, group, pos)?;
-    if kept.is_empty() {
-        drop(groups.remove(key));
-    }
-    Ok(())
-}
-
-/// Puts the row at the position into the group of the key, where there are a row and a key.
-fn put_in(
+/// Sets what stands at the position in the group of the key, where there is a key.
+fn set_in(
     alloc: Global,
     group: &Group,
     groups: &mut Groups,
     key: &Option<Key>,
     pos: Pos,
     row: Option<Document>,
-) -> Result<(), NoMemory>
+    telling: Telling<'_>,
+) -> Result<Shift, NoMemory>
     requires { AreBundles group.now groups.old.entries }
-    ensures rows { OnOk result ((k : KeyTree) → group_members k groups.new.entries ≡ cond (is_key k key.now) (put_some pos row (group_members k groups.old.entries)) (group_members k groups.old.entries)) }
+    ensures rows { OnOk result ((k : KeyTree) → group_members k groups.new.entries ≡ cond (is_key k key.now) (set_at pos row (group_members k groups.old.entries)) (group_members k groups.old.entries)) }
     ensures sound { OnOk result (AreBundles group.now groups.new.entries) }
+    ensures told { IfOk result (λ shift. IsShiftAt telling.entry group.now (λ k. group_members k groups.old.entries) (λ k. group_members k groups.new.entries) key.now shift) }
 {
-    let Some(key) = key else {
-        return Ok(());
+    match key {
+        Some(key) => set_under(alloc, group, groups, key, pos, row, telling),
+        None => Ok(Shift {
+            before: None,
+            after: None,
+        }),
+    }
+}
+
+/// Sets what stands at the position in the group of the key. A group without rows goes.
+fn set_under(
+    alloc: Global,
+    group: &Group,
+    groups: &mut Groups,
+    key: &Key,
+    pos: Pos,
+    row: Option<Document>,
+    telling: Telling<'_>,
+) -> Result<Shift, NoMemory>
+    requires { AreBundles group.now groups.old.entries }
+    ensures rows { OnOk result ((k : KeyTree) → group_members k groups.new.entries ≡ cond (is_key k (Some key.now)) (set_at pos row (group_members k groups.old.entries)) (group_members k groups.old.entries)) }
+    ensures sound { OnOk result (AreBundles group.now groups.new.entries) }
+    ensures told { IfOk result (λ shift. IsShift telling.entry group.now (group_members key.now groups.old.entries) (group_members key.now groups.new.entries) shift) }
+{
+    let Some(kept) = groups.get_mut(key) else {
+        return set_first(alloc, group, groups, key, pos, row, telling);
     };
-    match row {
-        Some(row) => put_under(alloc, group, groups, key, pos, row),
-        None => Ok(()),
+    let shift = kept.set(alloc, group, pos, row, telling)?;
+    if kept.is_empty() {
+        drop(groups.remove(key));
+        return Ok(shift);
     }
+    Ok(shift)
 }
 
-/// Puts the row at the position into the group of the key.
-fn put_under(
+/// Sets what stands at the position in a new group of the key, which has none.
+fn set_first(
     alloc: Global,
     group: &Group,
     groups: &mut Groups,
     key: &Key,
     pos: Pos,
-    row: Document,
-) -> Result<(), NoMemory>
-    requires { AreBundles group.now groups.old.entries }
-    ensures rows { OnOk result ((k : KeyTree) → group_members k groups.new.entries ≡ cond (is_key k (Some key.now)) (put pos row (group_members k groups.old.entries)) (group_members k groups.old.entries)) }
-    ensures sound { OnOk result (AreBundles group.now groups.new.entries) }
-{
-    match groups.get_mut(key) {
-        Some(kept) => kept.put_in(alloc, group, pos, row),
-        None => put_first(alloc, group, groups, key, pos, row),
-    }
-}
-
-/// Puts the row at the position into a new group of the key, which has none.
-fn put_first(
-    alloc: Global,
-    group: &Group,
-    groups: &mut Groups,
-    key: &Key,
-    pos: Pos,
-    row: Document,
-) -> Result<(), NoMemory>
+    row: Option<Document>,
+    telling: Telling<'_>,
+) -> Result<Shift, NoMemory>
     requires sound { AreBundles group.now groups.old.entries }
     requires none { group_members key.now groups.old.entries ≡ [] }
-    ensures rows { OnOk result ((k : KeyTree) → group_members k groups.new.entries ≡ cond (is_key k (Some key.now)) (put pos row (group_members k groups.old.entries)) (group_members k groups.old.entries)) }
+    ensures rows { OnOk result ((k : KeyTree) → group_members k groups.new.entries ≡ cond (is_key k (Some key.now)) (set_at pos row (group_members k groups.old.entries)) (group_members k groups.old.entries)) }
     ensures sound { OnOk result (AreBundles group.now groups.new.entries) }
+    ensures told { IfOk result (λ shift. IsShift telling.entry group.now (group_members key.now groups.old.entries) (group_members key.now groups.new.entries) shift) }
 {
     let bundle = Bundle::new(alloc, group)?;
     let mut kept = Kept::of(bundle);
-    kept.put_in(alloc, group, pos, row)?;
+    let shift = kept.set(alloc, group, pos, row, telling)?;
     groups.insert(key.try_clone()?, kept)?;
-    Ok(())
+    Ok(shift)
 }
 
 /// Whether there are two keys, and they are equal.
-pub(crate) fn are_one(key: &Option<Key>, other: &Option<Key>) -> bool
+fn are_one(key: &Option<Key>, other: &Option<Key>) -> bool
     ensures { result ≡ defined.are_one key.now other.now }
 {
     let Some(key) = key else {

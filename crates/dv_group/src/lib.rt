@@ -2,11 +2,14 @@
 #![tactic(auto)]
 
 mod bundle;
+mod group_operator;
 mod group_turn;
 mod groups;
 mod kept;
 pub mod laws;
 mod running;
+mod shift;
 mod summing;
 
+pub use group_operator::GroupOperator;
 pub use group_turn::GroupTurn;

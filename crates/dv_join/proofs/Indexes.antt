@@ -1,16 +1,18 @@
 -- Rows under keys: what a change of them makes of an index, and the rows under some of the keys.
-use Rattle.std.specs.Prelude.{◌≡◌, Bool, true, false, ◌||◌, cond, List, [], ◌∷◌, filter, Option, Some, None, refl}
-use Rattle.std.proofs.Common.{ap, sym, ◌∙◌}
+use Rattle.std.specs.Prelude.{◌≡◌, ◌<◌, ◌≤◌, Bool, true, false, ◌&&◌, ◌||◌, not, cond, List, [], ◌∷◌, filter, length, slice_get, Option, Some, None, refl}
+use Rattle.std.proofs.Common.{ap, arith, sym, ◌∙◌}
 use Rattle.std.proofs.lemmas.List.Elements.{filter_agree}
 use Rattle.std.proofs.lemmas.Map.Keys.{sorted_head}
 use Rattle.std.specs.declared.cmp.Ordering.TheVariants.{Less}
 use Rattle.std.specs.BTreeMap.{is_at}
+use Rattle.std.specs.BTreeSet.{BTreeSet, union}
 use Rattle.std.specs.Cmp.{Equal-is, eq_by_cmp_equiv}
 use Rattle.std.specs.List.{AllByRecursion, list_any}
 use Rattle.std.specs.List.Sorted.{IsStrictlySortedBy}
 use Rattle.std.specs.Map.{lookup}
 use Rattle.std.specs.Option.{unwrap_or}
 use Rattle.std.specs.Ordering.{is_eq}
+use Rattle.std.specs.Set.{sorted_merge}
 use Rattle.dv_value.specs.Tree.{Field}
 use Rattle.dv_order.specs.Key.{KeyTree, key_order}
 use Rattle.dv_order.specs.KeyLaws.{key_order_total}
@@ -21,7 +23,7 @@ use Rattle.dv_join.specs.declared.index.Index.{Index}
 use Rattle.dv_join.specs.Indexed.{IsJoinIndexOf, has_any, moved_in_index, under}
 use Rattle.dv_join.specs.Listed.{with_each_row}
 use Rattle.dv_join.specs.Turning.{if_any}
-use Rattle.dv_join.proofs.Rows.{passing-changed, with_all-passing}
+use Rattle.dv_join.proofs.Rows.{none-passing, passing-changed, with_all-passing}
 
 -- ---- keys
 
@@ -43,6 +45,13 @@ none-again k m ms sorted same = none-below ms (sorted_head key_order m ms sorted
 pub one-key : {A : Type 0} (f : A → A) (old new : A) (here rest : Bool) → new ≡ cond here (f old) old → (here ≡ true → rest ≡ false) → cond rest (f new) new ≡ cond (here || rest) (f old) old
 one-key f old new true rest e never = ap (λ b. cond b (f new) new) (never refl) ∙ e
 one-key f old new false rest e never = ap (λ a. cond rest (f a) a) e
+
+-- under some keys something went, and then under others something came
+pub exchanged-under : {A : Type 0} (goes comes : A → A) (old between new : A) (had has : Bool) → between ≡ cond (had && not has) (goes old) old → new ≡ cond has (comes between) between → new ≡ cond has (comes old) (cond had (goes old) old)
+exchanged-under goes comes old between new true true went came = came ∙ ap comes went
+exchanged-under goes comes old between new true false went came = came ∙ went
+exchanged-under goes comes old between new false true went came = came ∙ ap comes went
+exchanged-under goes comes old between new false false went came = came ∙ went
 
 -- under equal keys stands the same
 pub under-like : (k l : KeyTree) (index : Index) → is_eq (key_order k l) ≡ true → under k index ≡ under l index
@@ -110,3 +119,29 @@ all_under-passing has rows f are is (k ∷ ks) test =
     ∙ ap (all_under f ks) (with_all-passing test (has k) rows are)
     ∙ all_under-passing has rows f are is ks (λ d. test d || has k d)
     ∙ filter_agree (λ e. (test e.1 || has k e.1) || has_any has ks e.1) (λ e. test e.1 || (has k e.1 || has_any has ks e.1)) (λ e. or-assoc (test e.1) (has k e.1) (has_any has ks e.1)) rows
+
+-- ---- the rows under one key, and under none
+
+pub no-keys : (ks : List KeyTree) → (0 < length ks → false ≡ true) → ks ≡ []
+no-keys [] none = refl
+no-keys (k ∷ ks) none = absurd (let same : false ≡ true = none (omega arith) in cc)
+
+pub key-alone : (ks : List KeyTree) (k : KeyTree) → slice_get ks 0 ≡ Some k → length ks ≤ 1 → ks ≡ k ∷ []
+key-alone [] k first most = absurd cc
+key-alone (m ∷ []) k first most = let same : m ≡ k = cc in ap (λ n. n ∷ []) same
+key-alone (m ∷ n ∷ ks) k first most = absurd (omega (arith, most))
+
+-- the keys of a set and of one without keys
+pub union-none : (s t : BTreeSet KeyTree) → t.keys ≡ [] → union key_order s t ≡ s.keys
+union-none s t none = ap (λ ms. sorted_merge key_order true s.keys ms) none ∙ by s.keys
+  where
+    by : (ks : List KeyTree) → sorted_merge key_order true ks [] ≡ ks
+    by [] = refl
+    by (k ∷ ks) = refl
+
+module _ (has : KeyTree → List Field → Bool) (rows : Positioned) where
+  pub having-none : (ks : List KeyTree) → ks ≡ [] → [] ≡ filter (λ e. has_any has ks e.1) rows
+  having-none ks none = none-passing rows ∙ ap (λ ms. filter (λ e. has_any has ms e.1) rows) (sym none)
+
+  pub having-one : (ks : List KeyTree) (k : KeyTree) (index : Index) → IsJoinIndexOf has rows index → ks ≡ k ∷ [] → under k index ≡ filter (λ e. has_any has ks e.1) rows
+  having-one ks k index is one = is k ∙ filter_agree (λ e. has k e.1) (λ e. has k e.1 || false) (λ e. or-false (has k e.1)) rows ∙ ap (λ ms. filter (λ e. has_any has ms e.1) rows) (sym one)

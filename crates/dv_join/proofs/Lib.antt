@@ -3,4 +3,5 @@ pub mod Indexes
 pub mod Sharing
 pub mod Owed
 pub mod Bounds
+pub mod Copied
 pub mod Lawful

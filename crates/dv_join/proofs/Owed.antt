@@ -1,7 +1,7 @@
 -- What a look-up owes for a change: of its rows, what it makes of the changed row; of the list that it looks into, what it makes of
 -- the rows that the change touches.
 use Rattle.std.specs.Prelude.{◌≡◌, ℕ, zero, suc, Bool, true, false, ◌||◌, cond, List, [], ◌∷◌, filter, Option, None, Some, refl}
-use Rattle.std.proofs.Common.{ap, arith, subst, sym, ◌∙◌, ◌⊎◌, inl, inr}
+use Rattle.std.proofs.Common.{ap, arith, sym, ◌∙◌, ◌⊎◌, inl, inr}
 use Rattle.std.proofs.lemmas.Map.Entries.{option_filter}
 use Rattle.std.specs.Cmp.{Equal-is}
 use Rattle.std.specs.Option.{option_map}
@@ -12,7 +12,6 @@ use Rattle.dv_gather.specs.declared.lookup.Lookup.{Lookup}
 use Rattle.dv_gather.specs.Joining.{is_joined}
 use Rattle.dv_gather.specs.Lookups.{joined_row}
 use Rattle.dv_change.specs.declared.change.Change.{Change}
-use Rattle.dv_change.specs.declared.input.Input.{Input}
 use Rattle.dv_change.specs.declared.input.Input.TheVariants.{Named}
 use Rattle.dv_change.specs.Inputs.{HasInput, others_after}
 use Rattle.dv_change.specs.Changes.{IsExactChange, IsPositioned, Positioned, alone, at, forget, position_changed, row_in, with_change}
@@ -20,22 +19,24 @@ use Rattle.dv_change.specs.Difference.{diff}
 use Rattle.dv_change.specs.DiffLaws.{IsPartAt, at-alone, at-changed, diff-parts, exact-place, positioned-alone, positioned-changed, positioned-filter}
 use Rattle.dv_change.specs.Positions.{PosTree, pos_order}
 use Rattle.dv_change.specs.RowLaws.{at-like}
+use Rattle.dv_change.specs.Told.{diff_told, input_rows, told_along}
+use Rattle.dv_change.specs.ToldLaws.{along-diff, told-parts}
 use Rattle.dv_join.specs.Indexed.{has_any}
 use Rattle.dv_join.specs.Placed.{at-looked_up, looked_up_at, looked_up_ordered}
-use Rattle.dv_join.specs.Turning.{has_foreign, has_local, if_any}
+use Rattle.dv_join.specs.Turning.{first_input, has_foreign, has_local, if_any}
 use Rattle.dv_join.proofs.Indexes.{is_one_of}
 use Rattle.dv_join.proofs.Rows.{at-passing, passing-same}
-use Rattle.dv_join.proofs.Sharing.{not-joined, same-joined}
+use Rattle.dv_join.proofs.Sharing.{not-joined, or-left, or-right, same-joined}
 
 -- ---- the list that it looks into
 
--- after a change of the one list that there is
-pub only-list : (input : Input) (i : ℕ) (change : Change) (rows : Positioned) → input ≡ Named i → HasInput input (rows ∷ []) → others_after input change (rows ∷ []) ≡ with_change rows change ∷ []
-only-list input i change rows is has = ap (λ n. others_after n change (rows ∷ [])) is ∙ by i (subst (λ n. HasInput n (rows ∷ [])) is has)
-  where
-    by : (n : ℕ) → HasInput (Named n) (rows ∷ []) → others_after (Named n) change (rows ∷ []) ≡ with_change rows change ∷ []
-    by zero h = refl
-    by (suc n) h = absurd (omega (arith, h))
+-- the one list that there is
+module _ (change : Change) (left : Positioned) where
+  pub only-one : (i : ℕ) (others : List Positioned) → HasInput (Named i) others → others ≡ first_input others ∷ [] → (others_after (Named i) change others ≡ with_change (first_input others) change ∷ []) × (input_rows (Named i) others left ≡ first_input others)
+  only-one i [] has one = absurd cc
+  only-one zero (rows ∷ []) has one = (refl, refl)
+  only-one (suc i) (rows ∷ []) has one = absurd (omega (arith, has))
+  only-one i (rows ∷ more ∷ others) has one = absurd cc
 
 -- ---- a change of the rows
 
@@ -71,6 +72,16 @@ module _ (l : Lookup) (rows foreign : Positioned) (change : Change) (are : IsPos
       (looked_up_ordered l foreign rows are) (looked_up_ordered l foreign (with_change rows change) (positioned-changed rows change are exact)) (looked_up_ordered l foreign (alone p (at p rows)) (positioned-alone p (at p rows) place)) (looked_up_ordered l foreign (alone p (row_in change)) (positioned-alone p (row_in change) place))
       (λ q x. left-part q (is_eq (pos_order q p)) refl)
 
+  pub left-told : told_along (made rows) (diff (made rows) (made (with_change rows change))) ≡ diff_told (made (alone (position_changed change) (at (position_changed change) rows))) (made (alone (position_changed change) (row_in change)))
+  left-told =
+      let p = position_changed change in
+      let place = exact-place change exact in
+      let now = positioned-changed rows change are exact in
+      along-diff (made rows) (made (with_change rows change)) (looked_up_ordered l foreign rows are) (looked_up_ordered l foreign (with_change rows change) now)
+      ∙ told-parts (made rows) (made (with_change rows change)) (made (alone p (at p rows))) (made (alone p (row_in change)))
+      (looked_up_ordered l foreign rows are) (looked_up_ordered l foreign (with_change rows change) now) (looked_up_ordered l foreign (alone p (at p rows)) (positioned-alone p (at p rows) place)) (looked_up_ordered l foreign (alone p (row_in change)) (positioned-alone p (row_in change) place))
+      (λ q x. left-part q (is_eq (pos_order q p)) refl)
+
 -- ---- a change of the list that it looks into
 
 -- where a row isn't touched, it is joined neither with the document that went nor with the one that came
@@ -82,11 +93,10 @@ neither true b e = absurd (let same : true ≡ false = e in cc)
 neither false b e = (refl, e)
 
 -- those rows are touched that have a key of either
-pub touched-by : (l : Lookup) (old new : Option (List Field)) (old_keys new_keys : List KeyTree) → ((k : KeyTree) → is_one_of old_keys k ≡ if_any (has_foreign l k) old) → ((k : KeyTree) → is_one_of new_keys k ≡ if_any (has_foreign l k) new)
-    → AreTouched l (λ d. has_any (has_local l) old_keys d || has_any (has_local l) new_keys d) old new
-touched-by l old new old_keys new_keys old-own new-own = λ d other.
-    let both = neither (has_any (has_local l) old_keys d) (has_any (has_local l) new_keys d) other in
-    (not-joined l d old old_keys old-own both.0, not-joined l d new new_keys new-own both.1)
+pub touched-by : (l : Lookup) (old new : Option (List Field)) (keys old_keys new_keys : List KeyTree) → ((k : KeyTree) → is_one_of keys k ≡ is_one_of old_keys k || is_one_of new_keys k)
+    → ((k : KeyTree) → is_one_of old_keys k ≡ if_any (has_foreign l k) old) → ((k : KeyTree) → is_one_of new_keys k ≡ if_any (has_foreign l k) new) → AreTouched l (has_any (has_local l) keys) old new
+touched-by l old new keys old_keys new_keys all old-own new-own = λ d other.
+    (not-joined l d old keys (λ k has. all k ∙ or-left (is_one_of old_keys k) (is_one_of new_keys k) (old-own k ∙ has)) other, not-joined l d new keys (λ k has. all k ∙ or-right (is_one_of old_keys k) (is_one_of new_keys k) (new-own k ∙ has)) other)
 
 module _ (l : Lookup) (rows foreign : Positioned) (change : Change) (test : List Field → Bool) (are : IsPositioned rows) (foreign-are : IsPositioned foreign) (exact : IsExactChange change) (touched : AreTouched l test (at (position_changed change) foreign) (row_in change)) where
   abbrev before : Positioned → Positioned
@@ -133,4 +143,11 @@ module _ (l : Lookup) (rows foreign : Positioned) (change : Change) (test : List
   foreign-owed =
       let some-are : IsPositioned some = positioned-filter (λ e. test e.1) rows are in
       diff-parts (before rows) (after rows) (before some) (after some) (looked_up_ordered l foreign rows are) (looked_up_ordered l (with_change foreign change) rows are) (looked_up_ordered l foreign some some-are) (looked_up_ordered l (with_change foreign change) some some-are)
+      (λ q x. foreign-part q (either (at q rows)))
+
+  pub foreign-told : told_along (before rows) (diff (before rows) (after rows)) ≡ diff_told (before some) (after some)
+  foreign-told =
+      let some-are : IsPositioned some = positioned-filter (λ e. test e.1) rows are in
+      along-diff (before rows) (after rows) (looked_up_ordered l foreign rows are) (looked_up_ordered l (with_change foreign change) rows are)
+      ∙ told-parts (before rows) (after rows) (before some) (after some) (looked_up_ordered l foreign rows are) (looked_up_ordered l (with_change foreign change) rows are) (looked_up_ordered l foreign some some-are) (looked_up_ordered l (with_change foreign change) some some-are)
       (λ q x. foreign-part q (either (at q rows)))

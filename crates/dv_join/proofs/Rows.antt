@@ -19,20 +19,6 @@ use Rattle.dv_join.specs.Turning.{if_any}
 
 -- ---- filters
 
--- what passes passes another test first
-pub filter-through : {X : Type 0} (p test : X → Bool) → ((x : X) → p x ≡ true → test x ≡ true) → (xs : List X) → filter p (filter test xs) ≡ filter p xs
-filter-through p test h [] = refl
-filter-through p test h (x ∷ xs) = by (p x) (test x) refl refl (filter-through p test h xs)
-  where
-    here : (b : Bool) → p x ≡ b → filter p (x ∷ filter test xs) ≡ cond b (x ∷ filter p (filter test xs)) (filter p (filter test xs))
-    here b e = ap (λ c. cond c (x ∷ filter p (filter test xs)) (filter p (filter test xs))) e
-
-    by : (a b : Bool) → p x ≡ a → test x ≡ b → filter p (filter test xs) ≡ filter p xs → filter p (cond b (x ∷ filter test xs) (filter test xs)) ≡ cond a (x ∷ filter p xs) (filter p xs)
-    by true true pass is rest = here true pass ∙ ap (λ l. x ∷ l) rest
-    by true false pass is rest = absurd (let same : false ≡ true = sym is ∙ h x pass in cc)
-    by false true fail is rest = here false fail ∙ rest
-    by false false fail is rest = rest
-
 pub forget-filter : (test : List Field → Bool) (es : Positioned) → forget (filter (λ e. test e.1) es) ≡ filter test (forget es)
 forget-filter test [] = refl
 forget-filter test (e ∷ es) = by (test e.1) (forget-filter test es)
@@ -122,7 +108,7 @@ positioned-set p None es exact are = positioned-gone p es are
 positioned-set p (Some d) es exact are = positioned-put p d es are exact
 
 positioned-moved : (p : PosTree) (had : Bool) (row : Option (List Field)) (has : Bool) (es : Positioned) → IsExact p → IsPositioned es → IsPositioned (moved_in_index p had row has es)
-positioned-moved p had row true es exact are = positioned-set p row (cond had (gone p es) es) exact (positioned-went p had es are)
+positioned-moved p had row true es exact are = positioned-set p row es exact are
 positioned-moved p had row false es exact are = positioned-went p had es are
 
 at-went : (q p : PosTree) (had : Bool) (es : Positioned) → IsPositioned es → at q (cond had (gone p es) es) ≡ cond had (cond (is_eq (pos_order q p)) None (at q es)) (at q es)
@@ -134,8 +120,8 @@ at-set q p None es are = at-gone q p es are.ascending ∙ ap (λ b. cond b None 
 at-set q p (Some d) es are = at-put q p d es
 
 at-moved : (q p : PosTree) (had : Bool) (row : Option (List Field)) (has : Bool) (es : Positioned) → IsPositioned es
-    → at q (moved_in_index p had row has es) ≡ cond has (cond (is_eq (pos_order q p)) row (cond had (cond (is_eq (pos_order q p)) None (at q es)) (at q es))) (cond had (cond (is_eq (pos_order q p)) None (at q es)) (at q es))
-at-moved q p had row true es are = at-set q p row (cond had (gone p es) es) (positioned-went p had es are) ∙ ap (cond (is_eq (pos_order q p)) row) (at-went q p had es are)
+    → at q (moved_in_index p had row has es) ≡ cond has (cond (is_eq (pos_order q p)) row (at q es)) (cond had (cond (is_eq (pos_order q p)) None (at q es)) (at q es))
+at-moved q p had row true es are = at-set q p row es are
 at-moved q p had row false es are = at-went q p had es are
 
 module _ (test : List Field → Bool) where
@@ -157,11 +143,9 @@ module _ (test : List Field → Bool) where
   kept (Some d) = refl
 
   exchanged : (b : Bool) (row old there : Option (List Field)) → (b ≡ true → there ≡ old)
-      → option_filter test (cond b row there) ≡ cond (if_any test row) (cond b row (cond (if_any test old) (cond b None (option_filter test there)) (option_filter test there))) (cond (if_any test old) (cond b None (option_filter test there)) (option_filter test there))
-  exchanged true row old there h =
-      sym (ap (λ a. cond (if_any test row) row (cond (if_any test old) None (option_filter test a))) (h refl) ∙ ap (cond (if_any test row) row) (none-left old) ∙ kept row)
-  exchanged false row old there h =
-      sym (same-both (if_any test row) (cond (if_any test old) (option_filter test there) (option_filter test there)) ∙ same-both (if_any test old) (option_filter test there))
+      → option_filter test (cond b row there) ≡ cond (if_any test row) (cond b row (option_filter test there)) (cond (if_any test old) (cond b None (option_filter test there)) (option_filter test there))
+  exchanged true row old there h = sym (ap (λ a. cond (if_any test row) row (cond (if_any test old) None (option_filter test a))) (h refl) ∙ ap (cond (if_any test row) row) (none-left old) ∙ kept row)
+  exchanged false row old there h = sym (ap (cond (if_any test row) (option_filter test there)) (same-both (if_any test old) (option_filter test there)) ∙ same-both (if_any test row) (option_filter test there))
 
   -- the rows that pass, after a change
   pub passing-changed : (rows : Positioned) (change : Change) → IsPositioned rows → IsExactChange change
@@ -177,7 +161,7 @@ module _ (test : List Field → Bool) where
       at-passing test q (with_change rows change) after
       ∙ ap (option_filter test) (at-changed q rows change are)
       ∙ exchanged (is_eq (pos_order q p)) row old (at q rows) (λ beside. at-like q p ((Equal-is (pos_order q p)).0 beside) rows)
-      ∙ sym (at-moved q p (if_any test old) row (if_any test row) some some-are ∙ ap (λ a. cond (if_any test row) (cond (is_eq (pos_order q p)) row (cond (if_any test old) (cond (is_eq (pos_order q p)) None a) a)) (cond (if_any test old) (cond (is_eq (pos_order q p)) None a) a)) (at-passing test q rows are)))
+      ∙ sym (at-moved q p (if_any test old) row (if_any test row) some some-are ∙ ap (λ a. cond (if_any test row) (cond (is_eq (pos_order q p)) row a) (cond (if_any test old) (cond (is_eq (pos_order q p)) None a) a)) (at-passing test q rows are)))
 
   -- where neither what went nor what came passes, the same rows pass
   pub passing-same : (rows : Positioned) (change : Change) → IsPositioned rows → IsExactChange change → if_any test (at (position_changed change) rows) ≡ false → if_any test (row_in change) ≡ false

@@ -1,6 +1,7 @@
 -- A row and a document that it is joined with share a key; so what is found by keys is all that a row is joined with.
 use Rattle.std.specs.Prelude.{◌≡◌, Bool, true, false, ◌||◌, List, [], ◌∷◌, filter, map, Option, Some, None, refl}
 use Rattle.std.proofs.Common.{ap, sym, ◌∙◌}
+use Rattle.std.proofs.lemmas.List.Elements.{filter_agree}
 use Rattle.std.specs.Cmp.{eq_by_cmp_equiv}
 use Rattle.std.specs.List.{list_any}
 use Rattle.std.specs.Ordering.{is_eq}
@@ -11,13 +12,13 @@ use Rattle.dv_order.specs.KeyLaws.{key_order_total}
 use Rattle.dv_order.specs.SameOrder.{order_of_canon}
 use Rattle.dv_path.specs.LeafKeys.{is_key_of, is_some_key, leaf_values}
 use Rattle.dv_gather.specs.declared.lookup.Lookup.{Lookup}
-use Rattle.dv_gather.specs.Joining.{as_value, is_equal_to_one, is_joined, joined_by}
+use Rattle.dv_gather.specs.Joining.{as_value, is_equal_to_one, is_joined, joined_by, matches}
 use Rattle.dv_gather.specs.Lookups.{joined_row, set_field}
 use Rattle.dv_change.specs.Changes.{Positioned, forget}
 use Rattle.dv_join.specs.Indexed.{has_any}
 use Rattle.dv_join.specs.Turning.{has_foreign, has_local, if_any}
 use Rattle.dv_join.proofs.Indexes.{is_one_of}
-use Rattle.dv_join.proofs.Rows.{filter-through, forget-filter}
+use Rattle.dv_join.proofs.Rows.{forget-filter}
 
 -- an item that passes
 record Passing {X : Type 0} (p : X → Bool) (xs : List X) : Type 0 where
@@ -25,11 +26,11 @@ record Passing {X : Type 0} (p : X → Bool) (xs : List X) : Type 0 where
   passes : p one ≡ true
   among : (q : X → Bool) → q one ≡ true → list_any q xs ≡ true
 
-or-left : (a b : Bool) → a ≡ true → a || b ≡ true
+pub or-left : (a b : Bool) → a ≡ true → a || b ≡ true
 or-left true b e = refl
 or-left false b e = cc
 
-or-right : (a b : Bool) → b ≡ true → a || b ≡ true
+pub or-right : (a b : Bool) → b ≡ true → a || b ≡ true
 or-right true b e = refl
 or-right false b e = e
 
@@ -51,6 +52,15 @@ any-same p q same (x ∷ xs) = λ i. same x i || any-same p q same xs i
 alike : (k l : KeyTree) (vs : List Tree) → is_eq (key_order k l) ≡ true → is_some_key k vs ≡ is_some_key l vs
 alike k l vs e = any-same (is_key_of k) (is_key_of l) (λ v. (eq_by_cmp_equiv key_order_total).congr k l (value (canon v)) e) vs
 
+-- a key of a value is one of others exactly where it is equal to one of them
+keys-as-values : (v : Tree) (ws : List Tree) → is_some_key (value (canon v)) ws ≡ is_equal_to_one ws v
+keys-as-values v ws = any-same (is_key_of (value (canon v))) (λ w. is_eq (order v w)) (λ w. ap is_eq (order_of_canon v w)) ws
+
+same-truth : (a b : Bool) → (a ≡ true → b ≡ true) → (b ≡ true → a ≡ true) → a ≡ b
+same-truth true b to from = sym (to refl)
+same-truth false true to from = from refl
+same-truth false false to from = refl
+
 -- the key of some value on both sides
 record Shared (vs ws : List Tree) : Type 0 where
   key : KeyTree
@@ -64,28 +74,39 @@ shared vs ws e =
     record {
       key = k;
       here = v.among (is_key_of k) ((eq_by_cmp_equiv key_order_total).refl k);
-      there = any-same (is_key_of k) (λ w. is_eq (order v.one w)) (λ w. ap is_eq (order_of_canon v.one w)) ws ∙ v.passes;
+      there = keys-as-values v.one ws ∙ v.passes;
     }
 
 -- of the keys of the one side some is a key of the other
-by-keys : (keys : List KeyTree) (vs ws : List Tree) (k : KeyTree) → ((k : KeyTree) → is_one_of keys k ≡ is_some_key k vs) → is_some_key k vs ≡ true → is_some_key k ws ≡ true → list_any (λ m. is_some_key m ws) keys ≡ true
-by-keys keys vs ws k own here there =
-    let m : Passing (λ m. is_eq (key_order k m)) keys = passing (λ m. is_eq (key_order k m)) keys (own k ∙ here) in
-    m.among (λ m. is_some_key m ws) (sym (alike k m.one ws m.passes) ∙ there)
+by-keys : (keys : List KeyTree) (vs ws : List Tree) → ((k : KeyTree) → is_some_key k vs ≡ true → is_one_of keys k ≡ true) → Shared vs ws → list_any (λ m. is_some_key m ws) keys ≡ true
+by-keys keys vs ws own s =
+    let m : Passing (λ m. is_eq (key_order s.key m)) keys = passing (λ m. is_eq (key_order s.key m)) keys (own s.key s.here) in
+    m.among (λ m. is_some_key m ws) (sym (alike s.key m.one ws m.passes) ∙ s.there)
 
-module _ (l : Lookup) (d f : List Field) (keys : List KeyTree) (joined : is_joined l.local l.foreign d f ≡ true) where
-  pub found-by-local : ((k : KeyTree) → is_one_of keys k ≡ has_local l k d) → has_any (has_foreign l) keys f ≡ true
-  found-by-local own =
-      let s : Shared (joined_by l.local d) (leaf_values l.foreign f) = shared (joined_by l.local d) (leaf_values l.foreign f) joined in
-      by-keys keys (joined_by l.local d) (leaf_values l.foreign f) s.key own s.here s.there
+module _ (l : Lookup) (d f : List Field) (keys : List KeyTree) where
+  abbrev vs : List Tree
+  vs = joined_by l.local d
 
-  pub found-by-foreign : ((k : KeyTree) → is_one_of keys k ≡ has_foreign l k f) → has_any (has_local l) keys d ≡ true
-  found-by-foreign own =
-      let s : Shared (joined_by l.local d) (leaf_values l.foreign f) = shared (joined_by l.local d) (leaf_values l.foreign f) joined in
-      by-keys keys (leaf_values l.foreign f) (joined_by l.local d) s.key own s.there s.here
+  abbrev ws : List Tree
+  ws = leaf_values l.foreign f
+
+  pub found-by-foreign : is_joined l.local l.foreign d f ≡ true → ((k : KeyTree) → has_foreign l k f ≡ true → is_one_of keys k ≡ true) → has_any (has_local l) keys d ≡ true
+  found-by-foreign joined own =
+      let s : Shared vs ws = shared vs ws joined in
+      by-keys keys ws vs own (record { key = s.key; here = s.there; there = s.here })
+
+  -- where the keys are those of the row, it has one of the document's exactly where the two are joined
+  pub found-by-local : ((k : KeyTree) → is_one_of keys k ≡ has_local l k d) → has_any (has_foreign l) keys f ≡ is_joined l.local l.foreign d f
+  found-by-local own = same-truth (has_any (has_foreign l) keys f) (is_joined l.local l.foreign d f) there (λ joined. by-keys keys vs ws (λ k here. own k ∙ here) (shared vs ws joined))
+    where
+      there : has_any (has_foreign l) keys f ≡ true → is_joined l.local l.foreign d f ≡ true
+      there found =
+          let m : Passing (λ m. is_some_key m ws) keys = passing (λ m. is_some_key m ws) keys found in
+          let v : Passing (is_key_of m.one) vs = passing (is_key_of m.one) vs (sym (own m.one) ∙ m.among (λ n. is_eq (key_order m.one n)) ((eq_by_cmp_equiv key_order_total).refl m.one)) in
+          v.among (is_equal_to_one ws) (sym (keys-as-values v.one ws) ∙ sym (alike m.one (value (canon v.one)) ws v.passes) ∙ m.passes)
 
 -- without a key of a document a row isn't joined with it
-pub not-joined : (l : Lookup) (d : List Field) (document : Option (List Field)) (keys : List KeyTree) → ((k : KeyTree) → is_one_of keys k ≡ if_any (has_foreign l k) document) → has_any (has_local l) keys d ≡ false → if_any (is_joined l.local l.foreign d) document ≡ false
+pub not-joined : (l : Lookup) (d : List Field) (document : Option (List Field)) (keys : List KeyTree) → ((k : KeyTree) → if_any (has_foreign l k) document ≡ true → is_one_of keys k ≡ true) → has_any (has_local l) keys d ≡ false → if_any (is_joined l.local l.foreign d) document ≡ false
 not-joined l d None keys own none = refl
 not-joined l d (Some f) keys own none = by (is_joined l.local l.foreign d f) refl
   where
@@ -99,7 +120,8 @@ same-joined l d some others same =
     let test = is_joined l.local l.foreign d in
     ap (λ fs. set_field l.target (array (elements_of (map as_value fs))) d) (sym (forget-filter test some) ∙ ap forget same ∙ forget-filter test others)
 
--- what is found by the keys of a row is all that it is joined with
-pub joined-found : (l : Lookup) (d : List Field) (documents : Positioned) (keys : List KeyTree) → ((k : KeyTree) → is_one_of keys k ≡ has_local l k d) → joined_row l (forget (filter (λ e. has_any (has_foreign l) keys e.1) documents)) d ≡ joined_row l (forget documents) d
-joined-found l d documents keys own =
-    same-joined l d (filter (λ e. has_any (has_foreign l) keys e.1) documents) documents (filter-through (λ e. is_joined l.local l.foreign d e.1) (λ e. has_any (has_foreign l) keys e.1) (λ e joined. found-by-local l d e.1 keys joined own) documents)
+-- what is found by the keys of a row is what it is joined with
+pub found-joined : (l : Lookup) (d : List Field) (documents : Positioned) (keys : List KeyTree) → ((k : KeyTree) → is_one_of keys k ≡ has_local l k d) → map as_value (forget (filter (λ e. has_any (has_foreign l) keys e.1) documents)) ≡ map as_value (matches l.local l.foreign (forget documents) d)
+found-joined l d documents keys own =
+    ap (λ es. map as_value (forget es)) (filter_agree (λ e. has_any (has_foreign l) keys e.1) (λ e. is_joined l.local l.foreign d e.1) (λ e. found-by-local l d e.1 keys own) documents)
+    ∙ ap (map as_value) (forget-filter (is_joined l.local l.foreign d) documents)

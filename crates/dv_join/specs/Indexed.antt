@@ -27,6 +27,6 @@ abbrev pub row_set : PosTree → Option (List Field) → Positioned → Position
 row_set pos None rows = gone pos rows
 row_set pos (Some row) rows = put pos row rows
 
--- the rows under a key, where one went from its position if that had the key, and another one came if that has it
+-- the rows under a key, where another one came if that has the key, and else the one at its position went if that had it
 abbrev pub moved_in_index : PosTree → Bool → Option (List Field) → Bool → Positioned → Positioned
-moved_in_index pos had row has rows = cond has (row_set pos row (cond had (gone pos rows) rows)) (cond had (gone pos rows) rows)
+moved_in_index pos had row has rows = cond has (row_set pos row rows) (cond had (gone pos rows) rows)

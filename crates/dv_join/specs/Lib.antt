@@ -5,3 +5,4 @@ pub mod Indexed
 pub mod Turning
 pub mod Listed
 pub mod Bounds
+pub mod Copied

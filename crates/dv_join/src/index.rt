@@ -1,17 +1,19 @@
 //! Rows by their keys.
 
-ghost use Rattle.std.specs.Prelude.{◌≡◌, ◌||◌, [], Bool, List, cond, filter, IfOk, OnOk};
-ghost use Rattle.std.specs.BTreeSet.{contains};
+ghost use Rattle.std.specs.Prelude.{◌≡◌, ◌&&◌, [], Bool, cond, filter, map, not, IfOk, OnOk};
+ghost use Rattle.std.specs.BTreeSet.{IsUnion, contains, union};
 ghost use Rattle.std.specs.Ordering.{is_eq};
-ghost use Rattle.dv_value.specs.Tree.{Field};
-ghost use Rattle.dv_change.specs.Changes.{IsPositioned, Positioned};
+ghost use Rattle.dv_change.specs.Changes.{IsPositioned, Positioned, forget};
+ghost use Rattle.dv_change.specs.Ordered.{gone};
+ghost use Rattle.dv_gather.specs.Joining.{as_value};
+ghost use Rattle.dv_join.specs.Copied.{Row};
 ghost use Rattle.dv_join.specs.Indexed.{IsJoinIndexOf, has_any, moved_in_index, row_set, under};
 ghost use Rattle.dv_order.specs.Key.{KeyTree, key_order};
 
-use crate::joining::with_all;
+use crate::joining::{values_of, with_all};
 use dv_change::{Ordered, Pos};
 use dv_order::Key;
-use dv_value::{Document, NoMemory};
+use dv_value::{Document, List, NoMemory};
 use std::alloc::Global;
 use std::collections::{BTreeMap, BTreeSet};
 
@@ -33,19 +35,34 @@ impl Index {
         }
     }
 
-    /// Takes out the row at the position, which has the first keys, and puts another one there, which has the second. Fails
-    /// where memory is wanting.
+    /// Takes out the row at the position, which has the first keys, and puts another one there, which has the second. Under a key
+    /// that both have, the one comes in place of the other. Fails where memory is wanting.
     pub(crate) fn exchange(
         &mut self,
         pos: &Pos,
-        old_keys: BTreeSet<Key>,
+        old_keys: &BTreeSet<Key>,
         row: &Option<Document>,
         new_keys: BTreeSet<Key>,
     ) -> Result<(), NoMemory>
-        ensures { OnOk result ((k : KeyTree) → under k self.new ≡ moved_in_index pos.now (contains key_order old_keys k) row.now (contains key_order new_keys k) (under k self.old)) }
+        ensures { OnOk result ((k : KeyTree) → under k self.new ≡ moved_in_index pos.now (contains key_order old_keys.now k) row.now (contains key_order new_keys k) (under k self.old)) }
     {
-        self.set(old_keys, pos, &None)?;
+        self.take_out(old_keys, &new_keys, pos)?;
         self.set(new_keys, pos, row)
+    }
+
+    /// Takes out the row at the position under each of the keys that isn't one of the others.
+    fn take_out(
+        &mut self,
+        keys: &BTreeSet<Key>,
+        others: &BTreeSet<Key>,
+        pos: &Pos,
+    ) -> Result<(), NoMemory>
+        ensures { OnOk result ((k : KeyTree) → under k self.new ≡ cond (contains key_order keys.now k && not (contains key_order others.now k)) (gone pos.now (under k self.old)) (under k self.old)) }
+    {
+        'keys: for key in keys.difference(others) {
+            self.set_under(key.try_clone()?, pos, &None)?;
+        }
+        Ok(())
     }
 
     /// Sets the row at the position under each of the keys, or takes out what stands there.
@@ -86,20 +103,39 @@ impl Index {
         }
     }
 
-    /// Some of the rows, and with them those that have any of the keys. Fails where memory is wanting.
-    pub(crate) fn with_rows_under(
+    /// The rows that have any of the keys or of the others. Fails where memory is wanting.
+    pub(crate) fn rows_under(
         &self,
-        mut found: Ordered<Document>,
         keys: &BTreeSet<Key>,
+        others: &BTreeSet<Key>,
     ) -> Result<Ordered<Document>, NoMemory>
-        ensures { IfOk result (λ all. (has : KeyTree → List Field → Bool) (rows : Positioned) (test : List Field → Bool) → IsPositioned rows → IsJoinIndexOf has rows self.now → found ≡ filter (λ e. test e.1) rows → all ≡ filter (λ e. test e.1 || has_any has keys.now.keys e.1) rows) }
+        ensures union { IsUnion key_order keys.now others.now (union key_order keys.now others.now) }
+        ensures rows { IfOk result (λ all. (has : KeyTree → Row → Bool) (rows : Positioned) → IsPositioned rows → IsJoinIndexOf has rows self.now → all ≡ filter (λ e. has_any has (union key_order keys.now others.now) e.1) rows) }
     {
-        'keys: for key in keys.iter() {
+        let mut found = Ordered::new(self.alloc);
+        'keys: for key in keys.union(others) {
             if let Some(rows) = self.under.get(key) {
                 found = with_all(found, rows)?;
             }
         }
         Ok(found)
+    }
+
+    /// The rows that have any of the keys, as values in the order of their positions. Fails where memory is wanting.
+    pub(crate) fn values_under(&self, keys: &BTreeSet<Key>) -> Result<List, NoMemory>
+        ensures { IfOk result (λ values. (has : KeyTree → Row → Bool) (rows : Positioned) → IsPositioned rows → IsJoinIndexOf has rows self.now → values ≡ map as_value (forget (filter (λ e. has_any has keys.now.keys e.1) rows))) }
+    {
+        let Some(key) = keys.first() else {
+            return Ok(List::new(self.alloc));
+        };
+        if keys.len() > 1 {
+            let rows = self.rows_under(keys, &BTreeSet::new(self.alloc))?;
+            return values_of(self.alloc, &rows);
+        }
+        match self.under.get(key) {
+            Some(rows) => values_of(self.alloc, rows),
+            None => Ok(List::new(self.alloc)),
+        }
     }
 }
 

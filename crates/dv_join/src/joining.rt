@@ -1,39 +1,60 @@
 //! Rows joined with the documents that are found by their keys.
 
-ghost use Rattle.std.specs.Prelude.{◌≡◌, IfOk};
-ghost use Rattle.dv_change.specs.Changes.{IsPositioned, Positioned, alone, forget};
+ghost use Rattle.std.specs.Prelude.{◌≡◌, map, IfOk};
+ghost use Rattle.std.specs.BTreeSet.{contains};
+ghost use Rattle.std.specs.Option.{option_map, unwrap_or};
+ghost use Rattle.dv_change.specs.Changes.{IsPositioned, Positioned, forget};
 ghost use Rattle.dv_change.specs.Ordered.{put};
-ghost use Rattle.dv_gather.specs.KeySets.{referred};
-ghost use Rattle.dv_gather.specs.Lookups as defined;
+ghost use Rattle.dv_gather.specs.Joining.{as_value};
+ghost use Rattle.dv_gather.specs.Lookups.{joined_documents, set_field};
+ghost use Rattle.dv_join.specs.Copied.{DiffersByTarget, Row, made_of};
 ghost use Rattle.dv_join.specs.Indexed.{IsJoinIndexOf};
 ghost use Rattle.dv_join.specs.Listed as listed;
 ghost use Rattle.dv_join.specs.Placed.{looked_up_at};
-ghost use Rattle.dv_join.specs.Turning.{has_foreign};
+ghost use Rattle.dv_join.specs.Turning.{has_foreign, has_local};
+ghost use Rattle.dv_order.specs.Key.{KeyTree, key_order};
 
 use crate::index::Index;
 use dv_change::{Ordered, Pos};
 use dv_gather::Lookup;
-use dv_value::{Document, NoMemory};
+use dv_order::Key;
+use dv_value::{Document, List, NoMemory, Value};
 use std::alloc::Global;
+use std::collections::BTreeSet;
 
-/// Each of the rows with the documents that it is joined with, which are found in the index. Fails where memory is wanting.
+/// Each of the rows with the documents that it is joined with, which are found in the index. Copied are these rows, or what was made
+/// of them before: the two differ by their arrays. Fails where memory is wanting.
 pub(crate) fn joined_rows(
     alloc: Global,
     lookup: &Lookup,
     foreign: &Index,
     rows: &Ordered<Document>,
+    copied: &Ordered<Document>,
 ) -> Result<Ordered<Document>, NoMemory>
-    ensures { IfOk result (λ joined. (documents : Positioned) → IsPositioned documents → IsJoinIndexOf (has_foreign lookup.now) documents foreign.now → IsPositioned rows.now → joined ≡ looked_up_at lookup.now rows.now documents) }
+    ensures { IfOk result (λ joined. (documents : Positioned) (made : Row → Row) → IsPositioned documents → IsJoinIndexOf (has_foreign lookup.now) documents foreign.now → IsPositioned rows.now → DiffersByTarget lookup.now made → copied.now ≡ made_of made rows.now → joined ≡ looked_up_at lookup.now rows.now documents) }
 {
     let mut joined = Ordered::new(alloc);
     let Some((pos, row)) = rows.first() else {
         return Ok(joined);
     };
-    joined = with_joined(alloc, lookup, foreign, joined, pos, row)?;
+    let copy = document_or(copied.first(), row);
+    joined = with_joined(alloc, lookup, foreign, joined, pos, row, copy)?;
+    let mut copies = copied.others();
     'others: for (pos, row) in rows.others() {
-        joined = with_joined(alloc, lookup, foreign, joined, pos, row)?;
+        let copy = document_or(copies.next(), row);
+        joined = with_joined(alloc, lookup, foreign, joined, pos, row, copy)?;
     }
     Ok(joined)
+}
+
+/// The document at a position, or else another one.
+fn document_or<'a>(there: Option<(&Pos, &'a Document)>, other: &'a Document) -> &'a Document
+    ensures { result.now ≡ unwrap_or (option_map (λ e. e.1.now) there.entry) other.now }
+{
+    match there {
+        Some((_, document)) => document,
+        None => other,
+    }
 }
 
 /// Joined rows with one more, at the position.
@@ -44,45 +65,42 @@ fn with_joined(
     joined: Ordered<Document>,
     pos: &Pos,
     row: &Document,
+    copied: &Document,
 ) -> Result<Ordered<Document>, NoMemory>
-    ensures { IfOk result (λ more. (documents : Positioned) → IsPositioned documents → IsJoinIndexOf (has_foreign lookup.now) documents foreign.now → more ≡ put pos.now (defined.joined_row lookup.now (forget documents) row.now) joined) }
+    ensures { IfOk result (λ more. (documents : Positioned) → IsPositioned documents → IsJoinIndexOf (has_foreign lookup.now) documents foreign.now → more ≡ put pos.now (set_field lookup.now.target (joined_documents lookup.now (forget documents) row.now) copied.now) joined) }
 {
-    let made = joined_row(alloc, lookup, foreign, row)?;
+    let keys = lookup.local_keys(alloc, row)?;
+    let made = joined_row(alloc, lookup, foreign, &keys, copied)?;
     joined.with(pos.try_clone()?, made)
 }
 
-/// The row with the documents that it is joined with, which are found in the index.
-fn joined_row(
+/// The copied row with the documents that a row with these keys is joined with, which are found in the index.
+pub(crate) fn joined_row(
     alloc: Global,
     lookup: &Lookup,
     foreign: &Index,
-    row: &Document,
+    keys: &BTreeSet<Key>,
+    copied: &Document,
 ) -> Result<Document, NoMemory>
-    ensures { IfOk result (λ joined. (documents : Positioned) → IsPositioned documents → IsJoinIndexOf (has_foreign lookup.now) documents foreign.now → joined ≡ defined.joined_row lookup.now (forget documents) row.now) }
+    ensures { IfOk result (λ joined. (documents : Positioned) (row : Row) → IsPositioned documents → IsJoinIndexOf (has_foreign lookup.now) documents foreign.now → ((k : KeyTree) → contains key_order keys.now k ≡ has_local lookup.now k row) → joined ≡ set_field lookup.now.target (joined_documents lookup.now (forget documents) row) copied.now) }
 {
-    let keys = lookup.local_keys(alloc, row)?;
-    let found = foreign.with_rows_under(Ordered::new(alloc), &keys)?;
-    let documents = documents_of(alloc, &found)?;
-    let join = lookup.join(alloc, documents.as_slice())?;
-    join.row_behind(alloc, row, None)
+    let matches = foreign.values_under(keys)?;
+    lookup.row_with(alloc, copied, matches, None)
 }
 
-/// The rows alone, in their order.
-fn documents_of<'a>(
-    alloc: Global,
-    rows: &'a Ordered<Document>,
-) -> Result<Vec<&'a Document>, NoMemory>
-    ensures { IfOk result (λ documents. referred documents.items ≡ forget rows.now) }
+/// The rows as values, in their order.
+pub(crate) fn values_of(alloc: Global, rows: &Ordered<Document>) -> Result<List, NoMemory>
+    ensures { IfOk result (λ values. values ≡ map as_value (forget rows.now)) }
 {
-    let mut documents = Vec::new(alloc);
+    let mut values = Vec::with_capacity(alloc, rows.len())?;
     let Some((_, row)) = rows.first() else {
-        return Ok(documents);
+        return Ok(List::of(values));
     };
-    documents.push(row)?;
+    values.push(Value::Doc(row.try_clone()?))?;
     'others: for (_, row) in rows.others() {
-        documents.push(row)?;
+        values.push(Value::Doc(row.try_clone()?))?;
     }
-    Ok(documents)
+    Ok(List::of(values))
 }
 
 /// Rows with others, each of which comes in the place of one that stands at its position.
@@ -100,19 +118,4 @@ pub(crate) fn with_all(
         all = all.with(pos.try_clone()?, row.try_clone()?)?;
     }
     Ok(all)
-}
-
-/// The row at the position alone, where there is one.
-pub(crate) fn alone_at(
-    alloc: Global,
-    pos: &Pos,
-    row: &Option<Document>,
-) -> Result<Ordered<Document>, NoMemory>
-    ensures { IfOk result (λ rows. rows ≡ alone pos.now row.now) }
-{
-    let none = Ordered::new(alloc);
-    match row {
-        Some(row) => none.with(pos.try_clone()?, row.try_clone()?),
-        None => Ok(none),
-    }
 }

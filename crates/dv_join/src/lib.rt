@@ -5,6 +5,8 @@ mod index;
 mod joining;
 pub mod laws;
 mod lookup;
+mod operator;
 
 pub use dv_change::{Chain, Change, Input, Part, Pos, Ticks, Turn};
 pub use lookup::LookupTurn;
+pub use operator::LookupOperator;

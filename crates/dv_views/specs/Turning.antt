@@ -6,9 +6,9 @@ use Rattle.dv_flow.specs.Simple.{IsSoundSimple, simple_empty, simple_even, simpl
 use Rattle.dv_group.specs.contracts.group_turn.GroupTurnTurn.TheImpl.Laws.{positioned-law}
 use Rattle.dv_group.specs.Grouped.{group_empty, group_even, group_ordered}
 use Rattle.dv_group.specs.Placed.{grouped_at}
-use Rattle.dv_group.specs.Turned.{IsSoundGroups, rows_left}
+use Rattle.dv_group.specs.Turned.{IsSoundGroups, grouping_of, rows_left}
 use Rattle.dv_join.specs.Placed.{looked_up_even, looked_up_ordered}
-use Rattle.dv_join.specs.Turning.{IsSoundJoin, first_input, lookup_left, lookup_makes, lookup_others}
+use Rattle.dv_join.specs.Turning.{IsSoundJoin, first_input, join_positioned, lookup_kept, lookup_left, lookup_makes, lookup_others}
 use Rattle.dv_pipe.specs.declared.stage.Stage.{Stage}
 use Rattle.dv_views.specs.Placed.{lists_in, stage_at}
 use Rattle.dv_views.specs.declared.turner.Turner.{Turner}
@@ -29,7 +29,7 @@ turner_others (Lookup t) = lookup_others t
 -- what it makes of these lists and of rows
 abbrev pub turner_makes : Turner → List Positioned → Positioned → Positioned
 turner_makes (Simple t) named rows = simple_makes t named rows
-turner_makes (Group t) named rows = grouped_at t.group rows
+turner_makes (Group t) named rows = grouped_at (grouping_of t) rows
 turner_makes (Lookup t) named rows = lookup_makes t named rows
 
 -- it isn't spent
@@ -41,21 +41,21 @@ IsSoundTurner (Lookup t) = IsSoundJoin t
 pub turner_positioned : (t : Turner) → IsSoundTurner t → IsPositioned (turner_left t) × AllByRecursion (λ (rows : Positioned). IsPositioned rows) (turner_others t)
 turner_positioned (Simple t) sound = simple_positioned t sound
 turner_positioned (Group t) sound = positioned-law t sound
-turner_positioned (Lookup t) sound = (sound.left, (sound.foreign, tt))
+turner_positioned (Lookup t) sound = (sound.left, join_positioned t.keeping.operator (lookup_others t) (lookup_left t) sound)
 
 pub turner_ordered : (t : Turner) (named : List Positioned) (rows : Positioned) → IsPositioned rows → IsPositioned (turner_makes t named rows)
 turner_ordered (Simple t) named rows are = simple_ordered t named rows are
-turner_ordered (Group t) named rows are = group_ordered t.group rows are
-turner_ordered (Lookup t) named rows are = looked_up_ordered t.lookup (first_input named) rows are
+turner_ordered (Group t) named rows are = group_ordered (grouping_of t) rows are
+turner_ordered (Lookup t) named rows are = looked_up_ordered (lookup_kept t) (first_input named) rows are
 
 pub turner_even : (t : Turner) (named : List Positioned) (rows : Positioned) → IsPositioned rows → HaveOneLength rows → HaveOneLength (turner_makes t named rows)
 turner_even (Simple t) named rows are one = simple_even t named rows are one
-turner_even (Group t) named rows are one = group_even t.group rows are one
-turner_even (Lookup t) named rows are one = looked_up_even t.lookup (first_input named) rows one
+turner_even (Group t) named rows are one = group_even (grouping_of t) rows are one
+turner_even (Lookup t) named rows are one = looked_up_even (lookup_kept t) (first_input named) rows one
 
 pub turner_empty : (t : Turner) (named : List Positioned) → turner_makes t named [] ≡ []
 turner_empty (Simple t) named = simple_empty t named
-turner_empty (Group t) named = group_empty t.group
+turner_empty (Group t) named = group_empty (grouping_of t)
 turner_empty (Lookup t) named = refl
 
 -- ---- stages that have taken in nothing

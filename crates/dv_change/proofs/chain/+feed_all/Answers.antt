@@ -4,7 +4,8 @@ use Rattle.std.specs.List.{AllByRecursion}
 use Rattle.dv_change.specs.Changes.{IsExactChange, with_changes}
 use Rattle.dv_change.specs.Linked.{IsLinked, first_left}
 use Rattle.dv_change.specs.Work.{handed}
-use Rattle.dv_change.proofs.Linking.{behind-linked, fed-exact, fed-linked, first-linked, more-ticks, ok-both, ok-one}
+use Rattle.dv_change.specs.Answered.{ok-both, ok-one}
+use Rattle.dv_change.proofs.Linking.{behind-linked, fed-exact, fed-linked, first-linked, more-ticks}
 use Rattle.dv_change.proofs.chain.+feed_all.Goals as goal
 
 pub feed_all-requires : goal.feed_all-requires

@@ -3,7 +3,8 @@ use Rattle.std.proofs.Common.{rules, ◌≡◌, ◌∙◌, ◌++◌, ◌∷◌, 
 use Rattle.dv_change.specs.declared.input.Input.TheVariants.{Named}
 use Rattle.dv_change.specs.Linked.{first_left}
 use Rattle.dv_change.specs.Work.{owed_by}
-use Rattle.dv_change.proofs.Linking.{behind-linked, owed-exact, owed-linked, ok-both}
+use Rattle.dv_change.specs.Answered.{ok-both}
+use Rattle.dv_change.proofs.Linking.{behind-linked, owed-exact, owed-linked}
 use Rattle.dv_change.proofs.chain.+feed_named.Goals as goal
 
 pub feed_all-requires-clause-exact : goal.feed_all-requires-clause-exact

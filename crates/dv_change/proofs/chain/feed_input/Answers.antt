@@ -4,7 +4,8 @@ use Rattle.dv_change.specs.Changes.{with_changes}
 use Rattle.dv_change.specs.Inputs.{left_after}
 use Rattle.dv_change.specs.Linked.{first_left, forms_of}
 use Rattle.dv_change.specs.Work.{forms_after}
-use Rattle.dv_change.proofs.Linking.{leads-after, ok-one, outs-after}
+use Rattle.dv_change.specs.Answered.{ok-one}
+use Rattle.dv_change.proofs.Linking.{leads-after, outs-after}
 use Rattle.dv_change.proofs.chain.feed_input.Goals as goal
 
 pub returns-in_ok-push-in-Left-clause-outs : goal.returns-in_ok-push-in-Left-clause-outs

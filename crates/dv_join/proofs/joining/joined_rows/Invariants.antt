@@ -1,6 +1,9 @@
--- The rows so far, and those that are left, joined, are all.
+-- Of the rows that are left the copies are left. The rows so far, and those that are left, joined, are all.
 use Rattle.std.proofs.Common.{◌≡◌, []}
+use Rattle.std.specs.Prelude.{List}
+use Rattle.dv_value.specs.Tree.{Field}
 use Rattle.dv_change.specs.Changes.{IsPositioned, Positioned}
+use Rattle.dv_join.specs.Copied.{DiffersByTarget, made_of}
 use Rattle.dv_join.specs.Indexed.{IsJoinIndexOf}
 use Rattle.dv_join.specs.Listed.{with_each_row}
 use Rattle.dv_join.specs.Placed.{looked_up_at}
@@ -8,4 +11,7 @@ use Rattle.dv_join.specs.Turning.{has_foreign}
 use Rattle.dv_join.proofs.joining.joined_rows.Given as goal
 
 abbrev pub invariant-others : goal.invariant-others
-invariant-others l = (documents : Positioned) → IsPositioned documents → IsJoinIndexOf (has_foreign l.lookup) documents l.foreign → with_each_row l.joined (looked_up_at l.lookup l.pos-iterator documents) ≡ with_each_row [] (looked_up_at l.lookup l.fn.rows documents)
+invariant-others l = record {
+  copies : (made : List Field → List Field) → l.copied ≡ made_of made l.fn.rows → l.copies ≡ made_of made l.pos-iterator;
+  joined : (documents : Positioned) (made : List Field → List Field) → IsPositioned documents → IsJoinIndexOf (has_foreign l.lookup) documents l.foreign → DiffersByTarget l.lookup made → l.copied ≡ made_of made l.fn.rows → with_each_row l.joined (looked_up_at l.lookup l.pos-iterator documents) ≡ with_each_row [] (looked_up_at l.lookup l.fn.rows documents);
+}

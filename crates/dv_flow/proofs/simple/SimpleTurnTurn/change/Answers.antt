@@ -4,13 +4,21 @@ use Rattle.std.specs.Prelude.{OnOk}
 use Rattle.dv_change.specs.Raised.{raised}
 use Rattle.dv_change.specs.Work.{owed_by}
 use Rattle.dv_flow.specs.declared.simple.SimpleTurn.{SimpleTurn}
-use Rattle.dv_flow.specs.declared.simple.SimpleTurn.TheVariants.{Match}
+use Rattle.dv_flow.specs.declared.simple.SimpleTurn.TheVariants.{Match, Project, Sort}
 use Rattle.dv_flow.specs.Simple.{simple_left, simple_makes}
 use Rattle.dv_flow.proofs.simple.SimpleTurnTurn.change.Goals as goal
 
 pub returns-in-Match-clause-makes : goal.returns-in-Match-clause-makes
 returns-in-Match-clause-makes c =
     subst (λ (t : SimpleTurn). OnOk c.change.result (simple_makes (Match c.change.new.self) ≡ simple_makes t)) (sym c.in-Match.is) c.change.ensures.makes
+
+pub returns-in-Project-clause-makes : goal.returns-in-Project-clause-makes
+returns-in-Project-clause-makes c =
+    subst (λ (t : SimpleTurn). OnOk c.change-in-Project.result (simple_makes (Project c.change-in-Project.new.self) ≡ simple_makes t)) (sym c.in-Project.is) c.change-in-Project.ensures.makes
+
+pub returns-in-Sort-clause-makes : goal.returns-in-Sort-clause-makes
+returns-in-Sort-clause-makes c =
+    subst (λ (t : SimpleTurn). OnOk c.change-in-Sort.result (simple_makes (Sort c.change-in-Sort.new.self) ≡ simple_makes t)) (sym c.in-Sort.is) c.change-in-Sort.ensures.makes
 
 pub returns-in-Match-clause-ticks : goal.returns-in-Match-clause-ticks
 returns-in-Match-clause-ticks c =

@@ -1,0 +1,167 @@
+//! Operators that keep the rows that they have taken in, and so need not be told what stood there.
+
+ghost use Rattle.std.specs.Prelude.{◌≡◌, ◌≤◌, ◌+◌, ◌<◌, ◌++◌, List, [], IfOk, OnErr, OnOk, length, map};
+ghost use Rattle.std.specs.List.{AllByRecursion};
+ghost use Rattle.dv_change.specs.declared.change.Change.{Change};
+ghost use Rattle.dv_change.specs.Beginning.{BeginsWith};
+ghost use Rattle.dv_change.specs.Changes.{IsExactChange, IsPositioned, Positioned, with_changes};
+ghost use Rattle.dv_change.specs.Inputs.{input_changed_at, left_after, others_after};
+ghost use Rattle.dv_change.specs.Raised.{raised};
+ghost use Rattle.dv_change.specs.Told.{ComesTo, changes_told, list_at, told_along, with_old};
+ghost use Rattle.dv_change.specs.Work.{owed_by};
+
+use crate::change::Change;
+use crate::input::Input;
+use crate::operator::Operator;
+use crate::position::Pos;
+use crate::taking::{Taken, take_in};
+use crate::ticks::Ticks;
+use crate::turn::Turn;
+use dv_value::{Document, NoMemory};
+use std::alloc::Global;
+use std::collections::BTreeMap;
+
+/// An operator with the rows that it has taken in and those of the lists that it looks into, so that it need not be told what
+/// stood where a change is.
+#[derive(Drop)]
+pub struct Keeping<O> {
+    alloc: Global,
+    operator: O,
+    rows: BTreeMap<Pos, Document>,
+    lists: Vec<BTreeMap<Pos, Document>>,
+}
+
+impl<O: Operator> Keeping<O> {
+    /// The operator, where it has taken in nothing: as many lists as it looks into, each of no rows.
+    pub fn new(alloc: Global, operator: O, lists: Vec<BTreeMap<Pos, Document>>) -> Self
+        requires sound { O.sound operator }
+        requires fresh { O.holds operator (map (λ m. m.entries) lists.items) [] }
+        ensures operator { result.operator ≡ operator }
+        ensures left { result.rows.entries ≡ [] }
+        ensures others { result.lists ≡ lists }
+        ensures sound { O.sound result.operator × O.holds result.operator (map (λ m. m.entries) result.lists.items) result.rows.entries }
+    {
+        Keeping {
+            alloc,
+            operator,
+            rows: BTreeMap::new(alloc),
+            lists,
+        }
+    }
+
+    /// Tells the operator of a change, and hands on what it tells.
+    fn hand_on(
+        &mut self,
+        input: Input,
+        taken: Taken,
+        ticks: &mut Ticks,
+        out: &mut Vec<Change>,
+    ) -> Result<(), NoMemory>
+        requires { O.sound self.old.operator }
+        ensures sound { OnOk result (O.sound self.new.operator) }
+        ensures makes { OnOk result (O.makes self.new.operator ≡ O.makes self.old.operator) }
+        ensures rows { OnOk result (self.new.rows ≡ self.old.rows) }
+        ensures lists { OnOk result (self.new.lists ≡ self.old.lists) }
+        ensures holds { OnOk result ((others : List Positioned) (left : Positioned) (change : Change) → O.holds self.old.operator others left → ComesTo input taken change others left → O.holds self.new.operator (others_after input change others) (left_after input change left)) }
+        ensures out { OnOk result ((others : List Positioned) (left : Positioned) (change : Change) → O.holds self.old.operator others left → ComesTo input taken change others left → out.new.items ≡ out.old.items ++ owed_by input change (O.makes self.old.operator) others left) }
+        ensures ticks { OnOk result ((others : List Positioned) (left : Positioned) (change : Change) → O.holds self.old.operator others left → ComesTo input taken change others left → ticks.new ≡ raised ticks.old (1 + length (owed_by input change (O.makes self.old.operator) others left))) }
+        ensures begins { OnErr result (BeginsWith out.new.items out.old.items) }
+        ensures no_fewer { OnErr result ((others : List Positioned) (left : Positioned) (change : Change) → O.holds self.old.operator others left → ComesTo input taken change others left → ticks.old ≤ ticks.new) }
+    {
+        let mut told = Vec::new(self.alloc);
+        self.operator.take(input, taken, ticks, &mut told)?;
+        push_changes(told, out)
+    }
+}
+
+impl<O: Operator> Turn for Keeping<O> {
+    ghost left = { λ t. t.rows.entries };
+
+    ghost others = { λ t. map (λ m. m.entries) t.lists.items };
+
+    ghost makes = { λ t. O.makes t.operator };
+
+    ghost sound = { λ t. O.sound t.operator × O.holds t.operator (map (λ m. m.entries) t.lists.items) t.rows.entries };
+
+    ghost positioned = { λ t sound. O.positioned t.operator (map (λ m. m.entries) t.lists.items) t.rows.entries sound.1 };
+
+    ghost ordered = { λ t named rows are. O.ordered t.operator named rows are };
+
+    ghost even = { λ t named rows are one. O.even t.operator named rows are one };
+
+    ghost empty = { λ t named. O.empty t.operator named };
+
+    fn named(&self) -> usize {
+        self.lists.len()
+    }
+
+    fn change(
+        &mut self,
+        input: Input,
+        change: Change,
+        ticks: &mut Ticks,
+        out: &mut Vec<Change>,
+    ) -> Result<(), NoMemory> {
+        match input {
+            Input::Left => {
+                let taken = take_in(&mut self.rows, change)?;
+                self.hand_on(Input::Left, taken, ticks, out)
+            }
+            Input::Named(place) => {
+                let taken = take_in_at(self.lists.as_mut_slice(), place, change)?;
+                self.hand_on(Input::Named(place), taken, ticks, out)
+            }
+        }
+    }
+
+    fn fill(&mut self, changes: Vec<Change>) -> Result<Vec<Change>, NoMemory> {
+        let all = take_in_all(&mut self.rows, changes)?;
+        let told = self.operator.fill(all)?;
+        let mut made = Vec::new(self.alloc);
+        push_changes(told, &mut made)?;
+        Ok(made)
+    }
+}
+
+/// Takes a change into the list at the place.
+fn take_in_at(
+    lists: &mut [BTreeMap<Pos, Document>],
+    place: usize,
+    change: Change,
+) -> Result<Taken, NoMemory>
+    requires place { place < length lists.old }
+    requires positioned { AllByRecursion (λ (rows : Positioned). IsPositioned rows) (map (λ m. m.entries) lists.old) }
+    ensures exact { IsExactChange change }
+    ensures lists { OnOk result (map (λ m. m.entries) lists.new ≡ input_changed_at place change (map (λ m. m.entries) lists.old)) }
+    ensures told { IfOk result (λ taken. taken ≡ with_old (list_at place (map (λ m. m.entries) lists.old)) change) }
+{
+    take_in(&mut lists[place], change)
+}
+
+/// Takes the changes into the rows, one after the other.
+fn take_in_all(
+    rows: &mut BTreeMap<Pos, Document>,
+    changes: Vec<Change>,
+) -> Result<Vec<Taken>, NoMemory>
+    requires { IsPositioned rows.old.entries }
+    ensures exact { OnOk result (AllByRecursion IsExactChange changes.items) }
+    ensures rows { OnOk result (rows.new.entries ≡ with_changes rows.old.entries changes.items) }
+    ensures told { IfOk result (λ all. all.items ≡ told_along rows.old.entries changes.items) }
+{
+    let mut all = Vec::with_capacity(*changes.allocator(), changes.len())?;
+    'changes: for change in changes {
+        all.push(take_in(rows, change)?)?;
+    }
+    Ok(all)
+}
+
+/// Puts the changes that are told behind the others.
+fn push_changes(told: Vec<Taken>, out: &mut Vec<Change>) -> Result<(), NoMemory>
+    ensures out { OnOk result (out.new.items ≡ out.old.items ++ changes_told told.items) }
+    ensures begins { OnErr result (BeginsWith out.new.items out.old.items) }
+{
+    'told: for taken in told {
+        out.push(taken.into_change())?;
+    }
+    Ok(())
+}

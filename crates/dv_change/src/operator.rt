@@ -1,0 +1,81 @@
+//! Stages that are told what stood where a change is.
+
+ghost use Rattle.std.specs.Prelude.{◌≡◌, ◌≤◌, ◌+◌, ◌++◌, List, [], length, IfOk, OnErr, OnOk};
+ghost use Rattle.std.specs.List.{AllByRecursion};
+ghost use Rattle.dv_change.specs.declared.change.Change.{Change};
+ghost use Rattle.dv_change.specs.Beginning.{BeginsWith};
+ghost use Rattle.dv_change.specs.Changes.{HaveOneLength, IsExactChange, IsPositioned, Positioned};
+ghost use Rattle.dv_change.specs.Fed.{IsFilled};
+ghost use Rattle.dv_change.specs.Inputs.{left_after, others_after};
+ghost use Rattle.dv_change.specs.Raised.{raised};
+ghost use Rattle.dv_change.specs.Told.{ComesTo, told_along};
+ghost use Rattle.dv_change.specs.Work.{owed_by};
+
+use crate::input::Input;
+use crate::taking::Taken;
+use crate::ticks::Ticks;
+use dv_value::NoMemory;
+
+/// A stage of a pipeline that is told of each change with the row that stood at its position, and tells so what changes of its
+/// rows. Of what it has taken in it keeps only what it needs for that.
+pub trait Operator {
+    /// What it makes of the lists that it looks into and of its rows.
+    ghost makes: { Self → List Positioned → Positioned → Positioned };
+
+    /// It isn't spent.
+    ghost sound: { Self → Type 0 };
+
+    /// It may have taken in these lists and these rows.
+    ghost holds: { Self → List Positioned → Positioned → Type 0 };
+
+    /// How many lists it looks into.
+    fn named(&self) -> usize
+        ensures { (others : List Positioned) (left : Positioned) → holds self.now others left → result ≡ length others };
+
+    /// Takes in a change of an input, and appends what changes of its rows to `out`. Counts 1 for the change and 1 for each that
+    /// it tells. Fails with `NoMemory` when memory runs out; then it is spent and may only be dropped, `out` may have grown at its
+    /// end, and `ticks` may have risen.
+    fn take(
+        &mut self,
+        input: Input,
+        taken: Taken,
+        ticks: &mut Ticks,
+        out: &mut Vec<Taken>,
+    ) -> Result<(), NoMemory>
+        requires { sound self.old }
+        ensures sound { OnOk result (sound self.new) }
+        ensures makes { OnOk result (makes self.new ≡ makes self.old) }
+        ensures holds { OnOk result ((others : List Positioned) (left : Positioned) (change : Change) → holds self.old others left → ComesTo input taken change others left → holds self.new (others_after input change others) (left_after input change left)) }
+        ensures out { OnOk result ((others : List Positioned) (left : Positioned) (change : Change) → holds self.old others left → ComesTo input taken change others left → out.new.items ≡ out.old.items ++ told_along (makes self.old others left) (owed_by input change (makes self.old) others left)) }
+        ensures ticks { OnOk result ((others : List Positioned) (left : Positioned) (change : Change) → holds self.old others left → ComesTo input taken change others left → ticks.new ≡ raised ticks.old (1 + length (owed_by input change (makes self.old) others left))) }
+        ensures begins { OnErr result (BeginsWith out.new.items out.old.items) }
+        ensures no_fewer { OnErr result (ticks.old ≤ ticks.new) };
+
+    /// Takes in its first rows, by the changes that put them in. Tells changes that lead to what it makes of these rows; counts
+    /// nothing. Fails with `NoMemory` when memory runs out; then it is spent and may only be dropped.
+    fn fill(&mut self, all: Vec<Taken>) -> Result<Vec<Taken>, NoMemory>
+        requires { sound self.old }
+        ensures sound { OnOk result (sound self.new) }
+        ensures makes { OnOk result (makes self.new ≡ makes self.old) }
+        ensures filled { IfOk result (λ made. (others : List Positioned) (changes : List Change) → holds self.old others [] → AllByRecursion IsExactChange changes → all.items ≡ told_along [] changes → IsFilled (makes self.old others) (holds self.new others) changes made.items) }
+    {
+        let mut made = Vec::new(*all.allocator());
+        let mut ticks = Ticks::new();
+        'changes: for taken in all {
+            self.take(Input::Left, taken, &mut ticks, &mut made)?;
+        }
+        Ok(made)
+    }
+
+    /// What it may have taken in stands at exact positions, in their order.
+    ghost positioned: { (o : Self) (others : List Positioned) (left : Positioned) → holds o others left → IsPositioned left × AllByRecursion (λ rows. IsPositioned rows) others };
+
+    /// So does what it makes of such rows.
+    ghost ordered: { (o : Self) (others : List Positioned) (rows : Positioned) → IsPositioned rows → IsPositioned (makes o others rows) };
+
+    /// Of rows at positions of one length it makes such rows.
+    ghost even: { (o : Self) (others : List Positioned) (rows : Positioned) → IsPositioned rows → HaveOneLength rows → HaveOneLength (makes o others rows) };
+
+    /// It makes nothing of nothing.
+    ghost empty: { (o : Self) (others : List Positioned) → makes o others [] ≡ [] };
+}

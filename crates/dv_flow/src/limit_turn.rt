@@ -1,0 +1,64 @@
+//! `$limit`, kept by changes.
+
+ghost use Rattle.std.specs.Prelude.{◌≡◌, []};
+ghost use Rattle.dv_flow.specs.Limiting.{IsSoundLimit, limit_count, limit_empty, limit_even, limit_left, limit_makes, limit_ordered, limit_positioned};
+
+use crate::limit::LimitOperator;
+use dv_change::{Change, Input, Keeping, Ticks, Turn};
+use dv_value::NoMemory;
+use std::alloc::Global;
+
+/// The first rows, kept by changes. Looks at the changed row and at those on both sides of the end.
+#[derive(Drop)]
+pub struct LimitTurn {
+    keeping: Keeping<LimitOperator>,
+}
+
+impl LimitTurn {
+    /// The first `count` rows; it has taken in nothing.
+    pub fn new(alloc: Global, count: u64) -> Self
+        ensures count { limit_count result ≡ count }
+        ensures left { limit_left result ≡ [] }
+        ensures sound { IsSoundLimit result }
+    {
+        LimitTurn {
+            keeping: Keeping::new(alloc, LimitOperator::new(alloc, count), Vec::new(alloc)),
+        }
+    }
+}
+
+impl Turn for LimitTurn {
+    ghost left = { limit_left };
+
+    ghost others = { λ t. [] };
+
+    ghost makes = { limit_makes };
+
+    ghost sound = { IsSoundLimit };
+
+    ghost positioned = { λ t sound. (limit_positioned t sound, tt) };
+
+    ghost ordered = { λ t named rows are. limit_ordered (limit_count t) rows are };
+
+    ghost even = { λ t named rows are one. limit_even (limit_count t) rows one };
+
+    ghost empty = { λ t named. limit_empty (limit_count t) };
+
+    fn named(&self) -> usize {
+        0
+    }
+
+    fn change(
+        &mut self,
+        input: Input,
+        change: Change,
+        ticks: &mut Ticks,
+        out: &mut Vec<Change>,
+    ) -> Result<(), NoMemory> {
+        self.keeping.change(input, change, ticks, out)
+    }
+
+    fn fill(&mut self, changes: Vec<Change>) -> Result<Vec<Change>, NoMemory> {
+        self.keeping.fill(changes)
+    }
+}

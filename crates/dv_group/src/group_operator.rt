@@ -1,0 +1,200 @@
+//! `$group`, told what stood where a change is.
+
+ghost use Rattle.std.specs.Prelude.{◌≡◌, ◌≤◌, ◌+◌, ◌++◌, [], length, IfOk, OnErr, OnOk, Some};
+ghost use Rattle.dv_change.specs.Beginning.{BeginsWith};
+ghost use Rattle.dv_change.specs.Changes.{IsPositioned, Positioned, forget};
+ghost use Rattle.dv_change.specs.Raised.{raised};
+ghost use Rattle.dv_change.specs.Told.{diff_told, no_lists};
+ghost use Rattle.dv_gather.specs.Grouping.{row_shown};
+ghost use Rattle.dv_group.specs.Grouped.{group_empty, group_even, group_ordered};
+ghost use Rattle.dv_group.specs.Held.{HoldsGroups};
+ghost use Rattle.dv_group.specs.Members as defined;
+ghost use Rattle.dv_group.specs.Members.{AreBundles, AreMembers, group_members, moved_as, shown_as};
+ghost use Rattle.dv_group.specs.Placed.{grouped_at};
+ghost use Rattle.dv_order.specs.Key.{KeyTree};
+
+use crate::groups::{Groups, follow, follow_all};
+use crate::shift::{Shifts, Telling, with_row};
+use dv_change::{Input, Operator, Ordered, Taken, Ticks, hand_over};
+use dv_gather::Group;
+use dv_order::Key;
+use dv_value::{Document, NoMemory};
+use std::alloc::Global;
+use std::collections::BTreeMap;
+
+/// The groups of rows, each a row at its key, kept by changes that tell what stood at their positions. Looks only at the groups of
+/// the changed row, and of these at the row that comes or goes, the first one and the one with the least or greatest value; with a
+/// `$push`, it copies the array that it returns.
+#[derive(Drop)]
+pub struct GroupOperator {
+    alloc: Global,
+    group: Group,
+    groups: Groups,
+    /// The row of a group, which lends its names.
+    last: Option<Document>,
+}
+
+impl GroupOperator {
+    /// The stage, which has taken in nothing. Fails with `NoMemory` when memory runs out.
+    pub fn new(alloc: Global, group: &Group) -> Result<Self, NoMemory>
+        ensures group { IfOk result (λ o. o.group ≡ group.now) }
+        ensures sound { IfOk result (λ o. AreBundles o.group o.groups.entries) }
+        ensures holds { IfOk result (λ o. HoldsGroups o [] []) }
+    {
+        Ok(GroupOperator {
+            alloc,
+            group: group.try_clone()?,
+            groups: BTreeMap::new(alloc),
+            last: None,
+        })
+    }
+
+    /// Takes in a change of its rows, and tells what changes of those of the groups.
+    fn regroup(
+        &mut self,
+        taken: Taken,
+        ticks: &mut Ticks,
+        out: &mut Vec<Taken>,
+    ) -> Result<(), NoMemory>
+        requires { AreBundles self.old.group self.old.groups.entries }
+        ensures group { OnOk result (self.new.group ≡ self.old.group) }
+        ensures groups { OnOk result ((k : KeyTree) → group_members k self.new.groups.entries ≡ moved_as self.old.group k (group_members k self.old.groups.entries) taken) }
+        ensures sound { OnOk result (AreBundles self.new.group self.new.groups.entries) }
+        ensures out { OnOk result (out.new.items ≡ out.old.items ++ diff_told (shown_as self.old.group self.old.groups.entries taken) (shown_as self.old.group self.new.groups.entries taken)) }
+        ensures ticks { OnOk result (ticks.new ≡ raised ticks.old (1 + length (diff_told (shown_as self.old.group self.old.groups.entries taken) (shown_as self.old.group self.new.groups.entries taken)))) }
+        ensures begins { OnErr result (BeginsWith out.new.items out.old.items) }
+        ensures no_fewer { OnErr result (ticks.old ≤ ticks.new) }
+    {
+        let shifts = follow(
+            self.alloc,
+            &self.group,
+            &mut self.groups,
+            taken,
+            Telling::Told(self.last.as_ref()),
+        )?;
+        self.tell(&shifts, ticks, out)
+    }
+
+    /// Tells what leads from the rows before to those after.
+    fn tell(
+        &mut self,
+        shifts: &Shifts,
+        ticks: &mut Ticks,
+        out: &mut Vec<Taken>,
+    ) -> Result<(), NoMemory>
+        ensures group { self.new.group ≡ self.old.group }
+        ensures groups { self.new.groups.entries ≡ self.old.groups.entries }
+        ensures out { OnOk result (out.new.items ≡ out.old.items ++ diff_told shifts.now.before shifts.now.after) }
+        ensures ticks { OnOk result (ticks.new ≡ raised ticks.old (1 + length (diff_told shifts.now.before shifts.now.after))) }
+        ensures begins { OnErr result (BeginsWith out.new.items out.old.items) }
+        ensures no_fewer { OnErr result (ticks.old ≤ ticks.new) }
+    {
+        self.keep_last(shifts.after())?;
+        hand_over(shifts.before(), shifts.after(), ticks, out)
+    }
+
+    /// The rows of all groups.
+    fn all_shown(&self) -> Result<Ordered<Document>, NoMemory>
+        requires { AreBundles self.now.group self.now.groups.entries }
+        ensures positioned { IfOk result (λ rows. IsPositioned rows) }
+        ensures rows { IfOk result (λ rows. (left : Positioned) → IsPositioned left → AreMembers self.now.group (λ k. group_members k self.now.groups.entries) left → rows ≡ grouped_at self.now.group left) }
+    {
+        let mut rows = Ordered::new(self.alloc);
+        'groups: for (key, _) in &self.groups {
+            key.is_own();
+            rows = self.with_group(rows, key)?;
+        }
+        Ok(rows)
+    }
+
+    /// The rows, with that of the group of the key.
+    fn with_group(&self, rows: Ordered<Document>, key: &Key) -> Result<Ordered<Document>, NoMemory>
+        requires { AreBundles self.now.group self.now.groups.entries }
+        ensures { IfOk result (λ more. more ≡ defined.with_shown self.now.group (λ k. group_members k self.now.groups.entries) (Some key.now) rows) }
+    {
+        let row = self.row_of(key, self.lender(&rows))?;
+        with_row(self.alloc, rows, key, row)
+    }
+
+    /// The row of the group of the key, where it has rows. A row before it lends its names.
+    fn row_of(&self, key: &Key, before: Option<&Document>) -> Result<Option<Document>, NoMemory>
+        requires { AreBundles self.now.group self.now.groups.entries }
+        ensures { IfOk result (λ row. row ≡ row_shown self.now.group (forget (group_members key.now self.now.groups.entries))) }
+    {
+        match self.groups.get(key) {
+            Some(kept) => kept.shown(self.alloc, &self.group, before),
+            None => Ok(None),
+        }
+    }
+
+    /// A row that lends its names: the first of these, or the one that is kept for it.
+    fn lender<'a>(&'a self, rows: &'a Ordered<Document>) -> Option<&'a Document> {
+        match rows.first() {
+            Some((_, first)) => Some(first),
+            None => self.last.as_ref(),
+        }
+    }
+
+    /// Keeps the row of a group, where there is one, so that it lends its names.
+    fn keep_last(&mut self, shown: &Ordered<Document>) -> Result<(), NoMemory>
+        ensures groups { self.new.groups.entries ≡ self.old.groups.entries }
+        ensures group { self.new.group ≡ self.old.group }
+    {
+        if let Some((_, row)) = shown.first() {
+            self.last = Some(row.try_clone()?);
+        }
+        Ok(())
+    }
+}
+
+impl Operator for GroupOperator {
+    ghost makes = { λ o others rows. grouped_at o.group rows };
+
+    ghost sound = { λ o. AreBundles o.group o.groups.entries };
+
+    ghost holds = { HoldsGroups };
+
+    ghost positioned = { λ o others left held. (held.positioned, no_lists others held.none) };
+
+    ghost ordered = { λ o others rows are. group_ordered o.group rows are };
+
+    ghost even = { λ o others rows are one. group_even o.group rows are one };
+
+    ghost empty = { λ o others. group_empty o.group };
+
+    fn named(&self) -> usize {
+        0
+    }
+
+    fn take(
+        &mut self,
+        input: Input,
+        taken: Taken,
+        ticks: &mut Ticks,
+        out: &mut Vec<Taken>,
+    ) -> Result<(), NoMemory> {
+        match input {
+            Input::Left => self.regroup(taken, ticks, out),
+            Input::Named(_) => Ok(()),
+        }
+    }
+
+    /// Makes the row of each group once.
+    fn fill(&mut self, all: Vec<Taken>) -> Result<Vec<Taken>, NoMemory> {
+        follow_all(self.alloc, &self.group, &mut self.groups, all)?;
+        let rows = self.all_shown()?;
+        self.keep_last(&rows)?;
+        puts_of(self.alloc, &rows)
+    }
+}
+
+/// What tells of the rows, where none were. Fails where memory is wanting.
+fn puts_of(alloc: Global, rows: &Ordered<Document>) -> Result<Vec<Taken>, NoMemory>
+    ensures { IfOk result (λ puts. puts.items ≡ diff_told [] rows.now) }
+{
+    let none = Ordered::new(alloc);
+    let mut ticks = Ticks::new();
+    let mut puts = Vec::new(alloc);
+    hand_over(&none, rows, &mut ticks, &mut puts)?;
+    Ok(puts)
+}

@@ -1,0 +1,175 @@
+//! `$lookup`, told what stood where a change is.
+
+ghost use Rattle.std.specs.Prelude.{◌≡◌, ◌∷◌, [], List, refl, IfOk, OnOk};
+ghost use Rattle.std.specs.BTreeSet.{contains};
+ghost use Rattle.dv_change.specs.declared.change.Change.{Change};
+ghost use Rattle.dv_change.specs.Changes.{IsExactChange, IsPositioned, Positioned, alone, with_change};
+ghost use Rattle.dv_change.specs.Difference.{diff};
+ghost use Rattle.dv_change.specs.Told.{diff_told, told_along, with_old};
+ghost use Rattle.dv_join.specs.Copied.{DiffersByTarget, Row, made_of};
+ghost use Rattle.dv_join.specs.Indexed.{IsJoinIndexOf};
+ghost use Rattle.dv_join.specs.Placed.{looked_up_at, looked_up_even, looked_up_ordered};
+ghost use Rattle.dv_join.specs.Turning.{HoldsJoin, first_input, has_foreign, has_local, if_any, join_positioned};
+ghost use Rattle.dv_order.specs.Key.{KeyTree, key_order};
+
+use crate::index::Index;
+use crate::joining::{joined_row, joined_rows};
+use dv_change::{Input, Operator, Ordered, Pos, Taken, Ticks, hand_over};
+use dv_gather::Lookup;
+use dv_order::Key;
+use dv_value::{Document, NoMemory};
+use std::alloc::Global;
+use std::collections::BTreeSet;
+
+/// Rows with the documents of another list that they are joined with, kept by changes of both that tell what stood there. For a
+/// change of a row it looks only at that row, and for a change of a document at the rows that share a key with it.
+#[derive(Drop)]
+pub struct LookupOperator {
+    alloc: Global,
+    lookup: Lookup,
+    /// The rows by the keys by which they are looked up.
+    left_by: Index,
+    /// The documents by the keys under which they are found.
+    foreign_by: Index,
+}
+
+impl LookupOperator {
+    /// The look-up, which has taken in nothing. Fails with `NoMemory` when memory runs out.
+    pub fn new(alloc: Global, lookup: &Lookup) -> Result<Self, NoMemory>
+        ensures lookup { IfOk result (λ o. o.lookup ≡ lookup.now) }
+        ensures holds { IfOk result (λ o. HoldsJoin o ([] ∷ []) []) }
+    {
+        Ok(LookupOperator {
+            alloc,
+            lookup: lookup.try_clone()?,
+            left_by: Index::new(alloc),
+            foreign_by: Index::new(alloc),
+        })
+    }
+
+    /// Takes in a change of its rows. Gives what it made of the row that stood at its place, and what it makes of the one that
+    /// stands there now.
+    fn take_left(
+        &mut self,
+        taken: &Taken,
+    ) -> Result<(Ordered<Document>, Ordered<Document>), NoMemory>
+        ensures lookup { OnOk result (self.new.lookup ≡ self.old.lookup) }
+        ensures holds { OnOk result ((others : List Positioned) (left : Positioned) (change : Change) → HoldsJoin self.old others left → IsExactChange change → taken.now ≡ with_old left change → HoldsJoin self.new others (with_change left change)) }
+        ensures told { IfOk result (λ made. (others : List Positioned) (left : Positioned) (change : Change) → HoldsJoin self.old others left → IsExactChange change → taken.now ≡ with_old left change → diff_told made.0 made.1 ≡ told_along (looked_up_at self.old.lookup left (first_input others)) (diff (looked_up_at self.old.lookup left (first_input others)) (looked_up_at self.old.lookup (with_change left change) (first_input others)))) }
+    {
+        let Taken { pos, old, new } = taken;
+        let old_keys = self.local_keys(old)?;
+        let new_keys = self.local_keys(new)?;
+        let before = self.joined_alone(pos, old, &old_keys)?;
+        let after = self.joined_alone(pos, new, &new_keys)?;
+        self.left_by.exchange(pos, &old_keys, new, new_keys)?;
+        Ok((before, after))
+    }
+
+    /// Takes in a change of the list that it looks into. Gives what it made of the rows that share a key with the document that
+    /// stood at its place or with the one that stands there now, and what it makes of them now.
+    fn take_foreign(
+        &mut self,
+        taken: &Taken,
+    ) -> Result<(Ordered<Document>, Ordered<Document>), NoMemory>
+        ensures lookup { OnOk result (self.new.lookup ≡ self.old.lookup) }
+        ensures holds { OnOk result ((others : List Positioned) (left : Positioned) (change : Change) → HoldsJoin self.old others left → IsExactChange change → taken.now ≡ with_old (first_input others) change → HoldsJoin self.new (with_change (first_input others) change ∷ []) left) }
+        ensures told { IfOk result (λ made. (others : List Positioned) (left : Positioned) (change : Change) → HoldsJoin self.old others left → IsExactChange change → taken.now ≡ with_old (first_input others) change → diff_told made.0 made.1 ≡ told_along (looked_up_at self.old.lookup left (first_input others)) (diff (looked_up_at self.old.lookup left (first_input others)) (looked_up_at self.old.lookup left (with_change (first_input others) change)))) }
+    {
+        let Taken { pos, old, new } = taken;
+        let old_keys = self.foreign_keys(old)?;
+        let new_keys = self.foreign_keys(new)?;
+        let touched = self.left_by.rows_under(&old_keys, &new_keys)?;
+        let before = self.joined(&touched, &touched)?;
+        self.foreign_by.exchange(pos, &old_keys, new, new_keys)?;
+        let after = self.joined(&touched, &before)?;
+        Ok((before, after))
+    }
+
+    /// Each of the rows with the documents that it is joined with. Copied are these rows, or what was made of them before.
+    fn joined(
+        &self,
+        rows: &Ordered<Document>,
+        copied: &Ordered<Document>,
+    ) -> Result<Ordered<Document>, NoMemory>
+        ensures { IfOk result (λ joined. (documents : Positioned) (made : Row → Row) → IsPositioned documents → IsJoinIndexOf (has_foreign self.now.lookup) documents self.now.foreign_by → IsPositioned rows.now → DiffersByTarget self.now.lookup made → copied.now ≡ made_of made rows.now → joined ≡ looked_up_at self.now.lookup rows.now documents) }
+    {
+        joined_rows(self.alloc, &self.lookup, &self.foreign_by, rows, copied)
+    }
+
+    /// The row at the position with the documents that it is joined with, where there is one. It has these keys.
+    fn joined_alone(
+        &self,
+        pos: &Pos,
+        row: &Option<Document>,
+        keys: &BTreeSet<Key>,
+    ) -> Result<Ordered<Document>, NoMemory>
+        ensures { IfOk result (λ joined. (documents : Positioned) → IsPositioned documents → IsJoinIndexOf (has_foreign self.now.lookup) documents self.now.foreign_by → ((k : KeyTree) → contains key_order keys.now k ≡ if_any (has_local self.now.lookup k) row.now) → joined ≡ looked_up_at self.now.lookup (alone pos.now row.now) documents) }
+    {
+        let none = Ordered::new(self.alloc);
+        let Some(row) = row else {
+            return Ok(none);
+        };
+        let joined = joined_row(self.alloc, &self.lookup, &self.foreign_by, keys, row)?;
+        none.with(pos.try_clone()?, joined)
+    }
+
+    /// The keys by which the row is looked up, where there is one.
+    fn local_keys(&self, row: &Option<Document>) -> Result<BTreeSet<Key>, NoMemory>
+        ensures { IfOk result (λ keys. (k : KeyTree) → contains key_order keys k ≡ if_any (has_local self.now.lookup k) row.now) }
+    {
+        match row {
+            Some(row) => self.lookup.local_keys(self.alloc, row),
+            None => Ok(BTreeSet::new(self.alloc)),
+        }
+    }
+
+    /// The keys under which the document is found, where there is one.
+    fn foreign_keys(&self, document: &Option<Document>) -> Result<BTreeSet<Key>, NoMemory>
+        ensures { IfOk result (λ keys. (k : KeyTree) → contains key_order keys k ≡ if_any (has_foreign self.now.lookup k) document.now) }
+    {
+        match document {
+            Some(document) => self.lookup.foreign_keys(self.alloc, document),
+            None => Ok(BTreeSet::new(self.alloc)),
+        }
+    }
+}
+
+impl Operator for LookupOperator {
+    ghost makes = { λ o others rows. looked_up_at o.lookup rows (first_input others) };
+
+    ghost sound = { λ o. Unit {0} };
+
+    ghost holds = { HoldsJoin };
+
+    ghost positioned = { λ o others left held. (held.left, join_positioned o others left held) };
+
+    ghost ordered = { λ o others rows are. looked_up_ordered o.lookup (first_input others) rows are };
+
+    ghost even = { λ o others rows are one. looked_up_even o.lookup (first_input others) rows one };
+
+    ghost empty = { λ o others. refl };
+
+    fn named(&self) -> usize {
+        1
+    }
+
+    fn take(
+        &mut self,
+        input: Input,
+        taken: Taken,
+        ticks: &mut Ticks,
+        out: &mut Vec<Taken>,
+    ) -> Result<(), NoMemory> {
+        match input {
+            Input::Left => {
+                let (old, new) = self.take_left(&taken)?;
+                hand_over(&old, &new, ticks, out)
+            }
+            Input::Named(_) => {
+                let (old, new) = self.take_foreign(&taken)?;
+                hand_over(&old, &new, ticks, out)
+            }
+        }
+    }
+}
