@@ -88,6 +88,11 @@ pub fn write_reply(
 ) -> Result<Document, NoMemory>
     ensures { IfOk result (λ reply. reply ≡ replies.write_reply n (map tree errors.items)) }
 {
+    if n == 1 && errors.is_empty() {
+        if let Some(reply) = &names.one_written {
+            return reply.try_clone();
+        }
+    }
     let mut fields = Document::expecting(alloc, &names.write)?;
     add(&mut fields, "n", count(n))?;
     add_errors(&mut fields, errors)?;
@@ -106,6 +111,11 @@ pub fn update_reply(
 ) -> Result<Document, NoMemory>
     ensures { IfOk result (λ reply. reply ≡ replies.update_reply n changed (map tree errors.items)) }
 {
+    if n == 1 && changed == 1 && errors.is_empty() {
+        if let Some(reply) = &names.one_updated {
+            return reply.try_clone();
+        }
+    }
     let mut fields = Document::expecting(alloc, &names.update)?;
     add(&mut fields, "n", count(n))?;
     add(&mut fields, "nModified", count(changed))?;

@@ -1,10 +1,15 @@
 //! The names of replies.
 
+ghost use Rattle.std.specs.Prelude.{◌≡◌, []};
+ghost use Rattle.std.specs.Option.{ForSome};
+ghost use Rattle.dv_command.specs.Replies as replies;
+
+use crate::replies::{update_reply, write_reply};
 use dv_value::{Document, Value};
 use std::alloc::Global;
 
 /// The names of the replies that come most often, each in a document beside which such a reply is made: it shares them, and
-/// takes no memory for names.
+/// takes no memory for names. And the replies to writes of one document themselves, which are shared too.
 #[derive(Debug, Drop)]
 pub struct ReplyNames {
     /// Of a cursor with its first rows.
@@ -17,6 +22,12 @@ pub struct ReplyNames {
     pub(crate) write: Document,
     /// Of the reply to an update.
     pub(crate) update: Document,
+    /// The reply to an insert or a delete of one document.
+    pub(crate) one_written: Option<Document>,
+    /// The reply to an update that changed the one document that matched.
+    pub(crate) one_updated: Option<Document>,
+    ghost written_is: { ForSome one_written (λ reply. reply ≡ replies.write_reply 1 []) },
+    ghost updated_is: { ForSome one_updated (λ reply. reply ≡ replies.update_reply 1 1 []) },
 }
 
 impl ReplyNames {
@@ -28,6 +39,8 @@ impl ReplyNames {
             cursor: Document::new(alloc),
             write: Document::new(alloc),
             update: Document::new(alloc),
+            one_written: None,
+            one_updated: None,
         }
     }
 
@@ -39,8 +52,29 @@ impl ReplyNames {
             self.cursor = nulls(alloc, &["cursor", "ok"]);
             self.write = nulls(alloc, &["n", "ok"]);
             self.update = nulls(alloc, &["n", "nModified", "ok"]);
+            self.one_written = one_written(alloc, self);
+            self.one_updated = one_updated(alloc, self);
         }
     }
+}
+
+/// The reply to an insert or a delete of one document, with its length kept for those who write it. `None` where memory is
+/// wanting.
+fn one_written(alloc: Global, names: &ReplyNames) -> Option<Document>
+    ensures { ForSome result (λ reply. reply ≡ replies.write_reply 1 []) }
+{
+    let mut reply = write_reply(alloc, names, 1, Vec::new(alloc)).ok()?;
+    reply.keep_size();
+    Some(reply)
+}
+
+/// The same of an update that changed the one document that matched.
+fn one_updated(alloc: Global, names: &ReplyNames) -> Option<Document>
+    ensures { ForSome result (λ reply. reply ≡ replies.update_reply 1 1 []) }
+{
+    let mut reply = update_reply(alloc, names, 1, 1, Vec::new(alloc)).ok()?;
+    reply.keep_size();
+    Some(reply)
 }
 
 /// A document with null under each of the names, or under the first of them where memory is wanting.

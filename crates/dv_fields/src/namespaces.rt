@@ -1,6 +1,6 @@
 //! The names of databases and collections.
 
-ghost use Rattle.std.specs.Prelude.{◌≡◌, Ok, Err, MatchResult};
+ghost use Rattle.std.specs.Prelude.{◌≡◌, Ok, Err, IfOk, MatchResult};
 ghost use Rattle.std.specs.String.{string_bytes};
 ghost use Rattle.dv_fields.specs.Namespaces as names;
 ghost use Rattle.dv_fields.specs.Refusals.{UnlessWanting};
@@ -8,7 +8,7 @@ ghost use Rattle.dv_fields.specs.Refusals.{UnlessWanting};
 use crate::refusal::Refusal;
 use dv_path::has_dot;
 use dv_value::{Document, Value, begins_with_dollar};
-use std::alloc::Global;
+use std::alloc::{AllocError, Global};
 
 /// How many bytes a namespace may have.
 const LONGEST_NAMESPACE: usize = 120;
@@ -43,12 +43,23 @@ pub fn namespace(alloc: Global, database: &str, collection: &str) -> Result<Stri
     ensures { UnlessWanting string_bytes (names.namespace database.now collection.now) result }
 {
     // One byte more is the dot's.
-    let is_short = database.len() + 1 + collection.len() <= LONGEST_NAMESPACE;
-    if is_short && is_collection_name(collection) {
-        Ok(format!(in alloc; "{database}.{collection}")?)
+    let len = database.len() + 1 + collection.len();
+    if len <= LONGEST_NAMESPACE && is_collection_name(collection) {
+        Ok(dotted(alloc, len, database, collection)?)
     } else {
         Err(Refusal::BadValue)
     }
+}
+
+/// The two names joined by a dot, which have so many bytes then. Fails where memory is wanting.
+fn dotted(alloc: Global, len: usize, database: &str, collection: &str) -> Result<String, AllocError>
+    ensures { IfOk result (λ text. string_bytes text ≡ names.dotted database.now collection.now) }
+{
+    let mut text = String::with_capacity(alloc, len)?;
+    text.push_str(database)?;
+    text.push_str(".")?;
+    text.push_str(collection)?;
+    Ok(text)
 }
 
 /// Whether the name is not empty, without a dollar sign in front and without a zero byte.

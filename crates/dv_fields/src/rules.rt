@@ -99,20 +99,19 @@ fn is_ignored(place: Place, name: &str) -> bool
 fn is_ignored_in_commands(name: &str) -> bool
     ensures { result ≡ defined.is_listed_name name.now defined.ignored_names }
 {
-    matches!(
-        name,
-        "lsid"
-            | "$readPreference"
-            | "$clusterTime"
-            | "readConcern"
-            | "writeConcern"
-            | "comment"
-            | "maxTimeMS"
-            | "apiVersion"
-            | "apiStrict"
-            | "apiDeprecationErrors"
-            | "bypassDocumentValidation"
-    )
+    // By length, so that a name is compared with few others.
+    match name.len() {
+        4 => name == "lsid",
+        7 => name == "comment",
+        9 => matches!(name, "maxTimeMS" | "apiStrict"),
+        10 => name == "apiVersion",
+        11 => name == "readConcern",
+        12 => matches!(name, "$clusterTime" | "writeConcern"),
+        15 => name == "$readPreference",
+        20 => name == "apiDeprecationErrors",
+        24 => name == "bypassDocumentValidation",
+        _ => false,
+    }
 }
 
 /// What the rules say of a field of the name; `None` where there is no such field.
