@@ -36,3 +36,4 @@ mod Parted
 mod Alone
 mod WorkedLoads
 pub mod Single
+pub mod Firsts

@@ -7,7 +7,7 @@ ghost use Rattle.dv_core.specs.Find as finding;
 ghost use Rattle.dv_core.specs.StepParts.{GivesAndLeaves, reply_told};
 ghost use Rattle.dv_core.specs.Told.{batch_told};
 ghost use Rattle.dv_command.specs.Replies.{document_of};
-ghost use Rattle.dv_cursor.specs.Batch.{batch};
+ghost use Rattle.dv_cursor.specs.Batch.{batch, rows_behind};
 ghost use Rattle.dv_pipe.specs.Sources.{Row};
 
 use crate::outcome::Batch;
@@ -60,9 +60,7 @@ pub(crate) fn first_batch(
         single,
     } = first;
     let too_large = are_too_large(&rows);
-    let mut rows = Rows::of(rows);
-    let batch = rows.batch(count)?;
-    rows.skip(batch.len());
+    let (batch, rows) = first_rows(alloc, rows, count)?;
     if single || rows.is_empty() {
         if too_large {
             return Err(Refusal::TooLarge);
@@ -89,6 +87,25 @@ pub(crate) fn first_batch(
         id,
         rows: batch,
     })
+}
+
+/// The rows of the first batch, and those behind it. Fails where memory is wanting.
+#[tactic(auto, using(crate::proofs::Firsts::few_are_all, crate::proofs::Firsts::none_behind))]
+fn first_rows(
+    alloc: Global,
+    rows: Vec<Document>,
+    count: u64,
+) -> Result<(Vec<Document>, Rows), NoMemory>
+    ensures { IfOk result (λ parts. (parts.0.items ≡ batch count rows.items) × (parts.1 ≡ rows_behind count rows.items)) }
+{
+    // Most finds have one row at most.
+    if rows.len() <= 1 && count > 0 {
+        return Ok((rows, Rows::of(Vec::new(alloc))));
+    }
+    let mut behind = Rows::of(rows);
+    let batch = behind.batch(count)?;
+    behind.skip(batch.len());
+    Ok((batch, behind))
 }
 
 /// The body of the reply with a batch. Fails where memory is wanting.
