@@ -32,7 +32,8 @@ PROGRAM = "docd"
 LOG = HERE / "crates" / PROGRAM / "out" / "build.log"
 SECONDS = HERE / "tools" / "proof_seconds.txt"
 A_CHECK = 3 << 30  # bytes of memory that one crate's check may take
-A_JOB = 7 << 28  # bytes that each further processor of a check may take
+A_JOB = 7 << 28  # bytes that each processor of a check may take
+LARGE = {"dv_scripts": 9 << 29, "dv_serving": 5 << 30}  # the same of crates that take more; each gets half the processors, so that both have room
 SIDE_BY_SIDE = 3  # crates that are proved at once, since each leaves processors alone for a while
 ALL_WORK = 16 << 30  # bytes that the crates' work takes on disk
 SHARED = 1.25  # how much more processor time a check takes that several processors share
@@ -51,18 +52,18 @@ def free_memory():
 
 
 def find_room():
-    """How many processors there are, and how many jobs may run side by side by the memory."""
+    """How many processors there are, and how many bytes of memory."""
     disk = shutil.disk_usage(HERE).free
     if disk < ALL_WORK and not (LOG.parent / PROGRAM).exists():
         raise Fault("the disk has %.1f GB left, but a first build stores %d GB below crates/*/out: free some space" % (disk / 2**30, ALL_WORK >> 30))
     memory = free_memory()
     if memory < A_CHECK:
         raise Fault("%.1f GB of memory are free, but a build needs %d GB: end other programs, or use a larger machine" % (memory / 2**30, A_CHECK >> 30))
-    return len(os.sched_getaffinity(0)), memory // A_JOB
+    return len(os.sched_getaffinity(0)), memory
 
 
 def seconds_known():
-    """The processor seconds that the proof of each crate took, as tools/timed_gate.py wrote them."""
+    """The processor seconds that the proof of each crate took, as tools/check/timed_gate.py wrote them."""
     lines = SECONDS.read_text().splitlines() if SECONDS.exists() else []
     return {words[0]: int(words[1]) for words in map(str.split, lines) if words}
 
@@ -141,8 +142,9 @@ class Build:
         """Begins the crates that stand on proved ones alone, as far as there is room, the longest chains first."""
         ready = [it for it in self.left if self.crates.below(it) <= self.done and (it != PROGRAM or not self.running)]
         for name in sorted(ready, key=self.crates.behind, reverse=True):
-            taken = sum(jobs for _, _, jobs in self.running.values())
-            jobs = min(self.processors if not self.running else max(1, self.processors // FEWER), self.room - taken)
+            taken = sum(jobs * LARGE.get(it, A_JOB) for it, (_, _, jobs) in self.running.items())
+            most = self.processors if not self.running and name not in LARGE else max(1, self.processors // FEWER)
+            jobs = min(most, (self.room - taken) // LARGE.get(name, A_JOB))
             if len(self.running) == SIDE_BY_SIDE or (jobs < 1 and self.running):
                 break
             tell("proving %s, crate %d of %d .." % (name, len(self.done) + len(self.running) + 1, len(self.crates.names)))

@@ -2,8 +2,10 @@
 //! loads and checks files of documents.
 #![tactic(auto)]
 
-use dv_program::fault::status;
-use dv_program::program::docd;
+mod program;
+
+use dv_words::fault::status;
+use program::docd;
 use std::process::ExitCode;
 
 fn main(rt: HostRuntime) -> ExitCode {

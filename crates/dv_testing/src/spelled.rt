@@ -1,4 +1,4 @@
-//! Documents as tests write them, by their bytes. What stands beside these as text is what `tools/notation.py` spells so.
+//! Documents as tests write them, by their bytes. What stands beside these as text is what `tools/client/notation.py` spells so.
 
 use dv_bson::{read_document, write_document};
 use dv_value::{Document, List, Value};

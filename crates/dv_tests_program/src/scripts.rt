@@ -1,6 +1,6 @@
 //! Scripts whose reader or writer fails, or gives and takes one byte at a call.
 
-use dv_program::script::{ScriptFault, script};
+use dv_scripts::script::{ScriptFault, script};
 use dv_streams::{CountedReader, CountedWriter};
 use dv_testing::fakes::{Dropping, Narrow};
 use dv_wire::{Hub, Store};

@@ -1,6 +1,6 @@
 //! Connections that are served: of a listener that fails, and over the loopback.
 
-use dv_program::serve::{Listener, Port, ServeFault, serve_on};
+use dv_serving::serve::{Listener, Port, ServeFault, serve_on};
 use dv_streams::{CountedReader, CountedWriter, Failed};
 use dv_testing::fakes::Dropping;
 use dv_testing::messages::{FIND, FOUND, INSERT, INSERTED, PING};

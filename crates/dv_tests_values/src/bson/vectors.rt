@@ -1,4 +1,4 @@
-//! Made by `tools/bson_vectors.py` with the BSON library of Debian's package python3-bson.
+//! Made by `tools/check/bson_vectors.py` with the BSON library of Debian's package python3-bson.
 
 /// Documents as their bytes and as text.
 #[rattlefmt::skip]

@@ -1,6 +1,0 @@
-mod Pieces
-mod Replies
-mod Scheduled
-mod Scripts
-mod Served
-mod Stopped

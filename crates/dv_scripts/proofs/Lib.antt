@@ -1,0 +1,5 @@
+mod Pieces
+mod Replies
+mod Scheduled
+mod Scripts
+mod Stopped

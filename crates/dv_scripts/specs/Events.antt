@@ -1,0 +1,58 @@
+-- The events of a script's lines, and what is written of what is said of them.
+use Rattle.std.specs.Prelude.{◌≡◌, ℕ, false, List, [], ◌∷◌, ◌++◌, Option, Some, slice_get, if◌then◌else◌}
+use Rattle.dv_wire.specs.declared.events.Event.{Event}
+use Rattle.dv_wire.specs.declared.events.Event.TheVariants as events
+use Rattle.dv_wire.specs.declared.events.Said.{Said}
+use Rattle.dv_wire.specs.declared.events.Said.TheVariants as said
+use Rattle.dv_scripts.specs.Output.{AreReplies, end_line, fed_text}
+use Rattle.dv_scripts.specs.Script.{DoesLines, OpenSessions}
+use Rattle.dv_words.specs.declared.said.Line.{Line}
+use Rattle.dv_words.specs.declared.said.Line.TheVariants.{Skip, Bytes, End}
+use Rattle.dv_scripts.specs.declared.sessions.Session.{Session}
+
+-- a session is opened where none stands under a line's number
+abbrev pub opening : Option (Option Session) → List Event
+opening (Some (Some session)) = []
+opening found = events.Open ∷ []
+
+-- the one that then stands there: that one, or the hub's next
+abbrev pub session_of : ℕ → Option (Option Session) → Session
+session_of next (Some (Some session)) = session
+session_of next found = record { id = record { number = next }; is_closed = false }
+
+-- bytes come from it, unless it is closed
+abbrev pub piece_of : Session → List ℕ → List Event
+piece_of session bytes = if session.is_closed then [] else events.Piece session.id bytes ∷ []
+
+-- the events of a line
+abbrev pub events_of : OpenSessions → Line → List Event
+events_of old Skip = []
+events_of old (Bytes number bytes) = opening (slice_get old.sessions number) ++ piece_of (session_of old.hub.next (slice_get old.sessions number)) bytes
+events_of old (End number) = opening (slice_get old.sessions number) ++ events.End (session_of old.hub.next (slice_get old.sessions number)).id ∷ []
+
+-- those of all lines, joined in the lines' order
+abbrev pub schedule_of : (old new : OpenSessions) (lines : List (List ℕ)) (text : List ℕ) → DoesLines old lines text new → List Event
+schedule_of old new [] text done = []
+schedule_of old new (line ∷ lines) text (mid, first, others, does, behind, both) = events_of old does.0 ++ schedule_of mid new lines others behind
+
+-- what is written of an event under a number: nothing of an opening
+abbrev pub WritesEvent : ℕ → Said → List ℕ → Type 0
+WritesEvent number (said.Opened result) text = text ≡ []
+WritesEvent number (said.Fed told bytes) text = (replies : List (List ℕ)) × AreReplies replies bytes × (text ≡ fed_text number replies told)
+WritesEvent number (said.Ended unfinished) text = text ≡ end_line number unfinished
+
+abbrev pub WritesAll : ℕ → List Said → List ℕ → Type 0
+WritesAll number [] text = text ≡ []
+WritesAll number (first ∷ others) text = (one : List ℕ) × (two : List ℕ) × (text ≡ one ++ two) × WritesEvent number first one × WritesAll number others two
+
+-- what a line writes of its events
+abbrev pub TellsEvents : Line → List Said → List ℕ → Type 0
+TellsEvents Skip all text = text ≡ []
+TellsEvents (Bytes number bytes) all text = WritesAll number all text
+TellsEvents (End number) all text = WritesAll number all text
+
+-- what a script writes of what is said of its lines' events, in the lines' order
+abbrev pub TellsLines : (old new : OpenSessions) (lines : List (List ℕ)) (text : List ℕ) → DoesLines old lines text new → List Said → Type 0
+TellsLines old new [] text done all = (all ≡ []) × (text ≡ [])
+TellsLines old new (line ∷ lines) text (mid, first, others, does, behind, both) all =
+    (one : List Said) × (two : List Said) × (all ≡ one ++ two) × TellsEvents does.0 one first × TellsLines mid new lines others behind two × (text ≡ first ++ others)

@@ -1,0 +1,5 @@
+pub mod Events
+pub mod Output
+pub mod Pieces
+pub mod Script
+pub mod Stops
