@@ -20,7 +20,8 @@ import time
 import bson
 from bson.int64 import Int64
 
-sys.path.append(os.path.join(os.path.dirname(os.path.abspath(__file__)), "..", "tools"))
+TOOLS = os.path.join(os.path.dirname(os.path.dirname(os.path.abspath(__file__))), "tools")
+sys.path += [TOOLS, os.path.join(TOOLS, "client"), os.path.join(TOOLS, "check")]
 
 from model.messages import HEADER  # noqa: E402
 from program import DOCD, parsed  # noqa: E402

@@ -1,5 +1,5 @@
 #!/usr/bin/python3
-"""A client of docd in Python, with nothing but its own library and the modules in tools/.
+"""A client of docd in Python, with nothing but its own library and the modules in tools/client.
 
 It keeps the orders of a small shop: it inserts some, finds those of a customer, dearest first, in batches, changes one, and
 reads a view of what each customer has spent. What was there under these names is dropped first, so it can be run again.
@@ -10,7 +10,7 @@ reads a view of what each customer has spent. What was there under these names i
 import os
 import sys
 
-sys.path.insert(0, os.path.join(os.path.dirname(os.path.abspath(__file__)), "..", "tools"))
+sys.path.insert(0, os.path.join(os.path.dirname(os.path.abspath(__file__)), "..", "tools", "client"))
 
 from served import Served  # noqa: E402
 

@@ -83,7 +83,7 @@ def proved():
 
 def is_well(part, program, log):
     """Tries a part on the program, and prints how it ended."""
-    words = [sys.executable, os.path.join(ROOT, "tools", part.words[0]), *part.words[1:]]
+    words = [sys.executable, os.path.join(ROOT, "tools", "check", part.words[0]), *part.words[1:]]
     words += ["--program", program] if part.runs else []
     begun = time.monotonic()
     with open(log, "wb") as said:

@@ -2,7 +2,7 @@
 
 The kit's command `rt` is a Python program, which these tools load as a module. Nothing in it is changed. Of `rtlib`, which it
 brings, they call `crates_below`, `Crate.below`, `is_built`, `build_rlib`, `run`, `sources_below`, `kit_sources`, `lock` and
-`guarded`; tools/planted.py calls the engine of `rt must-fail` too.
+`guarded`; tools/check/planted.py calls the engine of `rt must-fail` too.
 """
 import importlib.machinery
 import importlib.util

@@ -1,0 +1,96 @@
+#!/usr/bin/python3
+"""How many instructions a command costs inside docd, by valgrind's callgrind: repeatable where other work runs beside.
+
+Needs what bench/measuring.py says, and valgrind (`apt-get install valgrind`). A run brings a collection of 2,000 documents and then
+so many commands; what a second run with twice as many takes more, divided by their number, is what a command costs. With `--beside`
+another program, an earlier one for example, does the same, and its figures are in a column of their own.
+
+    /usr/bin/python3 bench/instructions.py
+    /usr/bin/python3 bench/instructions.py --program docd.fast --beside ../before/docd.fast
+"""
+import argparse
+import os
+import re
+import subprocess
+import sys
+
+import measuring
+from measuring import heads, row, stream_of
+
+COMMANDS = 300  # in the first run
+DOCUMENTS = 2_000
+OTHERS = 20  # documents of another collection, and groups
+VALUES = 1_000
+
+
+def document(identity):
+    return {"_id": identity, "group": identity % OTHERS, "amount": identity * 7919 % VALUES, "tags": [1, 2, 3], "name": "name %d" % identity}
+
+
+def update(place):
+    return {"update": "c", "updates": [{"q": {"_id": place}, "u": {"$set": {"amount": place * 31 % VALUES}}}]}
+
+
+def insert(place):
+    return {"insert": "c", "documents": [document(DOCUMENTS + place)]}
+
+
+ALONE = {
+    "find by `_id`": lambda place: {"find": "c", "filter": {"_id": place}},
+    "update of a field by `_id`": update,
+    "insert": insert,
+    "delete by `_id`": lambda place: {"delete": "c", "deletes": [{"q": {"_id": place}, "limit": 1}]},
+}
+UNDER_VIEWS = {"update": update, "insert": insert}
+VIEWS = {
+    "`$match`": [{"$match": {"amount": {"$lt": VALUES // 2}}}],
+    "`$project`": [{"$project": {"group": 1, "amount": 1}}],
+    "`$unwind` of 3 elements": [{"$unwind": "$tags"}],
+    "`$sort`, `$limit`": [{"$sort": {"amount": 1}}, {"$limit": 10}],
+    "`$group`": [{"$group": {"_id": "$group", "n": {"$sum": 1}, "sum": {"$sum": "$amount"}}}],
+    "`$lookup`": [{"$lookup": {"from": "o", "localField": "group", "foreignField": "_id", "as": "others"}}],
+    "`$match`, `$project`, `$group`": [
+        {"$match": {"amount": {"$gte": 0}}}, {"$project": {"group": 1, "amount": 1}}, {"$group": {"_id": "$group", "sum": {"$sum": "$amount"}}}],
+}
+
+
+def commands(stages, made, count):
+    """What a run brings: the collections, the view if there is one, and so many of the commands."""
+    yield {"insert": "o", "documents": [{"_id": place} for place in range(OTHERS)]}
+    if stages is not None:
+        yield {"create": "v", "viewOn": "c", "pipeline": stages}
+    yield {"insert": "c", "documents": [document(place) for place in range(DOCUMENTS)]}
+    yield from map(made, range(count))
+
+
+def collected(program, stages, made, count):
+    """The instructions of a run, of which each command has to succeed."""
+    words = ["valgrind", "--tool=callgrind", "--callgrind-out-file=" + os.devnull, program, "run"]
+    done = subprocess.run(words, input=stream_of(commands(stages, made, count)), stdout=subprocess.PIPE, stderr=subprocess.PIPE)
+    found = re.search(rb"Collected : (\d+)", done.stderr)
+    if not found or any(measuring.bson.decode(body)["ok"] != 1 for body in measuring.replies_in(done.stdout)):
+        sys.exit("bench: valgrind or a command failed: %s" % done.stderr.decode(errors="replace")[-300:])
+    return int(found[1])
+
+
+def cost(program, stages, made):
+    """The instructions that one command more takes."""
+    few, many = (collected(program, stages, made, COMMANDS * times) for times in (1, 2))
+    return "{:,}".format((many - few) // COMMANDS)
+
+
+def main():
+    options = argparse.ArgumentParser(description=__doc__, formatter_class=argparse.RawDescriptionHelpFormatter)
+    options.add_argument("--beside", help="another program, to compare with")
+    given = measuring.asked(options)
+    programs = [given.program] + ([given.beside] if given.beside else [])
+    heads("command", *["instructions", "beside"][:len(programs)])
+    for name, made in ALONE.items():
+        row(name, *(cost(program, None, made) for program in programs))
+    for view, stages in VIEWS.items():
+        for name, made in UNDER_VIEWS.items():
+            row("%s under %s" % (name, view), *(cost(program, stages, made) for program in programs))
+
+
+if __name__ == "__main__":
+    main()

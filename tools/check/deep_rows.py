@@ -1,0 +1,314 @@
+#!/usr/bin/python3
+"""Sends rows about as deep as rows can be through each stage, with two megabytes of stack.
+
+A stored document has at most 100 levels, and a stage wraps a value in at most 96 documents. But each of a pipeline's 16 stages
+may wrap it again, a view may stand on seven others, and an aggregate on the highest. What goes down such a row by calls takes
+stack for each of its levels, and a program whose stack ends is killed. Here rows of some 14,000 levels are matched, projected,
+unwound, sorted, grouped, looked up, compared by a view that is kept, refused as a reply, and dropped: each by a docd of its own,
+which has to answer what is told here, and to end well. A case that doesn't is printed, and then the exit status is 1.
+
+Needs the built program (./docd run < /dev/null).
+
+    python3 tools/check/deep_rows.py
+    python3 tools/check/deep_rows.py --measure --cases "sort,group"      prints how much stack they take at least, and that for a level
+    python3 tools/check/deep_rows.py --stack 1024 --program crates/docd/out/docd
+"""
+import argparse
+import contextlib
+import os
+import struct
+import subprocess
+import sys
+from collections import namedtuple
+from concurrent.futures import ThreadPoolExecutor
+
+import folders  # noqa: F401
+from extended_json import json_of, value_of
+from model.messages import answer
+from model.values import DOCUMENT, spelling
+from program import parsed
+from spelled import joined, section
+
+HEIGHT, STAGES = 8, 16  # of views over one another, and of a pipeline
+STORED = 98  # documents around a number, or an array of numbers, in a stored document
+WRAPPED = 96  # documents in which a stage wraps a value
+STACK = 2 << 10  # kilobytes
+MOST, STEP = 4 << 10, 8  # kilobytes that are tried to measure what is taken, and how exact that is
+SECONDS = 60  # that a run may take
+
+# Stages, by the path to the deepest value and the view that they read; the rows that they leave, of an aggregate and of a view
+# behind some writes; what stands at the end of a document, by its number; whether stages that wrap it come in front.
+Probe = namedtuple("Probe", "stages asked kept end wrapped", defaults=[lambda number: number, True])
+# A command's name and bytes, and what it has to be answered.
+Asked = namedtuple("Asked", "name data wanted")
+# What is asked one after the other; how many levels the deepest row has; whether it is measured to the end of docd, too, when all
+# that it has is dropped.
+Case = namedtuple("Case", "asked levels to_end", defaults=[False])
+
+
+def identities(*numbers):
+    return [{"_id": number} for number in numbers]
+
+
+def alone(*values):
+    return [{"n": value} for value in values]
+
+
+def project(**fields):
+    return {"$project": fields}
+
+
+def grouped(key, **accumulators):
+    return {"$group": {"_id": key, **accumulators}}
+
+
+def by(key):
+    """Counts the rows under each key, which no reply may have."""
+    return lambda path, view: [grouped(key, n={"$sum": 1}), project(_id=0, n=1)]
+
+
+def gathering(accumulator):
+    """An accumulator of the deepest values."""
+    return lambda path, view: [grouped(None, n={accumulator: "$" + path})]
+
+
+def gathering_documents(accumulator):
+    """An accumulator of the documents around them, and what it leaves of it: no reply may have more."""
+    return lambda path, view: [grouped(None, m={accumulator: "$a"}), project(n="$m" + path[1:])]
+
+
+def looked_up(by_path):
+    def stages(path, view):
+        field = path if by_path else "a"
+        return [{"$lookup": {"from": view, "localField": field, "foreignField": field, "as": "n"}}, project(n="$n._id")]
+    return stages
+
+
+def with_nine(number):
+    return [number, 9]
+
+
+def one(value):
+    return [{"_id": None, "n": value}]
+
+
+def pairs(first, second, of=lambda value: value):
+    return [{"_id": first[0], "n": of(first[1])}, {"_id": second[0], "n": of(second[1])}]
+
+
+# An aggregate's documents have the numbers 6 and 5 at their ends; behind the writes the first has 8, the second is gone, and a
+# third has 7.
+PROBES = {
+    "nothing else": Probe(lambda path, view: [], identities(1, 2), identities(1, 3)),
+    "a match": Probe(lambda path, view: [{"$match": {path: {"$in": [6, 7]}}}], identities(1), identities(3)),
+    "a match in arrays": Probe(lambda path, view: [{"$match": {path: {"$elemMatch": {"$in": [6, 7]}}}}], identities(1), identities(3),
+                               with_nine),
+    "an inclusion": Probe(lambda path, view: [project(**{path: 1})], identities(1, 2), identities(1, 3)),
+    "an inclusion of two paths": Probe(lambda path, view: [project(**{path: 1, path[:-1] + "b": 1})], identities(1, 2), identities(1, 3)),
+    "an exclusion": Probe(lambda path, view: [project(**{path: 0})], identities(1, 2), identities(1, 3)),
+    "an exclusion of two paths": Probe(lambda path, view: [project(**{path: 0, path[:-1] + "b": 0})], identities(1, 2), identities(1, 3)),
+    "a computed path": Probe(lambda path, view: [project(n="$" + path)], pairs((1, 6), (2, 5)), pairs((1, 8), (3, 7))),
+    "a computed path to arrays": Probe(lambda path, view: [project(n="$" + path)], pairs((1, 6), (2, 5), with_nine),
+                                       pairs((1, 8), (3, 7), with_nine), with_nine),
+    "an unwind": Probe(lambda path, view: [{"$unwind": "$" + path}], identities(1, 1, 2, 2), identities(1, 1, 3, 3), with_nine),
+    "a sort": Probe(lambda path, view: [{"$sort": {"a": 1}}], identities(2, 1), identities(3, 1)),
+    "a sort along the path": Probe(lambda path, view: [{"$sort": {path: 1}}], identities(2, 1), identities(3, 1)),
+    "a sort by arrays": Probe(lambda path, view: [{"$sort": {path: -1}}], identities(1, 2), identities(1, 3), with_nine),
+    "a limit": Probe(lambda path, view: [{"$limit": 1}], identities(1), identities(1)),
+    "a group by documents": Probe(by("$a"), alone(1, 1), alone(1, 1)),
+    "a group by documents of documents": Probe(by({"k": "$a"}), alone(1, 1), alone(1, 1)),
+    "a group along the path": Probe(lambda path, view: [grouped("$" + path, n={"$sum": 1})], pairs((5, 1), (6, 1)),
+                                    pairs((7, 1), (8, 1))),
+    "a $sum": Probe(gathering("$sum"), one(11), one(15)),
+    "a $sum of documents": Probe(lambda path, view: [grouped(None, n={"$sum": "$a"})], one(0), one(0)),
+    "a $min": Probe(gathering("$min"), one(5), one(7)),
+    "a $min of documents": Probe(gathering_documents("$min"), one(5), one(7)),
+    "a $max": Probe(gathering("$max"), one(6), one(8)),
+    "a $max of documents": Probe(gathering_documents("$max"), one(6), one(8)),
+    "a $push": Probe(gathering("$push"), one([6, 5]), one([8, 7])),
+    "a $push of documents": Probe(gathering_documents("$push"), one([6, 5]), one([8, 7])),
+    "a lookup by documents": Probe(looked_up(False), pairs((1, [1]), (2, [2])), pairs((1, [1]), (3, [3])), wrapped=False),
+    "a lookup along the path": Probe(looked_up(True), pairs((1, [1]), (2, [2])), pairs((1, [1]), (3, [3])), wrapped=False),
+    "a lookup by arrays": Probe(looked_up(True), pairs((1, [1, 2]), (2, [1, 2])), pairs((1, [1, 3]), (3, [1, 3])), with_nine, False),
+}
+
+
+def nested(value, levels):
+    """The value in so many documents, among other fields in each."""
+    for _ in range(levels):
+        value = {"b": "x", "a": value, "c": "x"}
+    return value
+
+
+def path_of(levels):
+    """The path to what stands in so many documents, each under `a`."""
+    return ".".join(["a"] * levels)
+
+
+def bytes_of(document):
+    return spelling(value_of(document)[1])
+
+
+def asked(command, wanted, *documents):
+    """A command and its answer. Documents stand beside its body, where each may have as many levels as it is stored with."""
+    sections = [section(None, [bytes_of({**command, "$db": "t"})])]
+    if documents:
+        sections.append(section(b"documents", map(bytes_of, documents)))
+    return Asked(next(iter(command)), joined(sections, 1, 0), wanted)
+
+
+def put(identity, end):
+    return asked({"insert": "c"}, "ok", {"_id": identity, "a": nested(end, STORED)})
+
+
+def deleted(query):
+    return asked({"delete": "c", "deletes": [{"q": query, "limit": 0}]}, "ok")
+
+
+def aggregate(view, stages, wanted):
+    return asked({"aggregate": view, "pipeline": stages, "cursor": {}}, wanted)
+
+
+def find(view, wanted, **others):
+    return asked({"find": view, **others}, wanted)
+
+
+class Tower:
+    """Views over one another, whose stages each wrap what documents have under `a` in so many documents."""
+
+    def __init__(self, width):
+        self.width = width
+        self.wrapping = [self.view(place, self.wraps(STAGES)) for place in range(HEIGHT)]
+
+    def wraps(self, count):
+        return [project(a=nested("$a", self.width))] * count
+
+    def view(self, below, stages):
+        return asked({"create": "v%d" % (below + 1), "viewOn": "v%d" % below if below else "c", "pipeline": stages}, "ok")
+
+    def levels(self, stages):
+        """Of a row behind so many stages that wrap, and the components of the path to what is in all of them."""
+        return 1 + STORED + self.width * stages
+
+    def begun(self, height, end=lambda number: number):
+        """Two documents, and so many views over one another."""
+        return [put(1, end(6)), put(2, end(5)), *self.wrapping[:height]]
+
+    def staged(self, probe, below, behind):
+        """The stages of a probe over so many views, with so many behind it, and how many levels come to it."""
+        count = STAGES - behind - len(probe.stages("a", "")) if probe.wrapped else 0
+        levels = self.levels(STAGES * below + count)
+        return [*self.wraps(count), *probe.stages(path_of(levels), "v%d" % below)], levels
+
+    def in_an_aggregate(self, probe):
+        stages, levels = self.staged(probe, HEIGHT, 1)
+        return Case([*self.begun(HEIGHT, probe.end), aggregate("v%d" % HEIGHT, [*stages, project(n=1)], probe.asked)], levels)
+
+    def in_a_view(self, probe):
+        """The highest one, behind one write of each kind."""
+        stages, levels = self.staged(probe, HEIGHT - 1, 0)
+        changed = {"q": {"_id": 1}, "u": {"$set": {path_of(STORED + 1): probe.end(8)}}}
+        writes = [put(3, probe.end(7)), asked({"update": "c", "updates": [changed]}, "ok"), deleted({"_id": 2})]
+        shown = [asked({"viewStats": "v%d" % HEIGHT}, "live"), aggregate("v%d" % HEIGHT, [project(n=1)], probe.kept)]
+        return Case([*self.begun(HEIGHT - 1, probe.end), self.view(HEIGHT - 1, stages), *writes, *shown], levels)
+
+    def cases(self):
+        """All, by their names."""
+        path, top, begun, levels = path_of(self.levels(STAGES * HEIGHT)), "v%d" % HEIGHT, self.begun(HEIGHT), self.levels(STAGES * HEIGHT)
+        drops = [asked({"drop": name}, "ok") for name in [*("v%d" % place for place in range(HEIGHT, 0, -1)), "c"]]
+        others = {
+            "a reply": [find(top, 901), aggregate(top, [], 901)],
+            "a find along the path": [find(top, 901, filter={path: 5}), find(top, [], filter={path: 7})],
+            "a sorted find": [find(top, 901, sort={"a": 1}), find(top, 901, sort={path: 1})],
+            "documents dropped": [deleted({}), find(top, [])],
+            "views dropped": drops,
+            "all dropped at the end": [],
+        }
+        made = {name + " in an aggregate": self.in_an_aggregate(probe) for name, probe in PROBES.items()}
+        made.update((name + " in a view", self.in_a_view(probe)) for name, probe in PROBES.items())
+        made.update((name, Case([*begun, *asked], levels, not asked)) for name, asked in others.items())
+        return made
+
+
+def told(reply):
+    """What a reply tells: the code of a refusal, a view's state, the rows, or that all went well."""
+    if "writeErrors" in reply:
+        return [error["code"] for error in reply["writeErrors"]]
+    if "cursor" in reply:
+        return reply["cursor"].get("firstBatch", reply["cursor"].get("nextBatch"))
+    return reply.get("code", reply.get("state", "ok"))
+
+
+def answered(docd, data):
+    """What docd answers to a message; nothing where it has ended."""
+    try:
+        docd.stdin.write(data)
+        docd.stdin.flush()
+    except BrokenPipeError:
+        return None
+    length = docd.stdout.read(4)
+    if len(length) < 4:
+        return None
+    return told(json_of(DOCUMENT, answer(length + docd.stdout.read(struct.unpack("<i", length)[0] - 4))))
+
+
+def wrong(program, case, kilobytes, to_end=True):
+    """What is wrong with a case where docd has so much stack; nothing where all is right, perhaps but for its end."""
+    words = ["sh", "-c", 'ulimit -t %d && ulimit -s %d && exec "$0" run' % (SECONDS, kilobytes), program]
+    found, docd = None, subprocess.Popen(words, stdin=subprocess.PIPE, stdout=subprocess.PIPE)
+    for name, data, wanted in case.asked:
+        got = answered(docd, data)
+        if got != wanted:
+            found = "%s is answered %.200s, not %s" % (name, got, wanted)
+            break
+    with contextlib.suppress(BrokenPipeError):
+        docd.communicate()
+    return found or ("it ends with status %d" % docd.returncode if docd.returncode and to_end else None)
+
+
+def least(program, case):
+    """The kilobytes of stack that a case takes; nothing where more than are tried."""
+    low, high = 0, MOST
+    while low + STEP < high:
+        middle = (low + high) // 2
+        if wrong(program, case, middle, case.to_end):
+            low = middle
+        else:
+            high = middle
+    return high if high < MOST else None
+
+
+def measured(program, name, deep, flat):
+    """What a case takes, and what it does for a level: the difference to a case whose rows aren't so deep."""
+    took, less = least(program, deep), least(program, flat)
+    if took is None or less is None:
+        return "%s: over %d KB at %d levels" % (name, MOST, deep.levels)
+    each = 1024 * (took - less) / (deep.levels - flat.levels)
+    return "%s: %d KB at %d levels, %.0f bytes a level" % (name, took, deep.levels, each)
+
+
+def main():
+    options = argparse.ArgumentParser(description=__doc__, formatter_class=argparse.RawDescriptionHelpFormatter)
+    options.add_argument("--cases", default="", help="words, joined by commas, of which the names of the cases have one")
+    options.add_argument("--stack", type=int, default=STACK, help="the kilobytes of stack")
+    options.add_argument("--measure", action="store_true", help="print the stack that is used instead")
+    given = parsed(options, "deep_rows")
+    deep = Tower(WRAPPED).cases()
+    names = [name for name in deep if any(word in name for word in given.cases.split(","))]
+    with ThreadPoolExecutor(len(os.sched_getaffinity(0))) as pool:
+        if given.measure:
+            flat = Tower(1).cases()
+            for line in pool.map(lambda name: measured(given.program, name, deep[name], flat[name]), names):
+                print(line, flush=True)
+            return 0
+        found = [*zip(names, pool.map(lambda name: wrong(given.program, deep[name], given.stack), names))]
+    for name, fault in found:
+        if fault:
+            print("%s, %d levels: %s" % (name, deep[name].levels, fault))
+    right = sum(fault is None for _, fault in found)
+    print("%d right, %d wrong" % (right, len(found) - right))
+    return 0 if right == len(found) else 1
+
+
+if __name__ == "__main__":
+    sys.exit(main())

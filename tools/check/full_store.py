@@ -1,0 +1,142 @@
+#!/usr/bin/python3
+"""Fills docd until it has no memory for more documents, and checks that it can be emptied then.
+
+Needs the built program (./docd run < /dev/null). Once docd has answered a ping, it may have so many megabytes more than it has by
+then. Documents are inserted, fewer and fewer at a time, until one alone is refused: over an index and under two views, or not.
+Then in one run a document is deleted by its `_id`, and all others by deletes that are sent again until none is cut, each of which
+has to take out some; in another one an index, a cursor and the collection go. Behind both as many documents as before, less a
+twentieth, are inserted again, and views have to show what their aggregates do.
+
+    python3 tools/check/full_store.py
+    python3 tools/check/full_store.py --megabytes 15,500 --program crates/docd/out/docd
+"""
+import argparse
+import sys
+
+import folders  # noqa: F401
+from little_memory import Docd
+from model.values import spelling
+from program import parsed
+from prompt.asking import command_of
+from spelled import message
+
+WANT_OF_MEMORY = 900
+VIEWS = {"v": '[{$group: {_id: "$a", n: {$sum: 1}}}]', "w": "[{$match: {a: {$lt: 5}}}]"}
+
+
+class Wrong(Exception):
+    pass
+
+
+class Store:
+    """A docd of little memory, and how many documents it has."""
+
+    def __init__(self, program, megabytes, rich):
+        self.docd, self.count = Docd(program), 0
+        self.ask("{ping: 1}")
+        self.docd.bound(megabytes << 20)
+        if rich:
+            self.ask('{createIndexes: "c", indexes: [{key: {a: 1}, name: "a"}, {key: {l: 1}, name: "l"}]}')
+            for name, pipeline in VIEWS.items():
+                self.ask('{create: "%s", viewOn: "c", pipeline: %s}' % (name, pipeline))
+
+    def told(self, line):
+        """What a command is answered."""
+        reply = self.docd.reply_to(message(spelling(command_of(line, "t")[1])))
+        if not reply:
+            raise Wrong("no reply to %s" % line[:60])
+        return reply
+
+    def ask(self, line):
+        """The same, which may not be refused."""
+        reply = self.told(line)
+        if not reply["ok"]:
+            raise Wrong("%s: %s" % (line[:60], reply))
+        return reply
+
+    def insert(self, count):
+        """Whether so many documents more are stored, all of them."""
+        places = range(self.count, self.count + count)
+        documents = ['{_id: %d, a: %d, l: [1, 2, %d], t: "%s"}' % (it, it % 20, it % 50, "x" * 100) for it in places]
+        reply = self.told('{insert: "c", documents: [%s]}' % ", ".join(documents))
+        self.count += reply.get("n", 0)
+        return reply.get("n") == count
+
+    def fill(self):
+        for count in 1000, 100, 10, 1:
+            missed = 0
+            while missed < 5:
+                missed += not self.insert(count)
+
+    def delete_all(self):
+        """Deletes all documents, and returns how many commands that took."""
+        times = 0
+        while True:
+            reply, times = self.ask('{delete: "c", deletes: [{q: {}, limit: 0}]}'), times + 1
+            self.count -= reply["n"]
+            if "writeErrors" not in reply:
+                return times
+            error = reply["writeErrors"][0]
+            if error["code"] != WANT_OF_MEMORY or not error["done"]:
+                raise Wrong("a delete of all, of which %d are there: %s" % (self.count, error))
+            self.count -= error["done"]
+
+    def compare_views(self):
+        for name, pipeline in VIEWS.items():
+            rows = [self.ask('{aggregate: "%s", pipeline: %s, cursor: {}}' % it) for it in ((name, "[]"), ("c", pipeline))]
+            if rows[0]["cursor"]["firstBatch"] != rows[1]["cursor"]["firstBatch"]:
+                raise Wrong("the view %s doesn't show its rows" % name)
+
+
+def delete_each(store):
+    if store.ask('{delete: "c", deletes: [{q: {_id: 5}, limit: 1}]}')["n"] != 1:
+        raise Wrong("a document isn't deleted by its _id")
+    store.count -= 1
+    return "%d deletes of all" % store.delete_all()
+
+
+def drop_all(store, cursor, rich):
+    if store.ask('{killCursors: "c", cursors: [%sL]}' % cursor)["cursorsKilled"] == []:
+        raise Wrong("a cursor isn't ended")
+    if rich:
+        store.ask('{dropIndexes: "c", index: "l"}')
+    store.ask('{drop: "c"}')
+    store.count = 0
+    return "a killCursors and drops"
+
+
+def fill_and_empty(program, megabytes, rich, drops):
+    """What is told of one run."""
+    store = Store(program, megabytes, rich)
+    store.insert(10)
+    cursor = store.ask('{find: "c", batchSize: 1}')["cursor"]["id"]["$numberLong"]
+    store.fill()
+    filled = store.count
+    how = drop_all(store, cursor, rich) if drops else delete_each(store)
+    if store.count:
+        raise Wrong("%d documents are counted in an empty collection" % store.count)
+    while store.count < filled - filled // 20:
+        if not store.insert(100):
+            raise Wrong("after %s only %d documents can be stored, of %d before" % (how, store.count, filled))
+    if rich:
+        store.compare_views()
+    return "%d documents, %s, and %d documents" % (filled, how, store.count)
+
+
+def main():
+    options = argparse.ArgumentParser(description=__doc__, formatter_class=argparse.RawDescriptionHelpFormatter)
+    options.add_argument("--megabytes", default="15,30,60", help="how much more it may have, in turn")
+    given, wrong = parsed(options, "full_store"), 0
+    for megabytes in map(int, given.megabytes.split(",")):
+        for rich in False, True:
+            for drops in False, True:
+                try:
+                    said = fill_and_empty(given.program, megabytes, rich, drops)
+                except Wrong as fault:
+                    said, wrong = "WRONG: %s" % fault, wrong + 1
+                print("%d MB%s: %s" % (megabytes, ", two indexes and two views" if rich else "", said), flush=True)
+    return 1 if wrong else 0
+
+
+if __name__ == "__main__":
+    sys.exit(main())

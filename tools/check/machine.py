@@ -1,0 +1,104 @@
+#!/usr/bin/python3
+"""What docd must print for a script: a second, plain model of the whole machine.
+
+It reads a script on standard input and prints each reply, closing and end as docd must print them. It shares no code
+with docd: it has its own reader of BSON and its own filters, updates and pipelines (in tools/client/model), keeps each
+collection as a sorted list, scans for every find and runs a view's pipeline anew each time. The work that a view counts
+is what its stages make of all their rows otherwise behind each change. Memory is never wanting here. `tools/check/compare.py`
+runs random scripts through both.
+
+    python3 tools/check/machine.py < examples/inserts.hex
+"""
+import argparse
+import re
+import sys
+
+import folders  # noqa: F401
+from model.commands import answer_to
+from model.messages import Closing, message, take_message
+from model.store import Store
+from model.writes import done_to, insert_one
+
+LONGEST_LINE = 131_200
+LINE = re.compile(rb"(?s:#.*)?|(0|[1-9][0-9]{0,2}) (?:(end)|([0-9A-Fa-f]{2}(?: *[0-9A-Fa-f]{2})*))")
+
+
+class Session:
+    """Its bytes that no message has taken, and whether a fault has closed it."""
+
+    def __init__(self):
+        self.stream, self.is_closed = b"", False
+
+
+class Machine:
+    """The store, and the open sessions by their numbers in the script."""
+
+    def __init__(self):
+        self.store, self.sessions = Store(), {}
+
+    def line(self, text):
+        """What one line of a script prints, as a list of lines, or None: it is bad."""
+        form = LINE.fullmatch(text)
+        if len(text) > LONGEST_LINE or not form:
+            return None
+        number = form[1]
+        if number is None:
+            return []
+        return self.end(number) if form[2] else self.feed(number, bytes.fromhex(form[3].decode()))
+
+    def load(self, place, document):
+        """Inserts a document in front of the script, beside any session."""
+        self.store.change(place, done_to(self.store.collection(place), insert_one, document).changes)
+
+    def session(self, number):
+        """The session of this number, which is opened if it isn't open."""
+        return self.sessions.setdefault(number, Session())
+
+    def end(self, number):
+        """Ends a session, and gives the line that tells of it."""
+        session = self.session(number)
+        del self.sessions[number]
+        self.store.cursors.end(session)
+        return [b"%s end %d" % (number, 0 if session.is_closed else len(session.stream))]
+
+    def feed(self, number, data):
+        """The lines that a session is answered to its next bytes."""
+        session, said = self.session(number), []
+        if session.is_closed:
+            return said
+        session.stream += data
+        try:
+            while (taken := take_message(session.stream)) is not None:
+                length, request, flags, sections = taken
+                session.stream = session.stream[length:]
+                reply = answer_to(self.store, session, sections)
+                if not flags & 2:
+                    said.append(b"%s %s" % (number, message(request, reply).hex().encode()))
+        except Closing as fault:
+            session.is_closed = True
+            said.append(b"%s closed %d" % (number, fault.args[0]))
+        return said
+
+
+def run(script):
+    """What a script's bytes print on standard output, and on standard error."""
+    machine, printed = Machine(), []
+    for number, line in enumerate(script.split(b"\n"), 1):
+        said = machine.line(line)
+        if said is None:
+            return b"".join(printed), b"docd: line %d: bad line\n" % number
+        printed += [one + b"\n" for one in said]
+    return b"".join(printed), b""
+
+
+def main():
+    options = argparse.ArgumentParser(description=__doc__, formatter_class=argparse.RawDescriptionHelpFormatter)
+    options.parse_args()
+    output, told = run(sys.stdin.buffer.read())
+    sys.stdout.buffer.write(output)
+    sys.stderr.buffer.write(told)
+    sys.exit(1 if told else 0)
+
+
+if __name__ == "__main__":
+    main()

@@ -1,0 +1,95 @@
+#!/usr/bin/python3
+"""Runs the examples of docs/MANUAL.md through docd and through the model of `tools/check/machine.py`, and compares the replies.
+
+Needs the built program (./docd run < /dev/null). In a fenced block a line `> COMMAND` is sent, of session 0, or of another one as
+`1> COMMAND`, and the line behind it is its reply; each heading begins with an empty store. These lines are read as
+`tools/client/lines.py` reads them, and the replies are what it prints. A line `$ WORDS` is typed in a shell, and the lines behind it
+are what is printed; each heading begins with a folder that has `docd`, `tools` and `examples` and nothing else.
+
+    python3 tools/check/manual.py
+"""
+import argparse
+import os
+import re
+import subprocess
+import sys
+import tempfile
+
+import folders  # noqa: F401
+import machine
+from lines import lines_of_command, read
+from program import ROOT, parsed
+from prompt.guide import MANUAL, sections
+
+COMMAND = re.compile(r"\d*> .*")
+
+
+def examples_of(blocks):
+    """The commands and replies of some blocks, as texts."""
+    examples = []
+    for block in blocks:
+        lines = block.splitlines()
+        for command, reply in zip(lines[::2], lines[1::2], strict=True):
+            if not COMMAND.fullmatch(command):
+                sys.exit("manual: a command must begin with >: " + command)
+            examples.append((command, reply))
+    return examples
+
+
+def typed_of(blocks):
+    """What is typed in some blocks, and what is printed, as texts."""
+    return [tuple(one.partition("\n")[::2]) for block in blocks for one in re.split(r"(?m)^\$ ", block)[1:]]
+
+
+def replies(output):
+    """The replies of printed lines, without their sessions."""
+    return [read(line).partition(" ")[2] for line in output.decode().splitlines()]
+
+
+def sent(program, examples):
+    """For each example what was sent, what is written of it, and what docd and the model say."""
+    lines = [line for number, (asked, _) in enumerate(examples, 1) for line in lines_of_command(number, asked, "t")]
+    script = "".join(line + "\n" for line in lines).encode()
+    done = subprocess.run([program, "run", "--hex"], input=script, capture_output=True, timeout=60)
+    said, modelled = replies(done.stdout), replies(machine.run(script)[0])
+    said += ["nothing"] * (len(examples) - len(said))
+    for (asked, reply), by_docd, by_model in zip(examples, said, modelled, strict=True):
+        yield asked, reply, by_docd, by_model
+
+
+def typed(program, examples):
+    """For each line that is typed what is written of it, and what is printed."""
+    with tempfile.TemporaryDirectory() as folder:
+        os.symlink(os.path.abspath(program), os.path.join(folder, "docd"))
+        for name in "tools", "examples":
+            os.symlink(os.path.join(ROOT, name), os.path.join(folder, name))
+        for words, written in examples:
+            done = subprocess.run(["sh", "-c", words], cwd=folder, stdin=subprocess.DEVNULL, stdout=subprocess.PIPE,
+                                  stderr=subprocess.STDOUT, timeout=60)
+            yield words, written, done.stdout.decode()
+
+
+def main():
+    options = argparse.ArgumentParser(description=__doc__, formatter_class=argparse.RawDescriptionHelpFormatter)
+    given = parsed(options, "manual")
+    right, wrong = 0, 0
+    with open(MANUAL, encoding="utf-8") as file:
+        text = file.read()
+    for heading, blocks in sections(text):
+        in_shell = [block for block in blocks if block.startswith("$ ")]
+        outcomes = [*sent(given.program, examples_of(block for block in blocks if block not in in_shell)),
+                    *typed(given.program, typed_of(in_shell))]
+        for asked, written, *said in outcomes:
+            if all(one == written for one in said):
+                right += 1
+                continue
+            wrong += 1
+            print("manual: %s\n    %s\n    written: %s" % (heading, asked, written))
+            for who, one in zip(("docd", "the model"), said):
+                print("    %s: %s" % (who, one))
+    print("%d right, %d wrong" % (right, wrong))
+    return 1 if wrong else 0
+
+
+if __name__ == "__main__":
+    sys.exit(main())

@@ -1,0 +1,188 @@
+#!/usr/bin/python3
+"""Tries the wrong bodies in planted/CRATE/NAME.edit: the prover has to refuse each of them.
+
+They have the form of the edits in crates/*/must-fail, which each gate tries, and are tried by the same engine, that of the
+kit's `rt must-fail`, over the work that the crate's last proof kept. Whoever changes a crate runs this for that crate.
+
+Edits of different functions are planted together, and each has to leave a goal of its own function open; one whose function
+has none is tried once more, alone. It prints what refused each, and ends with 1 where one wasn't refused, or can't be
+applied any more.
+
+    tools/check/planted.py                        all crates, lowest first
+    tools/check/planted.py dv_coll dv_index       these
+    tools/check/planted.py --alone dv_coll        each edit alone
+    tools/check/planted.py --list                 only lists what the gate tries
+"""
+import argparse
+import os
+import pathlib
+import re
+import shutil
+import sys
+import tempfile
+from collections import namedtuple
+
+import folders  # noqa: F401
+from kit import part
+
+ROOT = pathlib.Path(__file__).resolve().parent.parent.parent
+FUNCTION = re.compile(r"\s*(?:pub(?:\(\w+\))? )?(?:const )?(?:unsafe )?fn (\w+)")
+OPEN_GOAL = re.compile(r"note: (src/\S+\.rt):(\d+):\d+: it is not proved (.*)")
+
+# An edit: its file, the texts of the crate's files with it, and the functions that it changes, each as a file and the line
+# that the function begins at.
+Edit = namedtuple("Edit", "path pairs functions")
+
+
+def pairs_of(path):
+    """The (file, old text, new text) of an edit, in order."""
+    found, file, old = [], None, None
+    for line in path.read_text().split("\n"):
+        if line.startswith("file: "):
+            file = line[len("file: "):].strip()
+        elif line.startswith("old: "):
+            old = line[len("old: "):]
+        elif line.startswith("new:"):
+            found.append((file, old, line[len("new:"):].removeprefix(" ")))
+    return found
+
+
+def function_at(text, line):
+    """The line, from 1, of the function around a line of a file's text, or 0."""
+    lines = text.split("\n")[:line]
+    return next((at + 1 for at in reversed(range(len(lines))) if FUNCTION.match(lines[at])), 0)
+
+
+def read_edit(path, crate):
+    """The edit, or None where one of its texts doesn't stand once in its file."""
+    texts, functions = {}, set()
+    for file, old, new in pairs_of(path):
+        source = pathlib.Path(crate.folder, file)
+        if file not in texts and not source.is_file():
+            return None
+        text = texts.setdefault(file, source.read_text())
+        if text.count(old) != 1:
+            return None
+        functions.add((file, function_at(text, text[:text.index(old)].count("\n") + 1)))
+        texts[file] = text.replace(old, new)
+    return Edit(path, pairs_of(path), functions)
+
+
+def planted_together(edits):
+    """Parts of the edits, so that no two of a part change the same function."""
+    parts = []
+    for edit in edits:
+        part = next((it for it in parts if not any(edit.functions & other.functions for other in it)), None)
+        if part is None:
+            parts.append(part := [])
+        part.append(edit)
+    return parts
+
+
+def texts_with(edits, crate):
+    """The texts of the crate's files with all these edits, or None where one is in another's way."""
+    texts = {}
+    for edit in edits:
+        for file, old, new in edit.pairs:
+            text = texts.setdefault(file, pathlib.Path(crate.folder, file).read_text())
+            if text.count(old) != 1:
+                return None
+            texts[file] = text.replace(old, new)
+    return texts
+
+
+def refusals(engine, crate, edits, kept, jobs):
+    """For each of these edits, planted together, why it is refused; one that is missing has to be tried alone."""
+    texts = texts_with(edits, crate)
+    if texts is None or len(edits) < 2:
+        return {}
+    ran = engine.checked(crate, texts, ["--jobs", str(jobs)], kept)
+    if any(engine.unread(line, texts) for line in ran.stdout.split("\n")):
+        return {}
+    goals = {}
+    for file, line, said in OPEN_GOAL.findall(ran.stdout):
+        text = texts.get(file) or pathlib.Path(crate.folder, file).read_text()
+        goals.setdefault((file, function_at(text, int(line))), said)
+    found = {edit.path: next((goals[it] for it in sorted(edit.functions) if it in goals), None) for edit in edits}
+    return {path: said for path, said in found.items() if said}
+
+
+def refused_by(engine):
+    """What the engine answers for an edit that is refused: a word of its own, or True where its kit has none."""
+    return [getattr(engine, it) for it in ("REFUSED", "AT_LIMIT") if hasattr(engine, it)] or [True]
+
+
+def try_crate(engine, crate, edits, alone, jobs):
+    """Tries a crate's edits, and returns how many weren't refused."""
+    failed, refused = 0, refused_by(engine)
+    with tempfile.TemporaryDirectory(prefix="planted-") as room:
+        kept = os.path.join(room, "kept")
+        if crate.has_kept():
+            shutil.copytree(f"{crate.folder}/out/incremental", kept)
+        else:
+            os.mkdir(kept)
+        said = {}
+        for part in [] if alone else planted_together(edits):
+            said.update(refusals(engine, crate, part, kept, jobs))
+        for edit in edits:
+            if edit.path in said:
+                print(f"{crate.name}/{edit.path.stem}: refused, together with others: it is not proved {said[edit.path]}", flush=True)
+                continue
+            outcome, told = engine.must_fail(crate, str(edit.path), ["--jobs", str(jobs)], kept)
+            failed += outcome not in refused
+            print(told.removeprefix("must-fail ").replace(".edit:", ":", 1), flush=True)
+    return failed
+
+
+def planted(crate):
+    return sorted((ROOT / "planted" / crate.name).glob("*.edit"))
+
+
+def listed(crates):
+    """The edits that the gate tries, by name, as lines of a list."""
+    for crate in crates:
+        of_gate = [it.stem.replace("_", " ") for it in sorted(pathlib.Path(crate.folder, "must-fail").glob("*.edit"))]
+        if of_gate:
+            yield f"- `{crate.name}`: " + "; ".join(of_gate)
+
+
+def main():
+    words = argparse.ArgumentParser(description=__doc__, formatter_class=argparse.RawDescriptionHelpFormatter)
+    words.add_argument("crates", nargs="*", metavar="CRATE")
+    words.add_argument("--alone", action="store_true", help="try each edit by itself, which takes longer")
+    words.add_argument("--list", action="store_true", help="only list the edits of the gate")
+    words.add_argument("--jobs", type=int, default=2, help="processors for a check")
+    given = words.parse_args()
+    engine = part("rt") or sys.exit("planted: the command `rt` is not found: put the folder bin of the Rattle kit on the PATH")
+    crates = engine.rtlib.crates_below(str(ROOT))
+    unknown = set(given.crates) - {it.name for it in crates}
+    if unknown:
+        sys.exit(f"planted: there is no crate {', '.join(sorted(unknown))}: crates.txt lists them")
+    crates = [it for it in crates if not given.crates or it.name in given.crates]
+    if given.list:
+        print("\n".join(listed(crates)))
+        return 0
+    os.chdir(ROOT)
+    tried = failed = 0
+    for crate in crates:
+        paths = planted(crate)
+        edits = [read_edit(it, crate) for it in paths]
+        for path in [path for path, edit in zip(paths, edits) if edit is None]:
+            print(f"{crate.name}/{path.stem}: BAD EDIT: a text that it replaces is not in its file exactly once", flush=True)
+            failed += 1
+        edits = [it for it in edits if it]
+        if not edits:
+            continue
+        held = engine.rtlib.lock([*crate.below(), crate])
+        if any(it.build_rlib(["--jobs", str(given.jobs)], anew=False) for it in crate.below()):
+            sys.exit(f"planted: a crate that {crate.name} uses is not proved: prove it first (rt check in its folder)")
+        failed += try_crate(engine, crate, edits, given.alone, given.jobs)
+        tried += len(edits)
+        for it in held:
+            os.close(it)
+    print(f"{tried} edits tried, {failed} not refused")
+    return 1 if failed else 0
+
+
+if __name__ == "__main__":
+    sys.exit(main())

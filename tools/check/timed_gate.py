@@ -1,0 +1,162 @@
+#!/usr/bin/python3
+"""Runs `rt ci`, the gate without what needs no proof, and notes how much processor time the proof of each crate, with that of its tests, and its edits took: in
+tools/proof_seconds.txt, from which tools/build.py forecasts, and from there in the table of docs/GATE.md. It is to run alone
+on the machine, or the figures are too high. A gate that fails notes nothing.
+
+What the gate says goes to its own standard output as it comes. Needs Linux, which tells in /proc what a process and its
+children took; it is looked at each second, so that at most the last second of a process is lost.
+
+    tools/check/timed_gate.py > /tmp/gate.txt
+    tools/check/timed_gate.py --table             only writes the table anew, with the lines that the crates have now
+"""
+import os
+import pathlib
+import re
+import resource
+import subprocess
+import sys
+import time
+from collections import Counter, namedtuple
+
+ROOT = pathlib.Path(__file__).resolve().parent.parent.parent
+A_LOOK = 1  # seconds from one look at the processes to the next
+TICKS = os.sysconf("SC_CLK_TCK")
+EDITS, TESTS, PROOF = "edits", "tests", "proof"
+TAKES_EDITS = "rt-edits-"  # in the words of a check of an edit: the folder in which a crate's edits share their work
+SECONDS = ROOT / "tools" / "proof_seconds.txt"
+PAGE = ROOT / "docs" / "GATE.md"
+LINE = "| `%s` | %s | %s | %s | %s | %s | %s |"
+HEAD = ["| Crate | Code | Definitions | Proofs | Proof | Edits | Their time |", "|---|---:|---:|---:|---:|---:|---:|"]
+
+# A process: its parent, when it began, the seconds that it took, and those that its ended children took.
+Process = namedtuple("Process", "parent began own ended")
+
+
+def processes():
+    """All processes by number."""
+    found = {}
+    for number in filter(str.isdigit, os.listdir("/proc")):
+        try:
+            told = pathlib.Path("/proc", number, "stat").read_text().rpartition(")")[2].split()
+        except OSError:
+            continue  # it has ended meanwhile
+        user, system, ended_user, ended_system = (int(it) / TICKS for it in told[11:15])
+        found[int(number)] = Process(int(told[1]), int(told[19]), user + system, ended_user + ended_system)
+    return found
+
+
+def words_of(number):
+    try:
+        return pathlib.Path("/proc", str(number), "cmdline").read_text(errors="replace").split("\0")
+    except OSError:
+        return []
+
+
+def task_of(words):
+    """The crate and the part of the gate that a check of these words is for, or None."""
+    if "--crate-name" not in words:
+        return None
+    crate = words[words.index("--crate-name") + 1]
+    if any(TAKES_EDITS in it for it in words):
+        return crate, EDITS
+    return crate, TESTS if "--test" in words else PROOF
+
+
+class Looks:
+    """What was seen of the processes that a gate started."""
+
+    def __init__(self, gate):
+        self.gate, self.tasks, self.seconds = gate, {}, {}
+
+    def look(self):
+        """Notes what each of the gate's children took up to now, those that it started in turn among it."""
+        seen = processes()
+        below = {}
+        for number, process in seen.items():
+            below.setdefault(process.parent, []).append(number)
+        for child in below.get(self.gate, []):
+            key = child, seen[child].began
+            task = task_of(words_of(child))
+            if task:
+                self.tasks[key] = task
+            self.seconds[key] = max(self.seconds.get(key, 0), taken(child, seen, below))
+
+    def by_task(self):
+        """The seconds of each crate's proof, tests and edits; what belongs to none stands under None."""
+        sums = Counter()
+        for key, seconds in self.seconds.items():
+            sums[self.tasks.get(key)] += seconds
+        return sums
+
+
+def taken(number, seen, below):
+    """The processor seconds of a process and of all that it started."""
+    return seen[number].own + seen[number].ended + sum(taken(it, seen, below) for it in below.get(number, []))
+
+
+def lines_in(crate, part):
+    """How many lines that aren't empty stand below a folder of a crate."""
+    files = [it for it in (ROOT / "crates" / crate / part).rglob("*") if it.suffix in (".rt", ".antt")]
+    return sum(1 for it in files for line in it.read_text().splitlines() if line.strip())
+
+
+def names():
+    """The crates, as crates.txt lists them."""
+    return [it.split(":")[0].split()[0] for it in (ROOT / "crates.txt").read_text().splitlines() if it and it[0] != "#"]
+
+
+def known():
+    """The seconds of each crate's proof and of its edits, as they are noted."""
+    lines = SECONDS.read_text().splitlines() if SECONDS.exists() else []
+    return {name: (int(proof), int(edits)) for name, proof, edits in map(str.split, lines)}
+
+
+def note(sums):
+    """Notes the seconds of a gate. A crate that it took over from an earlier run, and so didn't prove, keeps its figures."""
+    figures = known()
+    for name in names():
+        if sums[name, PROOF]:
+            figures[name] = round(sums[name, PROOF] + sums[name, TESTS]), round(sums[name, EDITS])
+    SECONDS.write_text("".join("%s %d %d\n" % (name, *figures[name]) for name in names() if name in figures))
+
+
+def table():
+    """The lines of the table."""
+    yield from HEAD
+    for name in names():
+        proof, edits_time = known().get(name, (0, 0))
+        edits = len(list((ROOT / "crates" / name / "must-fail").glob("*.edit")))
+        counts = [lines_in(name, part) for part in ("src", "specs", "proofs")] + [proof, edits, edits_time]
+        yield LINE % (name, *(it or "" for it in counts))
+
+
+def write_table():
+    """Puts the table into the page in the place of the one there."""
+    rows = re.compile(re.escape(HEAD[0]) + r"\n(\|.*\n)+")
+    PAGE.write_text(rows.sub(lambda _: "\n".join(table()) + "\n", PAGE.read_text()))
+
+
+def main():
+    if "--table" in sys.argv[1:]:
+        return write_table()
+    start = time.monotonic()
+    gate = subprocess.Popen(["rt", "ci"], cwd=ROOT)
+    looks = Looks(gate.pid)
+    while gate.poll() is None:
+        looks.look()
+        time.sleep(A_LOOK)
+    used = resource.getrusage(resource.RUSAGE_CHILDREN)
+    sums = looks.by_task()
+    if not gate.returncode:
+        note(sums)
+        write_table()
+    by_part = Counter()
+    for task, seconds in sums.items():
+        by_part[task[1] if task else "other"] += seconds
+    print("processor minutes: " + ", ".join("%s %.1f" % (part, seconds / 60) for part, seconds in sorted(by_part.items())))
+    print("the gate took %.1f minutes and %.1f processor minutes" % ((time.monotonic() - start) / 60, (used.ru_utime + used.ru_stime) / 60))
+    return gate.returncode
+
+
+if __name__ == "__main__":
+    sys.exit(main())
