@@ -5,7 +5,7 @@ use Rattle.std.proofs.lemmas.List.{length-append, length_push}
 use Rattle.dv_value.specs.declared.kind.Kind.{Kind}
 use Rattle.dv_value.specs.declared.kind.Kind.TheVariants as kinds
 use Rattle.dv_value.specs.Tree.{Tree, int32, int64, string, document, array, boolean, binary, object_id, date, null, timestamp, min_key, max_key, Fields, Elements, Field, fields_of, list_of_fields, elements_of, list_of_elements}
-use Rattle.dv_value.specs.Spelled.{length-counted, length-framed, length-tagged}
+use Rattle.dv_value.specs.Inner.Spelled.{length-counted, length-framed, length-tagged}
 use Rattle.dv_value.specs.Spelling.{type_byte, kind_of, framed, counted, element_spelling, payload, fields_spelling, elements_spelling, IsValue, levels, fields_levels, elements_levels}
 use Rattle.dv_bson.specs.Reading.{Inside, Frame, kind_at, name_at, text_at, frame_at, value_at, fields_at, body_at}
 use Rattle.dv_value.specs.Results.{◌>>=◌}
@@ -14,7 +14,7 @@ use Rattle.dv_bson.proofs.Numbers.{wide32, wide64, first_again, signed_again}
 use Rattle.dv_bson.proofs.Binaries.{binary_again}
 use Rattle.dv_bson.proofs.Names.{kind_again}
 use Rattle.dv_bson.proofs.Frames.{text_again, frame_again, framed_value}
-use Rattle.dv_bson.specs.Parts.{numbered}
+use Rattle.dv_bson.specs.Inner.Parts.{numbered}
 use Rattle.dv_bson.proofs.Fields.{name_again, AreRead, AreRead-fields, AreRead-elements, values, values-numbered, elements_spelling-from_read, elements_levels-values, fields_of-list_of_fields, elements_of-list_of_elements}
 
 -- elements of fewer than k levels are read again

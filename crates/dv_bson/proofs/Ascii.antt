@@ -8,7 +8,7 @@ use Rattle.std.proofs.lemmas.List.{get_or-take, get_or_past, length-take-le}
 use Rattle.std.proofs.lemmas.List.Sums.{position_or_len_is}
 use Rattle.std.proofs.lemmas.List.Quantifiers.{position-Some}
 use Rattle.std.proofs.lemmas.Str.{IsUtf8-from_ascii, is_utf8-from_IsUtf8}
-use Rattle.dv_bson.specs.Parts.{any_name_at}
+use Rattle.dv_bson.specs.Inner.Parts.{any_name_at}
 use Rattle.dv_bson.proofs.Fronts.{cut_some}
 
 abbrev pub is_end : ℕ → Bool

@@ -5,7 +5,7 @@ use Rattle.std.proofs.lemmas.List.{take_at, length-append, length-take, length-d
 use Rattle.dv_value.specs.declared.fault.BsonFault.{BsonFault}
 use Rattle.dv_value.specs.declared.fault.BsonFault.TheVariants.{BadLength, Truncated, TooLarge}
 use Rattle.dv_value.specs.Tree.{Field, fields_of}
-use Rattle.dv_value.specs.Spelled.{length-framed}
+use Rattle.dv_value.specs.Inner.Spelled.{length-framed}
 use Rattle.dv_value.specs.Spelling.{framed, payload, fields_spelling, elements_spelling, fields_levels, spelling, IsBytes, Spells, Fits}
 use Rattle.dv_bson.specs.Reading.{count_at, Frame, frame_of, body_at, outermost_of, document_at, fault_of, first_fault}
 use Rattle.dv_value.specs.Results.{◌>>=◌}

@@ -7,7 +7,7 @@ use Rattle.dv_value.specs.View.{tree}
 use Rattle.dv_value.specs.Names.{has_name, has_zero}
 use Rattle.dv_bson.specs.Reading.{name_at, value_at, Frame, frame_at, Inside}
 use Rattle.dv_value.specs.Results.{◌>>=◌}
-use Rattle.dv_bson.specs.Parts.{with_name, front_kind_at, field_at, numbered}
+use Rattle.dv_bson.specs.Inner.Parts.{with_name, front_kind_at, field_at, numbered}
 use Rattle.dv_bson.proofs.Steps.{bind_ok, ok_is}
 use Rattle.dv_bson.proofs.Fields.{name_takes, values-numbered}
 

@@ -12,7 +12,7 @@ use Rattle.dv_value.specs.Tree.{Tree, Fields, no_fields, field, Elements, no_ele
 use Rattle.dv_value.specs.Names.{has_name, has_zero}
 use Rattle.dv_value.specs.Spelling.{kind_of, element_spelling, payload, fields_spelling, elements_spelling, IsValue, AreFields, AreElements, levels, fields_levels, elements_levels}
 use Rattle.dv_bson.specs.Reading.{cut_at_zero, checked_name, named_by, name_at}
-use Rattle.dv_bson.specs.Parts.{numbered}
+use Rattle.dv_bson.specs.Inner.Parts.{numbered}
 use Rattle.dv_bson.proofs.Steps.{passed, refused_not, given, ok_is}
 use Rattle.dv_bson.proofs.Names.{cut_takes, cut_again}
 

@@ -17,7 +17,7 @@ use Rattle.dv_bson.specs.Reading.{cut_at_zero, onto_name, named_by, name_at}
 use Rattle.dv_value.specs.Results.{◌>>=◌}
 use Rattle.dv_bson.proofs.Names.{cut_again}
 use Rattle.dv_bson.proofs.Steps.{parted_at_zero}
-use Rattle.dv_bson.specs.Parts.{utf8_name, any_name_at, numbered}
+use Rattle.dv_bson.specs.Inner.Parts.{utf8_name, any_name_at, numbered}
 
 -- where the first zero is, as a front byte and the place behind it tell
 abbrev place_behind : Bool → ℕ → ℕ

@@ -9,7 +9,7 @@ use Rattle.dv_bson.specs.declared.fault.ReadError.TheVariants as errors
 use Rattle.dv_value.specs.Tree.{Tree, Field}
 use Rattle.dv_bson.specs.Reading.{Fails, kind_at, name_at, value_at, Inside, closed_by, fields_at, body_at}
 use Rattle.dv_value.specs.Results.{◌>>=◌}
-use Rattle.dv_bson.specs.Parts.{with_rest, front_kind_at, field_at}
+use Rattle.dv_bson.specs.Inner.Parts.{with_rest, front_kind_at, field_at}
 use Rattle.dv_bson.proofs.Shorter.{field_leaves}
 
 -- ---- a turn reads an element

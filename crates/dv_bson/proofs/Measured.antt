@@ -2,7 +2,7 @@
 use Rattle.std.proofs.Common.{◌≡◌, ℕ, ◌+◌, ◌≤◌, false, List, [], length, Ok, ap, arith}
 use Rattle.dv_value.specs.Measure.{IsMeasure}
 use Rattle.dv_bson.specs.Reading.{body_at}
-use Rattle.dv_value.specs.Spelled.{length-document}
+use Rattle.dv_value.specs.Inner.Spelled.{length-document}
 use Rattle.dv_value.specs.Spelling.{IsBytes}
 use Rattle.dv_value.specs.Tree.{Field, fields_of}
 use Rattle.dv_bson.proofs.Fields.{AreFields-from_read}

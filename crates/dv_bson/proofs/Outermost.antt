@@ -7,7 +7,7 @@ use Rattle.dv_bson.specs.declared.fault.ReadError.{ReadError}
 use Rattle.dv_bson.specs.declared.fault.ReadError.TheVariants as errors
 use Rattle.dv_bson.specs.Reading.{Fails, count_at, Frame, frame_of, body_at, outermost_of, document_at, first_fault, fault_of}
 use Rattle.dv_value.specs.Results.{◌>>=◌}
-use Rattle.dv_bson.specs.Parts.{outermost_frame, outermost_frame_at, public_fault}
+use Rattle.dv_bson.specs.Inner.Parts.{outermost_frame, outermost_frame_at, public_fault}
 use Rattle.dv_value.specs.Spelling.{Spells, Fits}
 use Rattle.dv_value.specs.Tree.{Field}
 use Rattle.dv_bson.proofs.Both.{document_again}

@@ -2,7 +2,7 @@
 use Rattle.std.proofs.Common.{◌≡◌, ℕ, zero, suc, ◌+◌, ◌≤◌, List, [], ◌∷◌, ◌++◌, length, drop, Some, decimal, length-append, add-one, sym, ap, ◌∙◌, arith}
 use Rattle.std.specs.List.{slice_get}
 use Rattle.dv_value.specs.Tree.{Tree, Field, fields_of, elements_of}
-use Rattle.dv_value.specs.Spelled.{fields_spelling-field, elements_spelling-element, length-element_spelling}
+use Rattle.dv_value.specs.Inner.Spelled.{fields_spelling-field, elements_spelling-element, length-element_spelling}
 use Rattle.dv_value.specs.Spelling.{kind_of, element_spelling, payload, fields_spelling, elements_spelling}
 use Rattle.dv_bson.proofs.Items.{drop_item}
 

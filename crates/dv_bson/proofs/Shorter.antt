@@ -12,7 +12,7 @@ use Rattle.dv_value.specs.declared.fault.BsonFault.TheVariants.{BadLength, BadUt
 use Rattle.dv_value.specs.Tree.{Tree, int32, int64, string, document, array, object_id, date, timestamp, Field, fields_of, elements_of}
 use Rattle.dv_bson.specs.Reading.{name_at, counted_at, count_at, text_at, Frame, frame_of, framed_at, frame_at, boolean_at, first_bytes, tagged_at, binary_at, value_at, kind_at, Inside}
 use Rattle.dv_value.specs.Results.{◌>>=◌}
-use Rattle.dv_bson.specs.Parts.{with_rest, front_kind_at, field_at}
+use Rattle.dv_bson.specs.Inner.Parts.{with_rest, front_kind_at, field_at}
 use Rattle.dv_bson.proofs.Steps.{refused_not, given, ok_is}
 use Rattle.dv_bson.proofs.Fields.{name_takes}
 

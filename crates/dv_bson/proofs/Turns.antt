@@ -7,7 +7,7 @@ use Rattle.dv_bson.specs.declared.fault.ReadError.TheVariants as errors
 use Rattle.dv_value.specs.Tree.{Tree, Field}
 use Rattle.dv_bson.specs.Reading.{Fails, Gives, name_at, value_at, Inside}
 use Rattle.dv_value.specs.Results.{◌>>=◌}
-use Rattle.dv_bson.specs.Parts.{GivesPart, front_kind_at, field_at}
+use Rattle.dv_bson.specs.Inner.Parts.{GivesPart, front_kind_at, field_at}
 
 fails_first : {A B : Type 0} (e : ReadError) (r : Result A BsonFault) (f : A → Result B BsonFault) → Fails e r → Fails e (r >>= f)
 fails_first errors.Memory r f failed = tt

@@ -5,7 +5,7 @@ use Rattle.dv_value.specs.declared.fault.BsonFault.{BsonFault}
 use Rattle.dv_bson.specs.declared.fault.ReadError.{ReadError}
 use Rattle.dv_value.specs.declared.kind.Kind.TheVariants as kinds
 use Rattle.dv_value.specs.Names.{bare, has_name, has_zero}
-use Rattle.dv_bson.specs.Parts.{Passes, field_at}
+use Rattle.dv_bson.specs.Inner.Parts.{Passes, field_at}
 use Rattle.dv_bson.specs.Reading.{Fails, Gives, Frame, Inside, frame_at, text_at, binary_at, value_at, fields_at}
 use Rattle.dv_value.specs.Results.{◌>>=◌}
 use Rattle.dv_value.specs.Tree.{Tree, string, array, document, null, min_key, max_key, Field, fields_of, elements_of}

@@ -5,7 +5,7 @@ use Rattle.std.specs.Int.{w32, to_le_bytes}
 use Rattle.std.proofs.lemmas.List.{append-nil, length-take-le, length-replicate, take_all, take_at, take-take, take-append-drop, take-append-le, drop_all, drop_at, drop-drop}
 use Rattle.dv_value.specs.declared.kind.Kind.{Kind}
 use Rattle.dv_value.specs.Spelling.{type_byte, framed, counted, tagged, element_spelling}
-use Rattle.dv_bson.specs.Writing.{with_bytes_at, IsPut}
+use Rattle.dv_bson.specs.Inner.Writing.{with_bytes_at, IsPut}
 use Rattle.dv_bson.proofs.Numbers.{wide32}
 
 parts_front : (p a rest : List ℕ) (n : ℕ) → n ≡ length p + length a → take n (p ++ (a ++ rest)) ≡ p ++ a

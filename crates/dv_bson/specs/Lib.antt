@@ -1,3 +1,3 @@
 pub mod Reading
-pub mod Parts
-pub mod Writing
+-- what only bodies and proofs need
+pub mod Inner

@@ -32,7 +32,7 @@ impl<T: Drop> From<AllocFailed<T>> for ReadError {
 }
 
 impl From<ReadError> for BsonFault {
-    ghost use Rattle.dv_bson.specs.Parts.{public_fault};
+    ghost use Rattle.dv_bson.specs.Inner.Parts.{public_fault};
 
     ghost from_gives = { λ e fault. fault ≡ public_fault e };
 

@@ -5,7 +5,7 @@ ghost use Rattle.dv_value.specs.Tree.{Field};
 ghost use Rattle.dv_value.specs.View.{tree};
 ghost use Rattle.dv_value.specs.Spelling.{Spells, Fits};
 ghost use Rattle.dv_bson.specs.Reading.{Gives, value_at, closed_by, body_at, document_at, first_fault};
-ghost use Rattle.dv_bson.specs.Parts.{field_at, numbered};
+ghost use Rattle.dv_bson.specs.Inner.Parts.{field_at, numbered};
 
 use crate::fault::ReadError;
 use crate::reading::{
@@ -76,7 +76,7 @@ fn value_of<'a>(
 
 /// The name and the value of the field at the front, behind those of `before`, and the bytes behind it.
 #[cycle(reader)]
-#[tactic(auto, unfolding(crate::specs::Parts::field_at))]
+#[tactic(auto, unfolding(crate::specs::Inner::Parts::field_at))]
 fn field_of<'a>(
     alloc: Global,
     levels: u32,
@@ -99,7 +99,7 @@ fn field_of<'a>(
 
 /// The element at the front of an array's rest, behind those of `before`, and the bytes behind it.
 #[cycle(reader)]
-#[tactic(auto, unfolding(crate::specs::Parts::field_at))]
+#[tactic(auto, unfolding(crate::specs::Inner::Parts::field_at))]
 fn element_of<'a>(
     alloc: Global,
     levels: u32,

@@ -7,7 +7,7 @@ ghost use Rattle.std.specs.Str.{is_utf8};
 ghost use Rattle.dv_value.specs.Tree.{Field, int32, int64, binary, object_id, date, timestamp};
 ghost use Rattle.dv_value.specs.View.{tree};
 ghost use Rattle.dv_bson.specs.Reading.{Gives, count_at, kind_of_byte, kind_at, cut_at_zero, name_at, text_at, frame_of, frame_at, boolean_at, first_bytes, signed_at, binary_at};
-ghost use Rattle.dv_bson.specs.Parts.{front_kind_at, any_name_at, outermost_frame_at};
+ghost use Rattle.dv_bson.specs.Inner.Parts.{front_kind_at, any_name_at, outermost_frame_at};
 
 use crate::fault::ReadError;
 use dv_value::{BsonFault, Bytes, Fields, Kind, MAX_DOCUMENT_LEN, Names, Str, Value};
@@ -83,7 +83,7 @@ pub(crate) fn kind_of(byte: u8, at: usize) -> Result<Kind, ReadError>
 
 /// The type of the element at the front, which stands at `at` in the outermost document, and the bytes
 /// behind its type byte.
-#[tactic(auto, unfolding(crate::specs::Parts::front_kind_at))]
+#[tactic(auto, unfolding(crate::specs::Inner::Parts::front_kind_at))]
 pub(crate) fn front_kind_of(bytes: &[u8], at: usize) -> Result<(Kind, &[u8]), ReadError>
     ensures { Gives (λ x. (x.0, x.1.now)) result (front_kind_at at bytes.now) }
 {
@@ -139,7 +139,7 @@ fn ascii_name_of(bytes: &[u8]) -> Option<(&str, &[u8])>
 }
 
 /// A name, and the bytes behind its closing zero.
-#[tactic(auto, unfolding(crate::specs::Parts::any_name_at))]
+#[tactic(auto, unfolding(crate::specs::Inner::Parts::any_name_at))]
 fn name_of(bytes: &[u8]) -> Result<(&str, &[u8]), ReadError>
     ensures { Gives (λ x. (x.0.now, x.1.now)) result (any_name_at bytes.now) }
 {
@@ -261,7 +261,7 @@ pub(crate) fn frame_of(bytes: &[u8]) -> Result<Frame<'_>, ReadError>
 }
 
 /// The outermost document at the front, as its length frames it, and its length.
-#[tactic(auto, unfolding(crate::specs::Parts::outermost_frame_at))]
+#[tactic(auto, unfolding(crate::specs::Inner::Parts::outermost_frame_at))]
 pub(crate) fn outermost_frame_of(bytes: &[u8]) -> Result<(Frame<'_>, usize), ReadError>
     ensures frame { Gives (λ x. (record { elements = x.0.elements.now; last = x.0.last; rest = x.0.rest.now }, x.1)) result (outermost_frame_at bytes.now) }
     ensures short { IfOk result (λ x. 4 + length x.0.elements.now < 16777216) }

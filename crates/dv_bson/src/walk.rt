@@ -5,7 +5,7 @@ ghost use Rattle.dv_value.specs.Tree.{Field};
 ghost use Rattle.dv_value.specs.View.{tree};
 ghost use Rattle.dv_value.specs.Spelling.{Spells, Fits};
 ghost use Rattle.dv_bson.specs.Reading.{value_at, body_at, document_at, first_fault};
-ghost use Rattle.dv_bson.specs.Parts.{GivesPart, Passes, EndsAs, field_at};
+ghost use Rattle.dv_bson.specs.Inner.Parts.{GivesPart, Passes, EndsAs, field_at};
 
 use crate::fault::ReadError;
 use crate::reader::{closed, first_room};

@@ -5,7 +5,7 @@ ghost use Rattle.dv_value.specs.Tree.{fields_of, elements_of};
 ghost use Rattle.dv_value.specs.Tree as trees;
 ghost use Rattle.dv_value.specs.Spelling.{payload, spelling, framed, counted, tagged, element_spelling, kind_of, Spells};
 ghost use Rattle.dv_value.specs.View.{tree};
-ghost use Rattle.dv_bson.specs.Writing.{IsPut};
+ghost use Rattle.dv_bson.specs.Inner.Writing.{IsPut};
 
 use dv_value::{BsonFault, Document, List, Value, document_size};
 use itoa::Buffer;

@@ -16,7 +16,7 @@ use Rattle.dv_candidates.specs.declared.candidate.Candidate as memory
 use Rattle.dv_candidates.specs.declared.candidate.Candidate.TheVariants.{Found}
 use denote.Ref.{Bor}
 use Rattle.std.proofs.Math.Seq.{drop-cons}
-use Rattle.dv_candidates.specs.Fold.{Takes, Folded, PassesOne}
+use Rattle.dv_candidates.specs.Inner.Fold.{Takes, Folded, PassesOne}
 use Rattle.dv_candidates.proofs.Folds.{any-right}
 use Rattle.dv_candidates.proofs.Walks.{list_of_fields_of, list_of_elements_of}
 

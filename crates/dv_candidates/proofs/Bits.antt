@@ -5,7 +5,7 @@ use Rattle.std.proofs.lemmas.Nat.{one_shl, pow_pos}
 use Rattle.std.proofs.lemmas.Nat.Bits.{and_pow, bit_at_or, bit_at_lowest, bit_at-suc, bit_at-zero, bit_at-lt, bit_at_set_same, bit_at_set_other}
 use Rattle.std.specs.Int.{bit_at}
 use Rattle.dv_candidates.specs.declared.places.Places.{Places}
-use Rattle.dv_candidates.specs.Places.{has, follows, passes_at}
+use Rattle.dv_candidates.specs.Inner.Places.{has, follows, passes_at}
 
 -- the test of a bit, as code makes it
 pub tested : (mask place : ℕ) → place < 64 → not (nat_eq (bit_and mask (1 * 2 ^ place % 18446744073709551616)) 0) ≡ has (record { mask = mask }) place

@@ -4,7 +4,7 @@ use Rattle.std.specs.List.{list_any, flat_map, FoldsTo}
 use Rattle.std.proofs.lemmas.Bool.{or_cases, or_left, or_right}
 use Rattle.std.proofs.lemmas.List.Folds.{list_any-append}
 use Rattle.dv_candidates.specs.Candidates.{Candidate}
-use Rattle.dv_candidates.specs.Fold.{FoldsOver, StopsAmong, Folded}
+use Rattle.dv_candidates.specs.Inner.Fold.{FoldsOver, StopsAmong, Folded}
 
 -- a test of some item behind each of a list
 pub any-flat_map : {X Y : Type 0} (test : Y → Bool) (f : X → List Y) (xs : List X) → list_any test (flat_map f xs) ≡ list_any (λ x. list_any test (f x)) xs

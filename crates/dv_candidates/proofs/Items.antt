@@ -3,11 +3,12 @@ use Rattle.std.proofs.Common.{◌≡◌, ℕ, zero, suc, ◌+◌, ◌≤◌, ◌
 use Rattle.std.specs.Str.{bytes_eq}
 use Rattle.std.proofs.lemmas.Option.{slice_get_read, slice_get-map}
 use Rattle.dv_value.specs.declared.value.Value.{Value}
-use Rattle.dv_value.specs.Tree.{Tree, document, weight, Field, fields_of, fields_weight, elements_of, elements_weight}
+use Rattle.dv_value.specs.Tree.{Tree, document, Field, fields_of, elements_of}
+use Rattle.dv_value.specs.Inner.Tree.{weight, fields_weight, elements_weight}
 use Rattle.dv_value.specs.Names.{value_under}
 use Rattle.dv_value.specs.View.{tree}
-use Rattle.dv_value.specs.Weight as weights
-use Rattle.dv_candidates.specs.Places.{IsDocument}
+use Rattle.dv_value.specs.Inner.Weight as weights
+use Rattle.dv_candidates.specs.Inner.Places.{IsDocument}
 
 -- the default doesn't matter within a list
 pub get_or_any : {X : Type 0} (xs : List X) (place : ℕ) (x d : X) → place < length xs → x ≡ get_or xs place x → x ≡ get_or xs place d

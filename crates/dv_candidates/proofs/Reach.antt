@@ -7,7 +7,7 @@ use Rattle.dv_value.specs.Tree.{Tree, document, array, Fields, list_of_fields, E
 use Rattle.dv_value.specs.Names.{value_under}
 use Rattle.dv_candidates.specs.Path.{index_of}
 use Rattle.dv_candidates.specs.Candidates.{Candidate, entered, candidate_found, picked, step_from, candidates}
-use Rattle.dv_candidates.specs.Places.{passes_at, IsDocument}
+use Rattle.dv_candidates.specs.Inner.Places.{passes_at, IsDocument}
 use Rattle.dv_candidates.proofs.Folds.{any-cases, any-left, any-right, either}
 
 -- the component at a place

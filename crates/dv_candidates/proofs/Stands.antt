@@ -11,8 +11,8 @@ use Rattle.dv_value.specs.View.{tree}
 use Rattle.dv_candidates.specs.declared.onward.Stand.{Stand}
 use Rattle.dv_candidates.specs.declared.places.Places.{Places}
 use Rattle.dv_candidates.specs.Candidates.{Candidate}
-use Rattle.dv_candidates.specs.Onward.{StandsFor}
-use Rattle.dv_candidates.specs.Places.{has, HaveName, IsDocument, IsWithin, IsBefore, Reaches, ReachesElement}
+use Rattle.dv_candidates.specs.Inner.Onward.{StandsFor}
+use Rattle.dv_candidates.specs.Inner.Places.{has, HaveName, IsDocument, IsWithin, IsBefore, Reaches, ReachesElement}
 use Rattle.dv_candidates.proofs.Reach.{name_at, hits, hits-document}
 use Rattle.dv_candidates.proofs.Walks.{drop_behind, list_of_fields_of, one_less, one_more}
 use Rattle.dv_candidates.proofs.WalkedArrays.{element-whole, whole-below, below-none, below-more}

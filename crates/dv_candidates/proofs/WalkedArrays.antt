@@ -6,7 +6,7 @@ use Rattle.dv_value.specs.Tree.{Tree, array, elements_of}
 use Rattle.dv_candidates.specs.declared.places.Places.{Places}
 use Rattle.dv_candidates.specs.Path.{index_of}
 use Rattle.dv_candidates.specs.Candidates.{Candidate}
-use Rattle.dv_candidates.specs.Places.{has, picks, follows, IsWithin, IsBefore, IsDocument, Reaches, ReachesElement}
+use Rattle.dv_candidates.specs.Inner.Places.{has, picks, follows, IsWithin, IsBefore, IsDocument, Reaches, ReachesElement}
 use Rattle.dv_candidates.proofs.Bits.{none}
 use Rattle.dv_candidates.proofs.Reach.{name_at, hits, hits-array-to, hits-array-from}
 use Rattle.dv_candidates.proofs.Walks.{IsPart, drop_behind, list_of_elements_of, one_more, part-before, part-has, part-in, part-test, picks-from, picks-to}

@@ -13,8 +13,8 @@ use Rattle.dv_value.specs.Names.{value_under}
 use Rattle.dv_value.specs.View.{tree}
 use Rattle.dv_candidates.specs.declared.places.Places.{Places}
 use Rattle.dv_candidates.specs.Candidates.{Candidate, step_from, whole}
-use Rattle.dv_candidates.specs.Fold.{PassesOne}
-use Rattle.dv_candidates.specs.Places.{has, passes_at, picks, IsWithin, IsBefore, Reaches}
+use Rattle.dv_candidates.specs.Inner.Fold.{PassesOne}
+use Rattle.dv_candidates.specs.Inner.Places.{has, passes_at, picks, IsWithin, IsBefore, Reaches}
 use Rattle.dv_candidates.proofs.Bits.{none}
 use Rattle.dv_candidates.proofs.Reach.{name_at, passes_at-within, passes_at-before, hits, missing-hits, hits-document, hits-plain}
 

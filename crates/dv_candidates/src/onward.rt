@@ -1,11 +1,12 @@
 //! Going on where one way leads on: in a loop, since values may stand in one another thousands of levels deep.
 
 ghost use Rattle.std.specs.Prelude.{◌≡◌, ◌≤◌, ◌<◌, Some, IfSome, MatchOption};
-ghost use Rattle.dv_value.specs.Tree.{fields_of, fields_weight, elements_of, elements_weight, weight};
+ghost use Rattle.dv_value.specs.Tree.{fields_of, elements_of};
+ghost use Rattle.dv_value.specs.Inner.Tree.{fields_weight, elements_weight, weight};
 ghost use Rattle.dv_value.specs.Tree as trees;
 ghost use Rattle.dv_value.specs.View.{tree};
-ghost use Rattle.dv_candidates.specs.Onward.{StandsFor};
-ghost use Rattle.dv_candidates.specs.Places.{Reaches, ReachesElement, IsBefore, IsDocument, IsWithin};
+ghost use Rattle.dv_candidates.specs.Inner.Onward.{StandsFor};
+ghost use Rattle.dv_candidates.specs.Inner.Places.{Reaches, ReachesElement, IsBefore, IsDocument, IsWithin};
 
 use crate::component::Component;
 use crate::places::Places;

@@ -4,9 +4,9 @@ ghost use Rattle.std.specs.Prelude.{◌≡◌, ℕ, suc, ◌<◌, ◌==◌, ◌&
 ghost use Rattle.std.specs.Int.{bit_at};
 ghost use Rattle.std.specs.Option.{option_map};
 ghost use Rattle.std.specs.Str.{bytes_eq};
-ghost use Rattle.dv_candidates.specs.Fold.{Answers};
+ghost use Rattle.dv_candidates.specs.Inner.Fold.{Answers};
 ghost use Rattle.dv_candidates.specs.Path.{index_of};
-ghost use Rattle.dv_candidates.specs.Places.{has, passes_at, picks, follows, HaveName, IsBefore};
+ghost use Rattle.dv_candidates.specs.Inner.Places.{has, passes_at, picks, follows, HaveName, IsBefore};
 
 use crate::component::Component;
 

@@ -5,8 +5,8 @@ ghost use Rattle.dv_value.specs.Tree.{fields_of, elements_of};
 ghost use Rattle.dv_value.specs.Tree as trees;
 ghost use Rattle.dv_value.specs.View.{tree};
 ghost use Rattle.dv_candidates.specs.Candidates.{whole};
-ghost use Rattle.dv_candidates.specs.Fold.{Folded, PassesOne};
-ghost use Rattle.dv_candidates.specs.Places.{Reaches, ReachesElement, IsBefore, IsWithin};
+ghost use Rattle.dv_candidates.specs.Inner.Fold.{Folded, PassesOne};
+ghost use Rattle.dv_candidates.specs.Inner.Places.{Reaches, ReachesElement, IsBefore, IsWithin};
 ghost use Rattle.dv_candidates.specs.View.{seen};
 
 use crate::candidate::Candidate;

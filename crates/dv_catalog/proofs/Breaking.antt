@@ -8,8 +8,8 @@ use Rattle.dv_keyed.specs.Index.{IndexForm}
 use Rattle.dv_index.specs.Unique.{clashes, is_key_taken, replacing_clashes}
 use Rattle.dv_order.specs.Key.{KeyTree}
 use Rattle.dv_catalog.specs.Changes.{Change, Effect, Statement, breaks, done_to, gone, put, with_put}
-use Rattle.dv_catalog.specs.EffectLaws.{done_broken, done_refused, done_unbroken}
-use Rattle.dv_catalog.specs.EffectView.{ArePlaced}
+use Rattle.dv_catalog.specs.Inner.EffectLaws.{done_broken, done_refused, done_unbroken}
+use Rattle.dv_catalog.specs.Inner.EffectView.{ArePlaced}
 use Rattle.dv_catalog.specs.Effects.{put_new}
 use Rattle.dv_catalog.specs.State.{Collection}
 use Rattle.dv_catalog.proofs.Stopping.{put_replaced}

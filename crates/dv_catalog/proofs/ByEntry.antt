@@ -14,8 +14,8 @@ use Rattle.dv_keyed.specs.Index.{IndexForm, id_form}
 use Rattle.dv_index.specs.Indexed.{is_dropped, without_index}
 use Rattle.dv_index.specs.Unique.{are_broken}
 use Rattle.dv_catalog.specs.IndexMaking.{index_limit, unless_broken, with_all, with_entries, within_limit, without_named}
-use Rattle.dv_catalog.specs.IndexParts.{collection_so}
-use Rattle.dv_catalog.specs.Parts.{Leaves}
+use Rattle.dv_catalog.specs.Inner.IndexParts.{collection_so}
+use Rattle.dv_catalog.specs.Inner.Parts.{Leaves}
 use Rattle.dv_catalog.specs.State.{Collection}
 
 pub any_seen : {X : Type 0} (test : IndexForm → Bool) (form : X → IndexForm) (xs : List X) → list_any test (map form xs) ≡ list_any (λ x. test (form x)) xs

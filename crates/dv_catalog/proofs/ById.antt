@@ -13,14 +13,14 @@ use Rattle.dv_value.specs.Names.{value_under}
 use Rattle.dv_value.specs.Tree.{Tree, Field, array, fields_of, list_of_fields}
 use Rattle.dv_order.specs.Order.{canon}
 use Rattle.dv_order.specs.Key.{KeyTree, value, key_order}
-use Rattle.dv_order.specs.KeyLaws.{key_order_total}
+use Rattle.dv_order.specs.Inner.KeyLaws.{key_order_total}
 use Rattle.dv_candidates.specs.Candidates.{candidates, whole}
 use Rattle.dv_path.specs.declared.direction.Direction.{Direction}
 use Rattle.dv_path.specs.declared.direction.Direction.TheVariants.{Ascending, Descending}
 use Rattle.dv_path.specs.SortKey.{earliest, keys_of, sort_key, stands_first}
 use Rattle.dv_path.specs.SortSpec.{Part}
 use Rattle.dv_coll.specs.Collection.{HasId, IsAscending, IsNoArray, id_key}
-use Rattle.dv_index.specs.InDirection.{in_direction}
+use Rattle.dv_index.specs.Inner.InDirection.{in_direction}
 use Rattle.dv_keyed.specs.Choice.{same_path}
 use Rattle.dv_sort.specs.Sorting.{front, placed, stable, stands_before}
 

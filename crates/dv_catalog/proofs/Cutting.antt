@@ -5,9 +5,9 @@ use Rattle.dv_fields.specs.declared.refusal.Refusal.TheVariants.{WantOfMemory}
 use Rattle.dv_catalog.specs.declared.counted.Counted.{Counted}
 use Rattle.dv_catalog.specs.declared.stopped.Stopped.{Stopped}
 use Rattle.dv_catalog.specs.Changes.{Change, Effect, Statement, apply, changes_of, done_to}
-use Rattle.dv_catalog.specs.EffectView.{AreFirst}
+use Rattle.dv_catalog.specs.Inner.EffectView.{AreFirst}
 use Rattle.dv_catalog.specs.Marks.{AreMarkedBy, Marked}
-use Rattle.dv_catalog.specs.Parts.{Cuts, IsCut, IsRefused, StandBy}
+use Rattle.dv_catalog.specs.Inner.Parts.{Cuts, IsCut, IsRefused, StandBy}
 use Rattle.dv_catalog.specs.State.{Namespaces, collection_of, lists_of}
 use Rattle.dv_catalog.proofs.Marking.{stands_before, still_marked}
 use Rattle.dv_catalog.proofs.Stopping.{first_fewer, first_made, take_none}

@@ -11,8 +11,8 @@ use Rattle.dv_command.specs.Entries.{Deletion}
 use Rattle.dv_order.specs.Key.{KeyTree, key_order}
 use Rattle.dv_catalog.specs.Changes.{Change, changes_of, done_to, gone, with_changes}
 use Rattle.dv_catalog.specs.Effects.{all_or_first, without, delete_chosen}
-use Rattle.dv_catalog.specs.EffectView.{AreFirst, ArePlaced}
-use Rattle.dv_catalog.specs.EffectLaws.{chosen_good, done_unbroken, matching_good}
+use Rattle.dv_catalog.specs.Inner.EffectView.{AreFirst, ArePlaced}
+use Rattle.dv_catalog.specs.Inner.EffectLaws.{chosen_good, done_unbroken, matching_good}
 use Rattle.dv_catalog.specs.Scan.{matching}
 use Rattle.dv_catalog.specs.State.{Collection}
 use Rattle.dv_catalog.proofs.Breaking.{gone_breaks_nothing}

@@ -3,8 +3,9 @@ use Rattle.std.proofs.Common.{◌≡◌, ◌||◌, ℕ, Bool, true, false, if◌
 use Rattle.std.specs.FinMap as finite
 use Rattle.dv_value.specs.Tree.{Field}
 use Rattle.dv_match.specs.Filter.{Members}
-use Rattle.dv_views.specs.Views.{View, Views, view_form, is_view_named, has_view, rows_shown, view_under}
-use Rattle.dv_catalog.specs.CatalogParts.{AreLive, rows_kept, rows_or, state_of}
+use Rattle.dv_views.specs.Views.{View}
+use Rattle.dv_views.specs.Inner.Views.{Views, view_form, is_view_named, has_view, rows_shown, view_under}
+use Rattle.dv_catalog.specs.Inner.CatalogParts.{AreLive, rows_kept, rows_or, state_of}
 use Rattle.dv_catalog.specs.IndexMaking.{explained, explained_at, over_view}
 use Rattle.dv_catalog.specs.State.{Namespaces, documents_of, is_view, rows_of}
 use Rattle.dv_catalog.proofs.Keeping.{view_forms}

@@ -7,9 +7,9 @@ use Rattle.std.specs.Ordering.{is_lt, ordering_reverse}
 use Rattle.std.specs.declared.cmp.Ordering.{Ordering}
 use Rattle.std.specs.declared.cmp.Ordering.TheVariants.{Less, Equal, Greater}
 use Rattle.dv_value.specs.Tree.{Field}
-use Rattle.dv_keyed.specs.Ahead.{is_ahead}
+use Rattle.dv_keyed.specs.Inner.Ahead.{is_ahead}
 use Rattle.dv_order.specs.Key.{KeyTree, key_order}
-use Rattle.dv_order.specs.KeyLaws.{key_order_total}
+use Rattle.dv_order.specs.Inner.KeyLaws.{key_order_total}
 use Rattle.dv_path.specs.declared.direction.Direction.{Direction}
 use Rattle.dv_path.specs.declared.direction.Direction.TheVariants.{Ascending, Descending}
 use Rattle.dv_path.specs.declared.sort_spec.SortPart.{SortPart}
@@ -17,7 +17,7 @@ use Rattle.dv_path.specs.Parts.{part}
 use Rattle.dv_path.specs.SortKey.{sort_key, stands_first}
 use Rattle.dv_path.specs.SortSpec.{Part}
 use Rattle.dv_sort.specs.Sorting.{placed, stable, stands_before}
-use Rattle.dv_catalog.specs.ScanLaws.{all_placed}
+use Rattle.dv_catalog.specs.Inner.ScanLaws.{all_placed}
 
 abbrev Rows : Type 0
 Rows = List (List Field)

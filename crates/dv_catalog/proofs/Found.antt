@@ -8,9 +8,9 @@ use Rattle.std.specs.BTreeSet.{BTreeSet, contains_text}
 use Rattle.std.specs.List.{list_any}
 use Rattle.std.specs.Str.{bytes_eq}
 use Rattle.std.specs.declared.string.String.{String}
-use Rattle.dv_catalog.specs.ComingParts.{AreFound, joined}
+use Rattle.dv_catalog.specs.Inner.ComingParts.{AreFound, joined}
 use Rattle.dv_catalog.specs.IndexMaking.{is_alike, is_same}
-use Rattle.dv_catalog.specs.StateLaws.{bytes_eq-symmetric}
+use Rattle.dv_catalog.specs.Inner.StateLaws.{bytes_eq-symmetric}
 use Rattle.dv_keyed.specs.Choice.{same_path}
 use Rattle.dv_keyed.specs.Index.{IndexForm}
 

@@ -13,7 +13,7 @@ use Rattle.dv_pipe.specs.declared.stage.Stage.TheVariants.{Match, Sort, Limit}
 use Rattle.dv_pipe.specs.Sources.{Row}
 use Rattle.dv_pipe.specs.Stages.{Lists, beside, foreign_of, from_of, rows_at, stage, through}
 use Rattle.dv_sort.specs.Sorting.{stable}
-use Rattle.dv_catalog.specs.Behind.{looks_nowhere}
+use Rattle.dv_catalog.specs.Inner.Behind.{looks_nowhere}
 use Rattle.dv_catalog.specs.Scan.{matching}
 
 module _ (stages later : List Stage) (source : List ℕ) (lists : Lists) (rows : List Row) where

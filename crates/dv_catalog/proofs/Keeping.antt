@@ -8,20 +8,22 @@ use Rattle.std.specs.Str.{bytes_eq}
 use Rattle.dv_value.specs.Tree.{Field}
 use Rattle.dv_change.specs.declared.change.Change as flow
 use Rattle.dv_pipe.specs.Stages.{Lists}
-use Rattle.dv_views.specs.Changed.{AreMade, documents_changed, with_changed}
+use Rattle.dv_views.specs.Changed.{documents_changed, with_changed}
+use Rattle.dv_views.specs.Inner.Changed.{AreMade}
 use Rattle.dv_views.specs.Forms.{ViewForm}
-use Rattle.dv_views.specs.Views.{AreRight, Views, view_form}
-use Rattle.dv_views.specs.Views as views
-use Rattle.dv_catalog.specs.CatalogParts.{IsKept}
+use Rattle.dv_views.specs.Inner.Views.{AreRight, Views, view_form}
+use Rattle.dv_views.specs.Inner.Views as views
+use Rattle.dv_catalog.specs.Inner.CatalogParts.{IsKept}
 use Rattle.dv_catalog.specs.Changes.{Change, Effect, put, gone, apply, changes_of, with_change, with_changes}
-use Rattle.dv_catalog.specs.EffectView.{AreAble, ArePlaced, BeginsWithId, IsAble, IsPlaced}
+use Rattle.dv_catalog.specs.Inner.EffectView.{AreAble, ArePlaced, BeginsWithId, IsAble, IsPlaced}
 use Rattle.dv_catalog.specs.Effects.{put_new}
 use Rattle.dv_coll.specs.Collection.{found, id_key}
 use Rattle.dv_fields.specs.declared.refusal.Refusal.{Refusal}
 use Rattle.dv_fields.specs.declared.refusal.Refusal.TheVariants.{DuplicateKey}
 use Rattle.dv_catalog.specs.State.{AreOrdered, Collection, Namespaces, Standing, collection, collection_at, collection_of, documents_of, is_collection, is_view, lists_of}
-use Rattle.dv_catalog.specs.StateLaws.{get-insert}
-use Rattle.dv_catalog.specs.Told.{AreTold, told}
+use Rattle.dv_catalog.specs.Inner.StateLaws.{get-insert}
+use Rattle.dv_catalog.specs.Told.{told}
+use Rattle.dv_catalog.specs.Inner.Told.{AreTold}
 use Rattle.dv_catalog.specs.Views.{reads_name}
 
 pub neither : (a b : Bool) → a || b ≡ false → (a ≡ false) × (b ≡ false)

@@ -7,17 +7,18 @@ use Rattle.dv_change.specs.declared.change.Change as flow
 use Rattle.dv_command.specs.Asked.{ViewOn}
 use Rattle.dv_fields.specs.declared.refusal.Refusal.TheVariants.{NamespaceExists, NamespaceNotFound, ReadByView}
 use Rattle.dv_change.specs.declared.change.Change.TheVariants.{Gone}
-use Rattle.dv_views.specs.Changed.{gone_each}
+use Rattle.dv_views.specs.Inner.Changed.{gone_each}
 use Rattle.dv_views.specs.Placed.{own_position}
-use Rattle.dv_views.specs.Views.{Views, view_form, has_view, views_without}
-use Rattle.dv_views.specs.Views as views
-use Rattle.dv_catalog.specs.CatalogParts.{IsKept, state_of}
+use Rattle.dv_views.specs.Inner.Views.{Views, view_form, has_view, views_without}
+use Rattle.dv_views.specs.Inner.Views as views
+use Rattle.dv_catalog.specs.Inner.CatalogParts.{IsKept, state_of}
 use Rattle.dv_catalog.specs.Changes.{with_changes}
-use Rattle.dv_catalog.specs.EffectView.{AreAble}
+use Rattle.dv_catalog.specs.Inner.EffectView.{AreAble}
 use Rattle.dv_catalog.specs.Marks.{all_gone}
 use Rattle.dv_catalog.specs.State.{AreOrdered, Namespaces, Standing, State, collection_at, collection_of, documents_of, is_collection, is_there, is_view, with_documents}
-use Rattle.dv_catalog.specs.StateLaws.{get-remove}
-use Rattle.dv_catalog.specs.Told.{AreTold, told}
+use Rattle.dv_catalog.specs.Inner.StateLaws.{get-remove}
+use Rattle.dv_catalog.specs.Told.{told}
+use Rattle.dv_catalog.specs.Inner.Told.{AreTold}
 use Rattle.dv_catalog.specs.Views as creating
 use Rattle.dv_catalog.specs.Views.{created, dropped, reads_name}
 use Rattle.dv_catalog.proofs.Deleted.{NoLongerFound, all_go, all_go_placed}

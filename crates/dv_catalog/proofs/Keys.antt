@@ -11,7 +11,7 @@ use Rattle.dv_coll.specs.Collection.{IsAscending, found, has_key, id_key}
 use Rattle.dv_match.specs.Filter.{Members}
 use Rattle.dv_match.specs.Match.{matches}
 use Rattle.dv_order.specs.Key.{KeyTree, key_order}
-use Rattle.dv_order.specs.KeyLaws.{key_order_total}
+use Rattle.dv_order.specs.Inner.KeyLaws.{key_order_total}
 use Rattle.dv_catalog.specs.Scan.{matching}
 use Rattle.dv_catalog.specs.State.{AreOrdered, Standing, collection_at}
 

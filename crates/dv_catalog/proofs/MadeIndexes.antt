@@ -6,14 +6,14 @@ use Rattle.std.specs.Str.{bytes_eq}
 use Rattle.dv_fields.specs.declared.refusal.Refusal.{Refusal}
 use Rattle.dv_fields.specs.declared.refusal.Refusal.TheVariants.{NamespaceNotFound, OnView, WantOfMemory}
 use Rattle.dv_keyed.specs.Index.{IndexForm}
-use Rattle.dv_views.specs.Views.{Views, view_form}
+use Rattle.dv_views.specs.Inner.Views.{Views, view_form}
 use Rattle.dv_catalog.specs.declared.indexing.IndexCounts.{IndexCounts}
-use Rattle.dv_catalog.specs.CatalogParts.{IsKept, state_of}
+use Rattle.dv_catalog.specs.Inner.CatalogParts.{IsKept, state_of}
 use Rattle.dv_catalog.specs.IndexMaking.{indexes_created, indexes_dropped, with_all, with_indexes_so, without_named}
-use Rattle.dv_catalog.specs.IndexParts.{collection_so, namespaces_so}
-use Rattle.dv_catalog.specs.Parts.{Leaves}
+use Rattle.dv_catalog.specs.Inner.IndexParts.{collection_so, namespaces_so}
+use Rattle.dv_catalog.specs.Inner.Parts.{Leaves}
 use Rattle.dv_catalog.specs.State.{Collection, Namespaces, Standing, State, collection, collection_at, collection_of, indexes_of, is_collection, is_view, with_indexes}
-use Rattle.dv_catalog.specs.StateLaws.{get-insert}
+use Rattle.dv_catalog.specs.Inner.StateLaws.{get-insert}
 use Rattle.dv_catalog.proofs.ByNamespace.{made-there, with_collection}
 use Rattle.dv_catalog.proofs.Keeping.{UnreadIsNoMatter, kept_same_documents}
 

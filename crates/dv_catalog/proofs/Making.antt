@@ -7,12 +7,13 @@ use Rattle.dv_fields.specs.declared.refusal.Refusal.{Refusal}
 use Rattle.dv_fields.specs.declared.refusal.Refusal.TheVariants.{WantOfMemory}
 use Rattle.dv_pipe.specs.declared.stage.Stage.{Stage}
 use Rattle.dv_views.specs.Forms.{ViewForm, fault_of_new, names_read, needed}
-use Rattle.dv_views.specs.Made.{IsCreated}
-use Rattle.dv_views.specs.Views.{AreRight, ArePartlyRefreshed, IsRefusedFor, View, Views, view_form, views_without}
+use Rattle.dv_views.specs.Inner.Made.{IsCreated}
+use Rattle.dv_views.specs.Views.{View}
+use Rattle.dv_views.specs.Inner.Views.{AreRight, ArePartlyRefreshed, IsRefusedFor, Views, view_form, views_without}
 use Rattle.dv_views.specs.declared.fault.ViewFault.{ViewFault}
-use Rattle.dv_catalog.specs.CatalogParts.{IsKept, mark_of, marked_of, marks_of, state_of}
+use Rattle.dv_catalog.specs.Inner.CatalogParts.{IsKept, mark_of, marked_of, marks_of, state_of}
 use Rattle.dv_catalog.specs.Marks.{ArePartlyRead, Mark, Marks, live, marks_read}
-use Rattle.dv_catalog.specs.Parts.{StandMade}
+use Rattle.dv_catalog.specs.Inner.Parts.{StandMade}
 use Rattle.dv_catalog.specs.State.{Namespaces, State, has_name, is_collection, is_view, lists_of, without_view}
 use Rattle.dv_catalog.specs.Views.{view_refusal, with_view, with_view_by, with_views}
 use Rattle.dv_catalog.proofs.Refreshed.{fresh_mark, partly_forms, partly_marks, refreshed_marks}

@@ -3,13 +3,14 @@ use Rattle.std.proofs.Common.{◌≡◌, ◌⊎◌, ◌<◌, inl, inr, is_some, 
 use Rattle.dv_change.specs.Raised.{raised}
 use Rattle.dv_change.specs.declared.change.Change as flow
 use Rattle.dv_pipe.specs.Stages.{Lists}
-use Rattle.dv_views.specs.Changed.{AreMade}
-use Rattle.dv_views.specs.Counted.{AreCounted, HasCountedShare}
+use Rattle.dv_views.specs.Inner.Changed.{AreMade}
+use Rattle.dv_views.specs.Inner.Counted.{AreCounted, HasCountedShare}
 use Rattle.dv_views.specs.Flow.{Share, nothing, shares}
 use Rattle.dv_views.specs.Forms.{ViewForm, is_read_by}
-use Rattle.dv_views.specs.Views.{AreRight, View, Views, view_form, is_view_named, is_stale, mark_ticks, views_without}
+use Rattle.dv_views.specs.Views.{View}
+use Rattle.dv_views.specs.Inner.Views.{AreRight, Views, view_form, is_view_named, is_stale, mark_ticks, views_without}
 use Rattle.dv_views.specs.Views as views
-use Rattle.dv_catalog.specs.CatalogParts.{mark_of, marks_of}
+use Rattle.dv_catalog.specs.Inner.CatalogParts.{mark_of, marks_of}
 use Rattle.dv_value.specs.Tree.{Field}
 use Rattle.dv_coll.specs.Collection.{found, id_key}
 use Rattle.dv_command.specs.Entries.{Deletion, Updating}
@@ -18,13 +19,14 @@ use Rattle.dv_fields.specs.declared.refusal.Refusal.{Refusal}
 use Rattle.dv_fields.specs.declared.refusal.Refusal.TheVariants.{DuplicateKey}
 use Rattle.dv_catalog.specs.declared.stopped.Stopped.{Stopped}
 use Rattle.dv_catalog.specs.Changes.{Change, Effect, Statement, changes_of, done_to, put}
-use Rattle.dv_catalog.specs.EffectLaws.{done_changes}
-use Rattle.dv_catalog.specs.EffectView.{AreAble}
+use Rattle.dv_catalog.specs.Inner.EffectLaws.{done_changes}
+use Rattle.dv_catalog.specs.Inner.EffectView.{AreAble}
 use Rattle.dv_catalog.specs.Effects.{all_or_first, changed_by, delete_chosen, put_new, update_chosen, without as all_going}
-use Rattle.dv_catalog.specs.Parts.{IsCut, IsRefused, StandBy, changes_made}
+use Rattle.dv_catalog.specs.Inner.Parts.{IsCut, IsRefused, StandBy, changes_made}
 use Rattle.dv_catalog.specs.Marks.{AreMarkedBy, AreMarkedByDrop, AreMarkedSo, AreMarkedWhere, IsMarkedBy, Mark, Marked, Marks, all_gone, live, mark_counted, marks_without, stale}
 use Rattle.dv_catalog.specs.State.{AreOrdered, Collection, Namespaces, State, documents_of, is_collection, lists_of}
-use Rattle.dv_catalog.specs.Told.{AreTold, told}
+use Rattle.dv_catalog.specs.Told.{told}
+use Rattle.dv_catalog.specs.Inner.Told.{AreTold}
 use Rattle.dv_catalog.proofs.Breaking.{idle_done}
 use Rattle.dv_catalog.proofs.Keeping.{MadeAsTold, reads_forms}
 use Rattle.dv_catalog.proofs.Stopping.{take_none}

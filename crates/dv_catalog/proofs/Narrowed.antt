@@ -14,7 +14,7 @@ use Rattle.dv_value.specs.View.{tree}
 use Rattle.dv_value.specs.declared.value.Value.{Value}
 use Rattle.dv_value.specs.Tree.{Tree, Field, array, fields_of, list_of_fields}
 use Rattle.dv_order.specs.Key.{KeyTree, key_order, value}
-use Rattle.dv_order.specs.KeyLaws.{key_order_total}
+use Rattle.dv_order.specs.Inner.KeyLaws.{key_order_total}
 use Rattle.dv_order.specs.Order.{canon}
 use Rattle.dv_candidates.specs.Candidates.{Candidate, candidates, leaves, or_null, whole, with_elements}
 use Rattle.dv_path.specs.LeafKeys.{is_key_of, is_leaf_key, is_some_key, leaf_values}
@@ -24,12 +24,14 @@ use Rattle.dv_match.specs.Filter.{Condition, Members, among, equal}
 use Rattle.dv_match.specs.Match.{matches}
 use Rattle.dv_coll.specs.Collection.{HasId, IsNoArray, id_key}
 use Rattle.dv_keyed.specs.Choice.{chosen}
-use Rattle.dv_keyed.specs.Index.{IndexForm, IndexTree, form_of, id_form}
-use Rattle.dv_keyed.specs.Interval.{is_in_all}
-use Rattle.dv_keyed.specs.Keys.{has_key}
-use Rattle.dv_keyed.specs.Within.{covers, has_within, is_within}
-use Rattle.dv_index.specs.InDirection.{in_direction}
-use Rattle.dv_catalog.specs.Equalities.{equals_in}
+use Rattle.dv_keyed.specs.Index.{IndexForm, id_form}
+use Rattle.dv_keyed.specs.Inner.Index.{IndexTree, form_of}
+use Rattle.dv_keyed.specs.Inner.Interval.{is_in_all}
+use Rattle.dv_keyed.specs.Inner.Keys.{has_key}
+use Rattle.dv_keyed.specs.Within.{has_within, is_within}
+use Rattle.dv_keyed.specs.Inner.Within.{covers}
+use Rattle.dv_index.specs.Inner.InDirection.{in_direction}
+use Rattle.dv_catalog.specs.Inner.Equalities.{equals_in}
 
 abbrev Rows : Type 0
 Rows = List (List Field)

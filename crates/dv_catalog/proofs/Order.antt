@@ -5,7 +5,7 @@ use Rattle.dv_value.specs.Tree.{Field}
 use Rattle.dv_order.specs.Key.{KeyTree}
 use Rattle.dv_coll.specs.Collection.{HasId, IsAscending, found, id_key, inserted, removed, replaced}
 use Rattle.dv_catalog.specs.Changes.{Change, put, gone, with_change}
-use Rattle.dv_catalog.specs.EffectView.{BeginsWithId}
+use Rattle.dv_catalog.specs.Inner.EffectView.{BeginsWithId}
 use Rattle.dv_catalog.specs.State.{AreOrdered}
 
 pub record CollectionLaws : Type 0 where

@@ -8,12 +8,14 @@ use Rattle.std.specs.Str.{bytes_eq}
 use Rattle.dv_value.specs.Tree.{Field}
 use Rattle.dv_pipe.specs.Stages.{Lists}
 use Rattle.dv_views.specs.Forms.{ViewForm, is_name_among, needed, rows_over}
-use Rattle.dv_views.specs.Made.{AreAlike}
-use Rattle.dv_views.specs.Views.{AreNamedApart, ArePartlyRefreshed, AreRefreshed, AreRight, IsJustMade, IsPartlyRefreshed, View, Views, view_form, is_view_named, has_view, is_stale, kept_rows, rows_shown, view_under}
+use Rattle.dv_views.specs.Inner.Made.{AreAlike}
+use Rattle.dv_views.specs.Views.{View}
+use Rattle.dv_views.specs.Inner.Views.{AreNamedApart, ArePartlyRefreshed, AreRefreshed, AreRight, IsJustMade, IsPartlyRefreshed, Views, view_form, is_view_named, has_view, is_stale, kept_rows, rows_shown, view_under}
 use Rattle.dv_views.specs.Views as views
-use Rattle.dv_catalog.specs.CatalogParts.{AreLive, mark_of, marked_of, marks_of, rows_kept, rows_or, state_of}
+use Rattle.dv_views.specs.Inner.Views as views_inner
+use Rattle.dv_catalog.specs.Inner.CatalogParts.{AreLive, mark_of, marked_of, marks_of, rows_kept, rows_or, state_of}
 use Rattle.dv_catalog.specs.Marks.{ArePartlyNamed, ArePartlyRead, IsPartlyRead, Marked, Marks, live, mark_read, marks_named, marks_read, stale}
-use Rattle.dv_catalog.specs.Parts.{Reads}
+use Rattle.dv_catalog.specs.Inner.Parts.{Reads}
 use Rattle.dv_catalog.specs.State.{Namespaces, State, documents_of, lists_of, rows_of}
 use Rattle.dv_catalog.proofs.Keeping.{neither, view_forms}
 
@@ -50,7 +52,7 @@ module _ (names : List (List ℕ)) where
   partly_forms (v ∷ vs) (w ∷ ws) all = λ i. form_one v w all.0 i ∷ partly_forms vs ws all.1 i
 
   -- a view that was stale has its rows now
-  made_mark : (v w : View) → views.IsMadeAnew v w → mark_of w.mark ≡ mark_read (mark_of v.mark)
+  made_mark : (v w : View) → views_inner.IsMadeAnew v w → mark_of w.mark ≡ mark_read (mark_of v.mark)
   made_mark v w made = fresh_mark w.mark made.fresh ∙ sym (ap mark_read (stale_mark v.mark made.stale))
 
   mark_one : (v w : View) → IsPartlyRefreshed names v w → (is_name_among w.name names ≡ true → is_stale w.mark ≡ false) → mark_of w.mark ≡ (if is_name_among v.name names then mark_read (mark_of v.mark) else mark_of v.mark)

@@ -7,7 +7,7 @@ use Rattle.dv_path.specs.SortSpec.{Part}
 use Rattle.dv_sort.specs.Sorting.{stable, ordered, front}
 use Rattle.dv_sort.specs.Front.{Front, no_rows, front_of}
 use Rattle.dv_catalog.specs.Scan.{limited}
-use Rattle.dv_catalog.specs.ScanParts.{IsEnough}
+use Rattle.dv_catalog.specs.Inner.ScanParts.{IsEnough}
 
 -- not more than are wanted
 abbrev pub IsWithin : ℕ → Option ℕ → Type 0

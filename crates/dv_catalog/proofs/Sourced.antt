@@ -9,11 +9,11 @@ use Rattle.dv_pipe.specs.Sources as pipes
 use Rattle.dv_pipe.specs.Stages.{Lists, evaluated, is_source_named, is_read, looked_into}
 use Rattle.dv_pipe.specs.declared.stage.Stage.{Stage}
 use Rattle.dv_views.specs.Forms.{is_name_among, names_read}
-use Rattle.dv_views.specs.Made.{AreAlike}
+use Rattle.dv_views.specs.Inner.Made.{AreAlike}
 use Rattle.dv_views.specs.Placed.{lookups_of, names_with}
-use Rattle.dv_catalog.specs.SourceParts.{with_list, with_list_where}
+use Rattle.dv_catalog.specs.Inner.SourceParts.{with_list, with_list_where}
 use Rattle.dv_catalog.specs.State.{AreOrdered}
-use Rattle.dv_catalog.specs.StateLaws.{bytes_eq-symmetric}
+use Rattle.dv_catalog.specs.Inner.StateLaws.{bytes_eq-symmetric}
 use Rattle.dv_catalog.proofs.Keys.{none_ordered}
 
 abbrev pub is_listed : List ℕ → List Source → Bool

@@ -4,9 +4,10 @@ use Rattle.std.proofs.lemmas.Slice.Eq.{bytes_eq-Decides}
 use Rattle.std.specs.List.{AllByRecursion, IsDistinct}
 use Rattle.std.specs.Str.{bytes_eq}
 use Rattle.dv_views.specs.Forms.{is_name_among}
-use Rattle.dv_views.specs.Views.{AreNamedApart, View, Views, view_under}
-use Rattle.dv_catalog.specs.CatalogParts.{AreLive, is_one_stale, is_stale_view}
-use Rattle.dv_catalog.specs.StateLaws.{bytes_eq-symmetric}
+use Rattle.dv_views.specs.Views.{View}
+use Rattle.dv_views.specs.Inner.Views.{AreNamedApart, Views, view_under}
+use Rattle.dv_catalog.specs.Inner.CatalogParts.{AreLive, is_one_stale, is_stale_view}
+use Rattle.dv_catalog.specs.Inner.StateLaws.{bytes_eq-symmetric}
 use Rattle.dv_catalog.proofs.Keeping.{neither}
 
 none_named_stale : (vs : Views) (names : List (List ℕ)) → is_one_stale names vs ≡ false → (name : List ℕ) → is_name_among name names ≡ true → is_stale_view (view_under name vs) ≡ false

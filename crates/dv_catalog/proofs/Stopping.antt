@@ -4,13 +4,14 @@ use Rattle.std.proofs.lemmas.List.{map_push}
 use Rattle.dv_value.specs.Tree.{Field}
 use Rattle.dv_fields.specs.declared.refusal.Refusal.{Refusal}
 use Rattle.dv_fields.specs.declared.refusal.Refusal.TheVariants.{WantOfMemory}
-use Rattle.dv_index.specs.Indexed.{IndexedTree, with_documents}
+use Rattle.dv_index.specs.Indexed.{IndexedTree}
+use Rattle.dv_index.specs.Inner.Indexed.{with_documents}
 use Rattle.dv_catalog.specs.declared.counted.Counted.{Counted}
 use Rattle.dv_catalog.specs.declared.stopped.Stopped.{Stopped}
 use Rattle.dv_catalog.specs.Changes.{Change, Effect, apply, changes_of, with_change, with_changes, with_put}
 use Rattle.dv_coll.specs.Collection.{found, id_key, inserted, replaced}
-use Rattle.dv_catalog.specs.EffectView.{AreFirst, ArePlaced}
-use Rattle.dv_catalog.specs.Parts.{IsCut, IsRefused, MakesSo}
+use Rattle.dv_catalog.specs.Inner.EffectView.{AreFirst, ArePlaced}
+use Rattle.dv_catalog.specs.Inner.Parts.{IsCut, IsRefused, MakesSo}
 use Rattle.dv_catalog.specs.State.{Namespaces}
 
 pub take_none : {X : Type 0} (xs : List X) → take 0 xs ≡ []

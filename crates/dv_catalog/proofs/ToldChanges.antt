@@ -7,10 +7,11 @@ use Rattle.dv_change.specs.declared.change.Change as flow
 use Rattle.dv_change.specs.declared.change.Change.TheVariants.{Put, Gone}
 use Rattle.dv_change.specs.declared.position.Part.TheVariants.{Up}
 use Rattle.dv_order.specs.Key.{KeyTree}
-use Rattle.dv_views.specs.Changed.{AreMade, AreMadeInTurn, IsMade, documents_changed}
+use Rattle.dv_views.specs.Changed.{documents_changed}
+use Rattle.dv_views.specs.Inner.Changed.{AreMade, AreMadeInTurn, IsMade}
 use Rattle.dv_views.specs.Placed.{own_position}
 use Rattle.dv_catalog.specs.Changes.{Change, put, gone, with_change, with_changes}
-use Rattle.dv_catalog.specs.EffectView.{AreAble, BeginsWithId, IsAble}
+use Rattle.dv_catalog.specs.Inner.EffectView.{AreAble, BeginsWithId, IsAble}
 use Rattle.dv_catalog.specs.State.{AreOrdered}
 use Rattle.dv_catalog.specs.Told.{told}
 

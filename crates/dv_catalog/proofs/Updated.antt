@@ -11,7 +11,7 @@ use Rattle.dv_coll.specs.Collection.{AreStanding, HasId, IsAscending, found, has
 use Rattle.dv_match.specs.Match.{matches}
 use Rattle.dv_order.specs.Same.{same_fields}
 use Rattle.dv_catalog.specs.declared.effect.Updated.{Updated}
-use Rattle.dv_catalog.specs.EffectView.{ArePlaced, AreUpdatesOf, after_of}
+use Rattle.dv_catalog.specs.Inner.EffectView.{ArePlaced, AreUpdatesOf, after_of}
 use Rattle.dv_catalog.proofs.Keys.{AreThere, all_there}
 use Rattle.dv_update.specs.Update as form
 use Rattle.dv_command.specs.Entries.{Updating}
@@ -21,7 +21,7 @@ use Rattle.dv_catalog.specs.Changes.{Change, put, Effect}
 use Rattle.dv_catalog.specs.Effects.{all_or_first}
 use Rattle.dv_catalog.specs.Scan.{matching}
 use Rattle.dv_catalog.specs.Effects.{after, changed_by, changes, differs, update_chosen}
-use Rattle.dv_catalog.specs.EffectLaws.{KeepsId, IsGoodAfter, chosen_good, matching_good, all_changed_good, after_id}
+use Rattle.dv_catalog.specs.Inner.EffectLaws.{KeepsId, IsGoodAfter, chosen_good, matching_good, all_changed_good, after_id}
 
 none_chosen : (first : Bool) → all_or_first first [] ≡ []
 none_chosen false = refl

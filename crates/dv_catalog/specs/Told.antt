@@ -11,7 +11,3 @@ use Rattle.dv_catalog.specs.Changes.{Change, put, gone}
 abbrev pub told : Change → flow.Change
 told (put d) = Put (Up (id_key d) ∷ []) d
 told (gone k) = Gone (Up k ∷ [])
-
--- changes of a namespace, told to views; or nothing is told, where no view reads the namespace
-abbrev pub AreTold : List ℕ → views.Views → List Change → List flow.Change → Type 0
-AreTold namespace registry changes tell = (tell ≡ map told changes) ⊎ ((tell ≡ []) × (views.reads_name registry namespace ≡ false))

@@ -2,7 +2,7 @@
 
 ghost use Rattle.std.specs.Prelude.{◌≡◌, ◌∷◌, take, filter as kept, IfOk, IfSome, List};
 ghost use Rattle.dv_value.specs.Tree.{Field};
-ghost use Rattle.dv_keyed.specs.Ahead as defined;
+ghost use Rattle.dv_keyed.specs.Inner.Ahead as defined;
 ghost use Rattle.dv_path.specs.Parts.{part};
 ghost use Rattle.dv_path.specs.SortSpec.{Part};
 ghost use Rattle.dv_pipe.specs.Sources.{rows_referred};

@@ -7,10 +7,11 @@ ghost use Rattle.dv_value.specs.Tree.{Field};
 ghost use Rattle.dv_value.specs.View.{tree};
 ghost use Rattle.dv_match.specs.Match.{matches};
 ghost use Rattle.dv_coll.specs.Collection.{HasId, id_key};
-ghost use Rattle.dv_keyed.specs.Index.{BeginsWithId, id_form};
-ghost use Rattle.dv_keyed.specs.View.{plan_seen};
-ghost use Rattle.dv_catalog.specs.Asked.{is_asked};
-ghost use Rattle.dv_catalog.specs.Equalities.{equals_in};
+ghost use Rattle.dv_keyed.specs.Index.{id_form};
+ghost use Rattle.dv_keyed.specs.Inner.Index.{BeginsWithId};
+ghost use Rattle.dv_keyed.specs.Inner.View.{plan_seen};
+ghost use Rattle.dv_catalog.specs.Inner.Asked.{is_asked};
+ghost use Rattle.dv_catalog.specs.Inner.Equalities.{equals_in};
 
 use dv_candidates::Path;
 use dv_index::{Bounds, Index, Indexes, Plan, Planner, laws};

@@ -2,14 +2,14 @@
 
 ghost use Rattle.std.specs.Prelude.{◌≡◌, ◌≤◌, ◌∷◌, [], length, take, true, IfOk};
 ghost use Rattle.std.specs.List.{list_all};
-ghost use Rattle.dv_catalog.specs.Behind.{looks_nowhere};
-ghost use Rattle.dv_catalog.specs.CatalogParts.{rows_kept};
-ghost use Rattle.dv_catalog.specs.SearchedView.{searched};
+ghost use Rattle.dv_catalog.specs.Inner.Behind.{looks_nowhere};
+ghost use Rattle.dv_catalog.specs.Inner.CatalogParts.{rows_kept};
+ghost use Rattle.dv_catalog.specs.Inner.SearchedView.{searched};
 ghost use Rattle.dv_catalog.specs.State.{lists_of};
 ghost use Rattle.dv_gather.specs.Lookups.{looked_up};
 ghost use Rattle.dv_pipe.specs.Sources.{rows_referred};
 ghost use Rattle.dv_pipe.specs.Stages.{through};
-ghost use Rattle.dv_views.specs.Views.{AreRight};
+ghost use Rattle.dv_views.specs.Inner.Views.{AreRight};
 
 use crate::collections::Collections;
 use crate::searched::{Searched, first_found, searched_in};

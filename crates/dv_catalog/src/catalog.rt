@@ -40,8 +40,8 @@ pub struct Catalog {
 
 impl Model for Catalog {
     ghost use Rattle.dv_catalog.specs.Marks.{Marked};
-    ghost use Rattle.dv_catalog.specs.StateCode.{coded_marked};
-    ghost use Rattle.dv_catalog.specs.CatalogParts.{IsKept, marked_of};
+    ghost use Rattle.dv_catalog.specs.Inner.StateCode.{coded_marked};
+    ghost use Rattle.dv_catalog.specs.Inner.CatalogParts.{IsKept, marked_of};
 
     ghost Value = { Marked };
 
@@ -57,18 +57,18 @@ impl Catalog {
     ghost use Rattle.std.specs.Option.{option_map};
     ghost use Rattle.std.specs.Prelude.{◌≡◌, ◌≤◌, ◌∷◌, [], true, false, map, take, Ok, Some, IfOk, OnOk, OnErr, length};
     ghost use Rattle.dv_coll.specs.Collection.{HasId};
-    ghost use Rattle.dv_command.specs.View.{aggregate_seen, create_seen, find_seen, updating_seen, view_on_seen};
+    ghost use Rattle.dv_command.specs.Inner.View.{aggregate_seen, create_seen, find_seen, updating_seen, view_on_seen};
     ghost use Rattle.dv_catalog.specs.Changes.{apply};
     ghost use Rattle.dv_catalog.specs.Effects as effects;
-    ghost use Rattle.dv_catalog.specs.EffectView.{ArePlaced, StandsFor, changes_seen, effect_seen};
+    ghost use Rattle.dv_catalog.specs.Inner.EffectView.{ArePlaced, StandsFor, changes_seen, effect_seen};
     ghost use Rattle.dv_catalog.specs.IndexMaking as indexing;
-    ghost use Rattle.dv_catalog.specs.IndexParts.{explained_seen};
+    ghost use Rattle.dv_catalog.specs.Inner.IndexParts.{explained_seen};
     ghost use Rattle.dv_catalog.specs.Marks.{AreMarkedBy, AreMarkedByDrop, all_gone, marks_made, names_of_new, nothing_marked, stats_of, stored_of};
-    ghost use Rattle.dv_catalog.specs.Parts.{Leaves, Makes, MakesSo, Reads, StandBehind, StandBy, StandMade, StandSo, one_changed};
-    ghost use Rattle.dv_catalog.specs.StatsView.{stats_seen};
+    ghost use Rattle.dv_catalog.specs.Inner.Parts.{Leaves, Makes, MakesSo, Reads, StandBehind, StandBy, StandMade, StandSo, one_changed};
+    ghost use Rattle.dv_catalog.specs.Inner.StatsView.{stats_seen};
     ghost use Rattle.dv_catalog.specs.Scan as scans;
     ghost use Rattle.dv_catalog.specs.State.{AreOrdered, documents_of, indexes_of, is_collection, is_there, is_view, lists_of, rows_of};
-    ghost use Rattle.dv_keyed.specs.View.{form_of_new};
+    ghost use Rattle.dv_keyed.specs.Inner.View.{form_of_new};
     ghost use Rattle.dv_views.specs.Forms as forms;
     ghost use Rattle.dv_catalog.specs.Views as making;
 

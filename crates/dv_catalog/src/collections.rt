@@ -7,13 +7,13 @@ ghost use Rattle.std.specs.Option.{option_map};
 ghost use Rattle.dv_coll.specs.Collection.{HasId};
 ghost use Rattle.dv_catalog.specs.Changes.{apply};
 ghost use Rattle.dv_catalog.specs.Effects as effects;
-ghost use Rattle.dv_catalog.specs.EffectView.{ArePlaced, StandsFor, changes_seen};
+ghost use Rattle.dv_catalog.specs.Inner.EffectView.{ArePlaced, StandsFor, changes_seen};
 ghost use Rattle.dv_catalog.specs.IndexMaking as making;
-ghost use Rattle.dv_catalog.specs.IndexParts.{namespaces_so};
-ghost use Rattle.dv_catalog.specs.Parts.{Leaves, Makes, one_changed};
+ghost use Rattle.dv_catalog.specs.Inner.IndexParts.{namespaces_so};
+ghost use Rattle.dv_catalog.specs.Inner.Parts.{Leaves, Makes, one_changed};
 ghost use Rattle.dv_catalog.specs.State.{AreOrdered, collection_of, documents_of, empty_state, indexes_of, is_collection, with_documents};
-ghost use Rattle.dv_catalog.specs.View.{standing_seen};
-ghost use Rattle.dv_keyed.specs.View.{form_of_new};
+ghost use Rattle.dv_catalog.specs.Inner.View.{standing_seen};
+ghost use Rattle.dv_keyed.specs.Inner.View.{form_of_new};
 
 use crate::effect::Changes;
 use crate::indexing::{IndexCounts, create_each, drop_named};
@@ -36,13 +36,13 @@ pub(crate) struct Collections {
 
 impl Model for Collections {
     ghost use Rattle.dv_catalog.specs.State.{Namespaces};
-    ghost use Rattle.dv_catalog.specs.StateCode.{coded_namespaces};
+    ghost use Rattle.dv_catalog.specs.Inner.StateCode.{coded_namespaces};
 
     ghost Value = { Namespaces };
 
     ghost coded = { coded_namespaces };
 
-    ghost use Rattle.dv_catalog.specs.View.{standing_by_namespace};
+    ghost use Rattle.dv_catalog.specs.Inner.View.{standing_by_namespace};
 
     ghost view = { λ c. standing_by_namespace c.collections };
 }

@@ -3,8 +3,8 @@
 ghost use Rattle.std.specs.Prelude.{◌≡◌, ◌∷◌, ◌++◌, [], true, map, IfOk, OnOk};
 ghost use Rattle.std.specs.List.{list_any};
 ghost use Rattle.std.specs.String.{string_bytes};
-ghost use Rattle.dv_keyed.specs.View.{form_of_new};
-ghost use Rattle.dv_catalog.specs.ComingParts.{joined};
+ghost use Rattle.dv_keyed.specs.Inner.View.{form_of_new};
+ghost use Rattle.dv_catalog.specs.Inner.ComingParts.{joined};
 ghost use Rattle.dv_catalog.specs.IndexMaking as making;
 
 use crate::indexing::{is_alike, is_same};
@@ -28,9 +28,10 @@ pub(crate) struct Coming {
 impl Model for Coming {
     ghost use Rattle.std.specs.Prelude.{List, map};
     ghost use Rattle.std.specs.Coded.{coded_list};
-    ghost use Rattle.dv_keyed.specs.Index.{IndexForm, coded_form};
-    ghost use Rattle.dv_keyed.specs.View.{form_of_new};
-    ghost use Rattle.dv_catalog.specs.ComingParts.{AreFound};
+    ghost use Rattle.dv_keyed.specs.Index.{IndexForm};
+    ghost use Rattle.dv_keyed.specs.Inner.Index.{coded_form};
+    ghost use Rattle.dv_keyed.specs.Inner.View.{form_of_new};
+    ghost use Rattle.dv_catalog.specs.Inner.ComingParts.{AreFound};
 
     ghost Value = { List IndexForm };
 

@@ -3,12 +3,12 @@
 ghost use Rattle.std.specs.Prelude.{◌≡◌, ◌≤◌, false, length, map, take, IfOk, Ok};
 ghost use Rattle.std.specs.List.{AllByRecursion};
 ghost use Rattle.dv_coll.specs.Collection.{HasId, id_key};
-ghost use Rattle.dv_command.specs.View.{deletion_seen};
+ghost use Rattle.dv_command.specs.Inner.View.{deletion_seen};
 ghost use Rattle.dv_catalog.specs.Changes.{changes_of, done_to, gone, with_changes};
 ghost use Rattle.dv_catalog.specs.Effects.{delete_chosen};
-ghost use Rattle.dv_catalog.specs.EffectView.{AreFirst, ArePlaced, StandsFor, changes_seen, effect_seen};
+ghost use Rattle.dv_catalog.specs.Inner.EffectView.{AreFirst, ArePlaced, StandsFor, changes_seen, effect_seen};
 ghost use Rattle.dv_catalog.specs.State.{AreOrdered};
-ghost use Rattle.dv_index.specs.Indexed.{with_documents};
+ghost use Rattle.dv_index.specs.Inner.Indexed.{with_documents};
 ghost use Rattle.dv_pipe.specs.Sources.{rows_referred};
 
 use crate::chosen::chosen;

@@ -3,8 +3,8 @@
 ghost use Rattle.std.specs.Prelude.{◌≡◌, ◌≤◌, false, length, take, IfOk};
 ghost use Rattle.dv_value.specs.Names.{has_zero};
 ghost use Rattle.dv_catalog.specs.Changes.{breaks, with_changes};
-ghost use Rattle.dv_catalog.specs.EffectView.{ArePlaced, StandsFor, after_of, changes_seen};
-ghost use Rattle.dv_index.specs.Indexed.{with_documents};
+ghost use Rattle.dv_catalog.specs.Inner.EffectView.{ArePlaced, StandsFor, after_of, changes_seen};
+ghost use Rattle.dv_index.specs.Inner.Indexed.{with_documents};
 
 use crate::delete::remove_each;
 use crate::update::{put_each, updates_clash};

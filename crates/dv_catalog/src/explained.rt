@@ -3,7 +3,7 @@
 ghost use Rattle.std.specs.Prelude.{◌≡◌, length, IfOk};
 ghost use Rattle.std.specs.FinMap as finite;
 ghost use Rattle.dv_catalog.specs.IndexMaking as making;
-ghost use Rattle.dv_catalog.specs.IndexParts.{explained_seen};
+ghost use Rattle.dv_catalog.specs.Inner.IndexParts.{explained_seen};
 
 use crate::collections::Collections;
 use dv_index::IndexedCollection;

@@ -2,15 +2,15 @@
 
 ghost use Rattle.std.specs.Prelude.{◌≡◌, ℕ, List, IfOk};
 ghost use Rattle.std.specs.Option.{option_map};
-ghost use Rattle.dv_catalog.specs.CatalogParts.{rows_kept};
-ghost use Rattle.dv_catalog.specs.Fronts.{matching_where, passed, sorted_where};
+ghost use Rattle.dv_catalog.specs.Inner.CatalogParts.{rows_kept};
+ghost use Rattle.dv_catalog.specs.Inner.Fronts.{matching_where, passed, sorted_where};
 ghost use Rattle.dv_catalog.specs.Scan.{matching};
 ghost use Rattle.dv_match.specs.Filter.{no_members};
 ghost use Rattle.dv_pipe.specs.Sources.{Row};
 ghost use Rattle.dv_pipe.specs.Stages.{Lists, through};
 ghost use Rattle.dv_catalog.specs.State.{lists_of};
 ghost use Rattle.dv_sort.specs.Sorting.{front};
-ghost use Rattle.dv_views.specs.Views.{AreRight};
+ghost use Rattle.dv_views.specs.Inner.Views.{AreRight};
 
 use crate::behind::rows_behind;
 use crate::collections::Collections;

@@ -5,12 +5,13 @@ ghost use Rattle.std.specs.List.{list_any};
 ghost use Rattle.std.specs.Str.{bytes_eq};
 ghost use Rattle.dv_fields.specs.Refusals.{UnlessWanting};
 ghost use Rattle.dv_keyed.specs.Choice.{same_path as is_same_path};
-ghost use Rattle.dv_keyed.specs.Index.{form_of, id_form};
-ghost use Rattle.dv_keyed.specs.View.{form_of_new};
+ghost use Rattle.dv_keyed.specs.Index.{id_form};
+ghost use Rattle.dv_keyed.specs.Inner.Index.{form_of};
+ghost use Rattle.dv_keyed.specs.Inner.View.{form_of_new};
 ghost use Rattle.dv_catalog.specs.IndexMaking as making;
-ghost use Rattle.dv_catalog.specs.ComingParts.{joined};
-ghost use Rattle.dv_catalog.specs.IndexParts.{collection_so};
-ghost use Rattle.dv_catalog.specs.Parts.{Leaves};
+ghost use Rattle.dv_catalog.specs.Inner.ComingParts.{joined};
+ghost use Rattle.dv_catalog.specs.Inner.IndexParts.{collection_so};
+ghost use Rattle.dv_catalog.specs.Inner.Parts.{Leaves};
 
 use crate::coming::{Coming, text_of};
 use dv_candidates::Path;

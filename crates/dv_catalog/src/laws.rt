@@ -3,13 +3,14 @@
 ghost use Rattle.std.specs.Prelude.{◌≡◌, ◌<◌, ◌≤◌, ◌++◌, ◌∷◌, [], false, length, List, map, Ok, Err};
 ghost use Rattle.dv_value.specs.Tree.{Field};
 ghost use Rattle.dv_catalog.specs.Changes.{Change, with_change, with_changes};
-ghost use Rattle.dv_catalog.specs.EffectView.{AreAble, BeginsWithId};
+ghost use Rattle.dv_catalog.specs.Inner.EffectView.{AreAble, BeginsWithId};
 ghost use Rattle.dv_catalog.specs.State.{AreOrdered, is_view};
 ghost use Rattle.dv_catalog.specs.Told.{told};
 ghost use Rattle.dv_catalog.specs.Views.{reads_name, with_view};
 ghost use Rattle.dv_fields.specs.declared.refusal.Refusal.TheVariants.{LimitReached};
 ghost use Rattle.dv_pipe.specs.Stages.{is_read};
-ghost use Rattle.dv_views.specs.Changed.{AreMade, documents_changed};
+ghost use Rattle.dv_views.specs.Changed.{documents_changed};
+ghost use Rattle.dv_views.specs.Inner.Changed.{AreMade};
 ghost use Rattle.dv_views.specs.Forms.{ViewForm, height_over, heights};
 
 /// Documents stay in the order of their `_id`s after a change, if a document that is put begins with its `_id`.

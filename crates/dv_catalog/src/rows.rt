@@ -30,8 +30,8 @@ impl<'a> Model for Rows<'a> {
     ghost use Rattle.std.specs.Prelude as prelude;
     ghost use Rattle.std.specs.Coded.{coded_list, coded×, coded_ℕ};
     ghost use Rattle.dv_value.specs.Tree.{Field};
-    ghost use Rattle.dv_value.specs.TreeCode.{coded_tree};
-    ghost use Rattle.dv_catalog.specs.RowsView as seen;
+    ghost use Rattle.dv_value.specs.Inner.TreeCode.{coded_tree};
+    ghost use Rattle.dv_catalog.specs.Inner.RowsView as seen;
 
     ghost Value = { prelude.List (prelude.List Field) };
 

@@ -1,10 +1,10 @@
 //! The rows of a find, in its order.
 
 ghost use Rattle.std.specs.Prelude.{◌≡◌, drop, IfOk, IfSome};
-ghost use Rattle.dv_command.specs.View.{sort_seen};
-ghost use Rattle.dv_catalog.specs.SearchedView.{searched};
+ghost use Rattle.dv_command.specs.Inner.View.{sort_seen};
+ghost use Rattle.dv_catalog.specs.Inner.SearchedView.{searched};
 ghost use Rattle.dv_catalog.specs.Scan as scans;
-ghost use Rattle.dv_catalog.specs.ScanParts.{IsEnough};
+ghost use Rattle.dv_catalog.specs.Inner.ScanParts.{IsEnough};
 ghost use Rattle.dv_pipe.specs.Sources.{rows_referred};
 ghost use Rattle.dv_sort.specs.Sorting.{front, stable};
 

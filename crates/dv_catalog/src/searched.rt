@@ -1,13 +1,13 @@
 //! What a find looks through.
 
 ghost use Rattle.std.specs.Prelude.{◌≡◌, Some, IfOk, IfSome};
-ghost use Rattle.dv_catalog.specs.CatalogParts.{rows_kept};
-ghost use Rattle.dv_catalog.specs.SearchedView.{searched};
+ghost use Rattle.dv_catalog.specs.Inner.CatalogParts.{rows_kept};
+ghost use Rattle.dv_catalog.specs.Inner.SearchedView.{searched};
 ghost use Rattle.dv_catalog.specs.Scan as scans;
 ghost use Rattle.dv_pipe.specs.Sources.{rows_referred};
 ghost use Rattle.dv_catalog.specs.State.{lists_of};
 ghost use Rattle.dv_sort.specs.Sorting.{front};
-ghost use Rattle.dv_views.specs.Views.{AreRight, rows_shown};
+ghost use Rattle.dv_views.specs.Inner.Views.{AreRight, rows_shown};
 
 use crate::collections::Collections;
 use crate::keyed::first_by_key;

@@ -4,9 +4,9 @@ ghost use Rattle.std.specs.Prelude.{◌≡◌, IfOk, OnOk};
 ghost use Rattle.std.specs.List.{AllByRecursion};
 ghost use Rattle.dv_pipe.specs.Sources as pipes;
 ghost use Rattle.dv_pipe.specs.Sources.{rows_referred};
-ghost use Rattle.dv_views.specs.Made.{AreAlike};
-ghost use Rattle.dv_catalog.specs.CatalogParts.{rows_kept};
-ghost use Rattle.dv_catalog.specs.SourceParts.{with_list};
+ghost use Rattle.dv_views.specs.Inner.Made.{AreAlike};
+ghost use Rattle.dv_catalog.specs.Inner.CatalogParts.{rows_kept};
+ghost use Rattle.dv_catalog.specs.Inner.SourceParts.{with_list};
 ghost use Rattle.dv_catalog.specs.State.{AreOrdered, lists_of};
 
 use crate::collections::Collections;

@@ -1,7 +1,7 @@
 //! How a view stands.
 
 ghost use Rattle.std.specs.Prelude.{◌≡◌};
-ghost use Rattle.dv_catalog.specs.StatsView.{live_shown};
+ghost use Rattle.dv_catalog.specs.Inner.StatsView.{live_shown};
 
 use dv_views::ViewState;
 

@@ -5,8 +5,9 @@ ghost use Rattle.std.specs.List.{AllByRecursion};
 ghost use Rattle.dv_value.specs.Names.{has_zero};
 ghost use Rattle.dv_coll.specs.Collection.{HasId};
 ghost use Rattle.dv_catalog.specs.Changes as changing;
-ghost use Rattle.dv_catalog.specs.EffectView.{BeginsWithId, HasWholeName, after_of, changes_seen};
+ghost use Rattle.dv_catalog.specs.Inner.EffectView.{BeginsWithId, HasWholeName, after_of, changes_seen};
 ghost use Rattle.dv_catalog.specs.Told as defined;
+ghost use Rattle.dv_catalog.specs.Inner.Told as defined_inner;
 
 use crate::effect::{Changes, Updates};
 use dv_change::Change;
@@ -24,7 +25,7 @@ pub(crate) fn told(
 ) -> Result<Vec<Change>, NoMemory>
     requires identified { AllByRecursion BeginsWithId (changes_seen changes.now) }
     requires whole { HasWholeName changes.now }
-    ensures { IfOk result (λ all. defined.AreTold namespace.now views.now (changes_seen changes.now) all.items) }
+    ensures { IfOk result (λ all. defined_inner.AreTold namespace.now views.now (changes_seen changes.now) all.items) }
 {
     if !views.is_read(namespace) {
         return Ok(Vec::new(alloc));
@@ -67,7 +68,7 @@ pub(crate) fn one_told(
     document: &Document,
 ) -> Result<Vec<Change>, NoMemory>
     requires { HasId document.now }
-    ensures { IfOk result (λ all. defined.AreTold namespace.now views.now (changing.put document.now ∷ []) all.items) }
+    ensures { IfOk result (λ all. defined_inner.AreTold namespace.now views.now (changing.put document.now ∷ []) all.items) }
 {
     if !views.is_read(namespace) {
         return Ok(Vec::new(alloc));

@@ -3,10 +3,10 @@
 ghost use Rattle.std.specs.Prelude.{◌≡◌, ◌∷◌, [], false, ℕ, List, Some, OnOk};
 ghost use Rattle.dv_value.specs.Tree.{Field};
 ghost use Rattle.dv_views.specs.Forms as forms;
-ghost use Rattle.dv_views.specs.Views as views;
-ghost use Rattle.dv_catalog.specs.CatalogParts as parts;
-ghost use Rattle.dv_catalog.specs.CatalogParts.{AreLive, marked_of, rows_kept, state_of};
-ghost use Rattle.dv_catalog.specs.Parts.{Reads};
+ghost use Rattle.dv_views.specs.Inner.Views as views;
+ghost use Rattle.dv_catalog.specs.Inner.CatalogParts as parts;
+ghost use Rattle.dv_catalog.specs.Inner.CatalogParts.{AreLive, marked_of, rows_kept, state_of};
+ghost use Rattle.dv_catalog.specs.Inner.Parts.{Reads};
 ghost use Rattle.dv_catalog.specs.State.{Namespaces, lists_of, rows_of};
 
 use crate::collections::Collections;

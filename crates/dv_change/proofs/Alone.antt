@@ -10,9 +10,9 @@ use Rattle.dv_change.specs.declared.position.Part.TheVariants.{Up}
 use Rattle.dv_change.specs.declared.lent.Parts.{Parts}
 use Rattle.dv_change.specs.declared.lent.Lent.{Lent}
 use Rattle.dv_change.specs.declared.lent.Lent.TheVariants.{Alone, Together}
-use Rattle.dv_change.specs.Lents.{lent_parts, parts_lent}
+use Rattle.dv_change.specs.Inner.Lents.{lent_parts, parts_lent}
 use Rattle.dv_change.specs.Positions.{pos_order}
-use Rattle.dv_change.specs.PositionLaws.{pos_order_total, then-equal}
+use Rattle.dv_change.specs.Inner.PositionLaws.{pos_order_total, then-equal}
 
 pub alone_alone : (p q : Lent) (k l : LentKey) → p ≡ Alone k → q ≡ Alone l → key_order (lent_key k) (lent_key l) ≡ pos_order (lent_parts p) (lent_parts q)
 alone_alone p q k l e f = rw (e, f) (sym (then-equal (key_order (lent_key k) (lent_key l))))

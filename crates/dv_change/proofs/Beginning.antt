@@ -1,7 +1,7 @@
 -- Lists that begin with others.
 use Rattle.std.proofs.Common.{◌∙◌, ◌≤◌, List, length, take, ap, arith, sym}
 use Rattle.std.proofs.lemmas.List.{length-take, take-take}
-use Rattle.dv_change.specs.Beginning.{BeginsWith}
+use Rattle.dv_change.specs.Inner.Beginning.{BeginsWith}
 
 pub begins-through : {A : Type 0} (first some all : List A) → BeginsWith some first → BeginsWith all some → BeginsWith all first
 begins-through first some all front whole =

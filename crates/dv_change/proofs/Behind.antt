@@ -7,10 +7,10 @@ use Rattle.std.specs.Cmp.{tied_itself}
 use Rattle.dv_change.specs.declared.place.Place.{Place}
 use Rattle.dv_change.specs.declared.place.Place.TheVariants.{One, Two}
 use Rattle.dv_change.specs.Positions.{PosTree, part_order, pos_order}
-use Rattle.dv_change.specs.PositionLaws.{part_order_total, then-equal}
-use Rattle.dv_change.specs.PartCodes.{part_top, part_high, part_low, part_of_code, first_top, first_high, first_low}
-use Rattle.dv_change.specs.Places.{parts_of, IsCodeOf, IsValid}
-use Rattle.dv_change.specs.PlaceLaws.{code_order, told_order}
+use Rattle.dv_change.specs.Inner.PositionLaws.{part_order_total, then-equal}
+use Rattle.dv_change.specs.Inner.PartCodes.{part_top, part_high, part_low, part_of_code, first_top, first_high, first_low}
+use Rattle.dv_change.specs.Inner.Places.{parts_of, IsCodeOf, IsValid}
+use Rattle.dv_change.specs.Inner.PlaceLaws.{code_order, told_order}
 
 -- the first parts have one code
 abbrev pub AreAlike : PosTree → PosTree → Type 0

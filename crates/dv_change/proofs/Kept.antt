@@ -5,8 +5,9 @@ use Rattle.dv_change.specs.Changes.{Positioned, with_changes}
 use Rattle.dv_change.specs.declared.input.Input.{Input}
 use Rattle.dv_change.specs.declared.input.Input.TheVariants.{Left, Named}
 use Rattle.dv_change.specs.Inputs.{left_after}
-use Rattle.dv_change.specs.Linked.{HasTaken, IsLinked, first_left, forms_of}
-use Rattle.dv_change.specs.Work.{Form, forms_after, pass_in, through_forms, work_in}
+use Rattle.dv_change.specs.Inner.Linked.{HasTaken, IsLinked, first_left, forms_of}
+use Rattle.dv_change.specs.Work.{Form, pass_in, through_forms, work_in}
+use Rattle.dv_change.specs.Inner.Work.{forms_after}
 
 module _ {T : Type 0} (left : T → Positioned) (others : T → List Positioned) (makes : T → List Positioned → Positioned → Positioned) (sound : T → Type 0) where
   -- without a turn the rows are those that come

@@ -3,16 +3,18 @@ use Rattle.std.proofs.Common.{◌≡◌, ◌∙◌, ap, sym, subst, refl, List, 
 use Rattle.std.specs.Prelude.{Bool, true, false, if◌then◌else◌, nat_lt}
 use Rattle.std.specs.List.{AllByRecursion}
 use Rattle.dv_change.specs.declared.change.Change.{Change}
-use Rattle.dv_change.specs.Changes.{IsExactChange, IsPositioned, Positioned, with_change, with_changes}
+use Rattle.dv_change.specs.Changes.{Positioned, with_change, with_changes}
+use Rattle.dv_change.specs.Inner.Changes.{IsExactChange, IsPositioned}
 use Rattle.dv_change.specs.Difference.{diff}
-use Rattle.dv_change.specs.DiffLaws.{apply-diff, exact-both, exact-diff, positioned-changes, with_changes-both}
-use Rattle.dv_change.specs.Linked.{IsLinked, first_left, forms_of, last_outs}
+use Rattle.dv_change.specs.Inner.DiffLaws.{apply-diff, exact-both, exact-diff, positioned-changes, with_changes-both}
+use Rattle.dv_change.specs.Inner.Linked.{IsLinked, first_left, forms_of, last_outs}
 use Rattle.dv_change.specs.declared.input.Input.{Input}
 use Rattle.dv_change.specs.declared.input.Input.TheVariants.{Left, Named}
 use Rattle.dv_change.specs.Inputs.{input_changed_at, left_after, others_after}
 use Rattle.dv_change.specs.Raised.{raised}
-use Rattle.dv_change.specs.RowLaws.{positioned-none}
-use Rattle.dv_change.specs.Work.{Form, forms_after, forms_named, handed, owed_by, pass, pass_in, pass_named, through_forms, work, work_named}
+use Rattle.dv_change.specs.Inner.RowLaws.{positioned-none}
+use Rattle.dv_change.specs.Work.{Form, handed, owed_by, pass, pass_in, pass_named, through_forms, work, work_named}
+use Rattle.dv_change.specs.Inner.Work.{forms_after, forms_named}
 
 pub raised-twice : (n a b : ℕ) → raised (raised n a) b ≡ raised n (a + b)
 raised-twice n a b = omega arith

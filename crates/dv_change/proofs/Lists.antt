@@ -2,9 +2,10 @@
 use Rattle.std.proofs.Common.{◌≡◌, ap, arith, refl, ℕ, zero, suc, ◌<◌, List, [], ◌∷◌, length, map, slice_index_or, slice_set}
 use Rattle.std.specs.List.{AllByRecursion}
 use Rattle.dv_change.specs.declared.change.Change.{Change}
-use Rattle.dv_change.specs.Changes.{IsPositioned, Positioned, with_change}
+use Rattle.dv_change.specs.Changes.{Positioned, with_change}
+use Rattle.dv_change.specs.Inner.Changes.{IsPositioned}
 use Rattle.dv_change.specs.Inputs.{input_changed_at}
-use Rattle.dv_change.specs.Told.{list_at}
+use Rattle.dv_change.specs.Inner.Told.{list_at}
 
 module _ {A : Type 0} (f : A → Positioned) where
   pub placed : (xs : List A) (i : ℕ) (d : A) → i < length xs → AllByRecursion (λ (rows : Positioned). IsPositioned rows) (map f xs) → IsPositioned (f (slice_index_or xs i d))

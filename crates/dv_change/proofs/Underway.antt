@@ -4,14 +4,15 @@ use Rattle.std.specs.Prelude.{suc}
 use Rattle.std.specs.List.{AllByRecursion}
 use Rattle.dv_change.specs.declared.change.Change.{Change}
 use Rattle.dv_change.specs.declared.taking.Taken.{Taken}
-use Rattle.dv_change.specs.Changes.{IsExactChange, IsPositioned, Positioned, with_change, with_changes}
+use Rattle.dv_change.specs.Changes.{Positioned, with_change, with_changes}
+use Rattle.dv_change.specs.Inner.Changes.{IsExactChange, IsPositioned}
 use Rattle.dv_change.specs.Difference.{diff}
-use Rattle.dv_change.specs.DiffLaws.{apply-diff, positioned-changed}
-use Rattle.dv_change.specs.Fed.{IsFed, IsFilled, IsUnderway}
+use Rattle.dv_change.specs.Inner.DiffLaws.{apply-diff, positioned-changed}
+use Rattle.dv_change.specs.Inner.Fed.{IsFed, IsFilled, IsUnderway}
 use Rattle.dv_change.specs.Raised.{raised}
-use Rattle.dv_change.specs.RowLaws.{positioned-none}
-use Rattle.dv_change.specs.Told.{changes_told, told_along, with_old}
-use Rattle.dv_change.specs.ToldLaws.{changes-told, told-both}
+use Rattle.dv_change.specs.Inner.RowLaws.{positioned-none}
+use Rattle.dv_change.specs.Inner.Told.{changes_told, told_along, with_old}
+use Rattle.dv_change.specs.Inner.ToldLaws.{changes-told, told-both}
 use Rattle.dv_change.specs.Work.{handed}
 use Rattle.dv_change.proofs.Linking.{apply-handed, exact-handed, raised-twice}
 

@@ -7,7 +7,7 @@ use Rattle.std.specs.Map.{keys_of, lookup, remove_entry, values_of}
 use Rattle.dv_value.specs.Tree.{Field}
 use Rattle.dv_change.specs.declared.change.Change.{Change}
 use Rattle.dv_change.specs.declared.change.Change.TheVariants.{Put, Gone}
-use Rattle.dv_change.specs.Positions.{IsExact, PosTree, pos_order}
+use Rattle.dv_change.specs.Positions.{PosTree, pos_order}
 
 -- rows, each at a position of its own; the positions ascend
 abbrev pub Positioned : Type 0
@@ -17,16 +17,6 @@ Positioned = List (PosTree × List Field)
 abbrev pub with_change : Positioned → Change → Positioned
 with_change rows (Put pos row) = insert_entry pos_order rows pos row
 with_change rows (Gone pos) = remove_entry (is_at (pos_order pos)) rows
-
--- the position of a change
-abbrev pub position_changed : Change → PosTree
-position_changed (Put pos row) = pos
-position_changed (Gone pos) = pos
-
--- the row that stands there afterwards, where one does
-abbrev pub row_in : Change → Option (List Field)
-row_in (Put pos row) = Some row
-row_in (Gone pos) = None
 
 -- the rows after some changes, one after the other
 abbrev pub with_changes : Positioned → List Change → Positioned
@@ -40,26 +30,7 @@ forget rows = values_of rows
 abbrev pub at : PosTree → Positioned → Option (List Field)
 at pos rows = lookup (is_at (pos_order pos)) rows
 
--- the row at a position alone, where there is one
-abbrev pub alone : PosTree → Option (List Field) → Positioned
-alone pos None = []
-alone pos (Some row) = (pos, row) ∷ []
-
--- the positions strictly ascend, and their keys are those of values, or the one that no value has
-pub record IsPositioned {V : Type 0} (rows : List (PosTree × V)) : Type 0 where
-  pub ascending : IsStrictlySortedBy pos_order (keys_of rows)
-  pub exact : AllByRecursion IsExact (keys_of rows)
-
--- the positions have as many parts as each other
-abbrev pub HaveOneLength : Positioned → Type 0
-HaveOneLength rows = (n : ℕ) × AllByRecursion (λ pos. length pos ≡ n) (keys_of rows)
-
 -- rows in the order of their positions; of two at one position the first stays
 abbrev pub in_row_order : Positioned → Positioned
 in_row_order [] = []
 in_row_order (e ∷ es) = insert_entry pos_order (in_row_order es) e.0 e.1
-
--- the keys of a change's position are those of values, or the one that no value has
-abbrev pub IsExactChange : Change → Type 0
-IsExactChange (Put pos row) = IsExact pos
-IsExactChange (Gone pos) = IsExact pos

@@ -1,23 +1,8 @@
 pub mod Positions
-pub mod PositionLaws
-pub mod PartCodes
-pub mod Places
-pub mod PlaceLaws
-pub mod Lents
 pub mod Changes
-pub mod Beginning
 pub mod Difference
-pub mod DiffLaws
 pub mod Inputs
-pub mod Answered
-pub mod Ordered
 pub mod Raised
-pub mod RowLaws
 pub mod Work
-pub mod Telling
-pub mod Told
-pub mod ToldLaws
-pub mod Fed
-pub mod Linked
-pub mod OrderedView
-pub mod Examples
+-- what only bodies and proofs need
+pub mod Inner

@@ -5,7 +5,7 @@ use Rattle.dv_change.specs.declared.input.Input.{Input}
 use Rattle.dv_change.specs.declared.input.Input.TheVariants.{Left, Named}
 use Rattle.dv_change.specs.Changes.{Positioned, with_change}
 use Rattle.dv_change.specs.Difference.{diff}
-use Rattle.dv_change.specs.Inputs.{input_changed_at, left_after, others_after}
+use Rattle.dv_change.specs.Inputs.{left_after, others_after}
 
 -- what a stage makes of the lists that it looks into and of its rows; and these lists
 pub record Form : Type 0 where
@@ -43,16 +43,6 @@ abbrev pub work : List Form → Positioned → List Change → ℕ
 work [] rows changes = 0
 work (form ∷ forms) rows changes = length changes + length (handed (stage_rows form) rows changes) + work forms (stage_rows form rows) (handed (stage_rows form) rows changes)
 
--- how many lists the stages look into
-abbrev pub named_in : List Form → ℕ
-named_in [] = 0
-named_in (form ∷ forms) = length form.named + named_in forms
-
--- a list is there for the input
-abbrev pub HasAny : Input → List Form → Type 0
-HasAny Left forms = ⊤
-HasAny (Named i) forms = i < named_in forms
-
 -- the same for a change of a list that a stage looks into, where these lists are counted through all stages
 abbrev pub pass_named : ℕ → Change → List Form → Positioned → List Change
 pass_named i change [] rows = []
@@ -64,10 +54,6 @@ work_named i change [] rows = 0
 work_named i change (form ∷ forms) rows =
     if nat_lt i (length form.named) then 1 + length (owed (Named i) change form rows) + work forms (stage_rows form rows) (owed (Named i) change form rows) else work_named (i - length form.named) change forms (stage_rows form rows)
 
-abbrev pub forms_named : ℕ → Change → List Form → List Form
-forms_named i change [] = []
-forms_named i change (form ∷ forms) = if nat_lt i (length form.named) then record { makes = form.makes; named = input_changed_at i change form.named } ∷ forms else form ∷ forms_named (i - length form.named) change forms
-
 -- what comes out of the last stage for a change of an input
 abbrev pub pass_in : Input → Change → List Form → Positioned → List Change
 pass_in Left change forms rows = pass forms rows (change ∷ [])
@@ -77,8 +63,3 @@ pass_in (Named i) change forms rows = pass_named i change forms rows
 abbrev pub work_in : Input → Change → List Form → Positioned → ℕ
 work_in Left change forms rows = work forms rows (change ∷ [])
 work_in (Named i) change forms rows = work_named i change forms rows
-
--- the stages, after a change of an input
-abbrev pub forms_after : Input → Change → List Form → List Form
-forms_after Left change forms = forms
-forms_after (Named i) change forms = forms_named i change forms

@@ -2,13 +2,15 @@
 
 ghost use Rattle.std.specs.Prelude.{◌≡◌, ◌+◌, ◌<◌, ◌≤◌, ◌++◌, [], length, IfOk, OnErr, OnOk};
 ghost use Rattle.std.specs.List.{AllByRecursion};
-ghost use Rattle.dv_change.specs.Beginning.{BeginsWith};
-ghost use Rattle.dv_change.specs.Changes.{IsExactChange, with_changes};
+ghost use Rattle.dv_change.specs.Inner.Beginning.{BeginsWith};
+ghost use Rattle.dv_change.specs.Changes.{with_changes};
+ghost use Rattle.dv_change.specs.Inner.Changes.{IsExactChange};
 ghost use Rattle.dv_change.specs.Inputs.{left_after};
-ghost use Rattle.dv_change.specs.Linked.{IsLinked, first_left, forms_of, last_outs};
+ghost use Rattle.dv_change.specs.Inner.Linked.{IsLinked, first_left, forms_of, last_outs};
 ghost use Rattle.dv_change.specs.Raised.{raised};
 ghost use Rattle.dv_change.specs.Work as defined;
-ghost use Rattle.dv_change.specs.Work.{HasAny, forms_after, forms_named, named_in, pass, pass_in, pass_named, through_forms, work, work_in, work_named};
+ghost use Rattle.dv_change.specs.Work.{pass, pass_in, pass_named, through_forms, work, work_in, work_named};
+ghost use Rattle.dv_change.specs.Inner.Work.{HasAny, forms_after, forms_named, named_in};
 
 use crate::change::Change;
 use crate::filling::fill_all;

@@ -1,7 +1,7 @@
 //! Changes of a list of rows at positions.
 
 ghost use Rattle.std.specs.Prelude.{◌≡◌, IfOk};
-ghost use Rattle.dv_change.specs.Changes.{IsExactChange};
+ghost use Rattle.dv_change.specs.Inner.Changes.{IsExactChange};
 
 use crate::position::Pos;
 use dv_value::{Document, NoMemory};

@@ -2,7 +2,7 @@
 
 ghost use Rattle.std.specs.Prelude.{◌≡◌, [], IfOk, OnOk};
 ghost use Rattle.dv_change.specs.Changes.{with_changes};
-ghost use Rattle.dv_change.specs.Linked.{IsLinked, forms_of};
+ghost use Rattle.dv_change.specs.Inner.Linked.{IsLinked, forms_of};
 ghost use Rattle.dv_change.specs.Work.{through_forms};
 
 use crate::change::Change;

@@ -2,12 +2,12 @@
 
 ghost use Rattle.std.specs.Prelude.{◌≡◌, ◌≤◌, ◌+◌, ◌++◌, List, None, Option, Some, length, option_map, IfOk, OnErr, OnOk};
 ghost use Rattle.dv_value.specs.Tree.{Field};
-ghost use Rattle.dv_change.specs.Beginning.{BeginsWith};
+ghost use Rattle.dv_change.specs.Inner.Beginning.{BeginsWith};
 ghost use Rattle.dv_change.specs.Difference.{diff};
 ghost use Rattle.dv_change.specs.Positions.{PosTree};
 ghost use Rattle.dv_change.specs.Raised.{raised};
-ghost use Rattle.dv_change.specs.Telling.{diff_by, gone_by, gones_by, put_by, puts_by};
-ghost use Rattle.dv_change.specs.Told.{change_to, diff_told};
+ghost use Rattle.dv_change.specs.Inner.Telling.{diff_by, gone_by, gones_by, put_by, puts_by};
+ghost use Rattle.dv_change.specs.Inner.Told.{change_to, diff_told};
 
 use crate::change::Change;
 use crate::ordered::Ordered;

@@ -3,11 +3,12 @@
 ghost use Rattle.std.specs.Prelude.{◌≡◌, ◌≤◌, ◌+◌, ◌<◌, ◌++◌, List, [], IfOk, OnErr, OnOk, length, map};
 ghost use Rattle.std.specs.List.{AllByRecursion};
 ghost use Rattle.dv_change.specs.declared.change.Change.{Change};
-ghost use Rattle.dv_change.specs.Beginning.{BeginsWith};
-ghost use Rattle.dv_change.specs.Changes.{IsExactChange, IsPositioned, Positioned, with_changes};
+ghost use Rattle.dv_change.specs.Inner.Beginning.{BeginsWith};
+ghost use Rattle.dv_change.specs.Changes.{Positioned, with_changes};
+ghost use Rattle.dv_change.specs.Inner.Changes.{IsExactChange, IsPositioned};
 ghost use Rattle.dv_change.specs.Inputs.{input_changed_at, left_after, others_after};
 ghost use Rattle.dv_change.specs.Raised.{raised};
-ghost use Rattle.dv_change.specs.Told.{ComesTo, changes_told, list_at, told_along, with_old};
+ghost use Rattle.dv_change.specs.Inner.Told.{ComesTo, changes_told, list_at, told_along, with_old};
 ghost use Rattle.dv_change.specs.Work.{owed_by};
 
 use crate::change::Change;

@@ -3,7 +3,7 @@
 ghost use Rattle.std.specs.Prelude.{◌≡◌, [], ◌∷◌};
 ghost use Rattle.dv_order.specs.LentKeys.{lent_key};
 ghost use Rattle.dv_change.specs.declared.position.Part.TheVariants.{Up};
-ghost use Rattle.dv_change.specs.Lents.{lent_parts, parts_lent};
+ghost use Rattle.dv_change.specs.Inner.Lents.{lent_parts, parts_lent};
 ghost use Rattle.dv_change.specs.Positions.{part_order, pos_order};
 
 use crate::position::Part;

@@ -4,13 +4,14 @@ ghost use Rattle.std.specs.Prelude.{◌≡◌, ◌↔◌, ◌++◌, [], filter, 
 ghost use Rattle.std.specs.BTreeMap.Range.{IsLeBy, IsLtBy, range_contains};
 ghost use Rattle.std.specs.List.{AllByRecursion};
 ghost use Rattle.std.specs.Range.Bound.{IsForward};
-ghost use Rattle.dv_change.specs.Beginning.{BeginsWith};
+ghost use Rattle.dv_change.specs.Inner.Beginning.{BeginsWith};
 ghost use Rattle.dv_change.specs.Changes.{Positioned, forget, with_change, with_changes};
 ghost use Rattle.dv_change.specs.Inputs.{left_after};
-ghost use Rattle.dv_change.specs.Linked.{HasTaken, IsLinked, first_left, forms_of};
+ghost use Rattle.dv_change.specs.Inner.Linked.{HasTaken, IsLinked, first_left, forms_of};
 ghost use Rattle.dv_change.specs.Positions.{pos_order};
 ghost use Rattle.dv_change.specs.Raised.{raised};
-ghost use Rattle.dv_change.specs.Work.{HasAny, forms_after, pass_in, work_in};
+ghost use Rattle.dv_change.specs.Work.{pass_in, work_in};
+ghost use Rattle.dv_change.specs.Inner.Work.{HasAny, forms_after};
 
 use crate::chain::Chain;
 use crate::change::Change;

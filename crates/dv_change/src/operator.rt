@@ -3,12 +3,13 @@
 ghost use Rattle.std.specs.Prelude.{◌≡◌, ◌≤◌, ◌+◌, ◌++◌, List, [], length, IfOk, OnErr, OnOk};
 ghost use Rattle.std.specs.List.{AllByRecursion};
 ghost use Rattle.dv_change.specs.declared.change.Change.{Change};
-ghost use Rattle.dv_change.specs.Beginning.{BeginsWith};
-ghost use Rattle.dv_change.specs.Changes.{HaveOneLength, IsExactChange, IsPositioned, Positioned};
-ghost use Rattle.dv_change.specs.Fed.{IsFilled};
+ghost use Rattle.dv_change.specs.Inner.Beginning.{BeginsWith};
+ghost use Rattle.dv_change.specs.Changes.{Positioned};
+ghost use Rattle.dv_change.specs.Inner.Changes.{HaveOneLength, IsExactChange, IsPositioned};
+ghost use Rattle.dv_change.specs.Inner.Fed.{IsFilled};
 ghost use Rattle.dv_change.specs.Inputs.{left_after, others_after};
 ghost use Rattle.dv_change.specs.Raised.{raised};
-ghost use Rattle.dv_change.specs.Told.{ComesTo, told_along};
+ghost use Rattle.dv_change.specs.Inner.Told.{ComesTo, told_along};
 ghost use Rattle.dv_change.specs.Work.{owed_by};
 
 use crate::input::Input;

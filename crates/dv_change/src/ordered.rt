@@ -2,7 +2,7 @@
 
 ghost use Rattle.std.specs.Prelude.{◌≡◌, ◌↔◌, List, [], IfOk, IsTrue, drop, length, slice_get};
 ghost use Rattle.std.specs.Option.{option_map};
-ghost use Rattle.dv_change.specs.Ordered.{found_at, gone, put};
+ghost use Rattle.dv_change.specs.Inner.Ordered.{found_at, gone, put};
 
 use crate::position::Pos;
 use dv_value::NoMemory;
@@ -30,7 +30,7 @@ impl<V> Model for Ordered<V> {
 
     ghost coded = { Prim.hlevel (codes, keys.the_row.coded) };
 
-    ghost use Rattle.dv_change.specs.OrderedView.{in_all, AreInOrder};
+    ghost use Rattle.dv_change.specs.Inner.OrderedView.{in_all, AreInOrder};
 
     ghost view = { λ o. in_all o.first o.others.entries };
 

@@ -1,7 +1,7 @@
 //! Codes of parts: three numbers, by which parts stand where these differ.
 
 ghost use Rattle.std.specs.Prelude.{◌≡◌, true};
-ghost use Rattle.dv_change.specs.PartCodes.{part_high, part_low, part_of_code, part_top};
+ghost use Rattle.dv_change.specs.Inner.PartCodes.{part_high, part_low, part_of_code, part_top};
 ghost use Rattle.dv_change.specs.declared.position.Part.TheVariants.{Up, Down};
 
 use crate::position::Part;
@@ -55,7 +55,7 @@ impl Part {
 }
 
 /// The code of the part under an ascending key.
-#[tactic(auto, using(crate::specs::PartCodes::key_class_within))]
+#[tactic(auto, using(crate::specs::Inner::PartCodes::key_class_within))]
 fn up_code(key: &Key) -> PartCode
     ensures top { result.top ≡ part_top (Up key.now) }
     ensures high { result.high ≡ part_high (Up key.now) }
@@ -72,7 +72,7 @@ fn up_code(key: &Key) -> PartCode
 }
 
 /// The code of the part under a descending key. Only a key without a second number is told by it.
-#[tactic(auto, using(crate::specs::PartCodes::key_class_within))]
+#[tactic(auto, using(crate::specs::Inner::PartCodes::key_class_within))]
 fn down_code(key: &Key) -> PartCode
     ensures top { result.top ≡ part_top (Down key.now) }
     ensures high { result.high ≡ part_high (Down key.now) }

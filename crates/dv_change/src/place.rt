@@ -5,9 +5,9 @@ ghost use Rattle.dv_value.specs.Tree.{string};
 ghost use Rattle.dv_order.specs.Key.{value};
 ghost use Rattle.dv_order.specs.LentKeys.{lent_key};
 ghost use Rattle.dv_change.specs.declared.position.Part.TheVariants.{Up};
-ghost use Rattle.dv_change.specs.Lents.{lent_parts};
-ghost use Rattle.dv_change.specs.PartCodes.{first_high, first_low, first_top};
-ghost use Rattle.dv_change.specs.Places.{IsFirstCode, IsTextIn, IsValid, parts_of};
+ghost use Rattle.dv_change.specs.Inner.Lents.{lent_parts};
+ghost use Rattle.dv_change.specs.Inner.PartCodes.{first_high, first_low, first_top};
+ghost use Rattle.dv_change.specs.Inner.Places.{IsFirstCode, IsTextIn, IsValid, parts_of};
 ghost use Rattle.dv_change.specs.Positions.{pos_order};
 
 use crate::lent::{Lent, Parts};

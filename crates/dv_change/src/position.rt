@@ -4,7 +4,7 @@ ghost use Rattle.std.specs.Prelude.{◌≡◌, ◌++◌, ◌∷◌, [], IfOk, On
 ghost use Rattle.std.specs.Cmp.{eq_by_cmp_equiv, partial_equiv_from_equiv, partial_order_from_total};
 ghost use Rattle.std.specs.Ordering.{as_partial_cmp, eq_by_cmp};
 ghost use Rattle.dv_change.specs.Positions.{IsExact, IsExactPart, kind, part_order, pos_order};
-ghost use Rattle.dv_change.specs.PositionLaws.{part_order_total, pos_order_total};
+ghost use Rattle.dv_change.specs.Inner.PositionLaws.{part_order_total, pos_order_total};
 
 use crate::lent::Lent;
 use crate::place::Place;
@@ -118,7 +118,7 @@ impl Model for Pos {
     ghost use Rattle.std.specs.Prelude.{List};
     ghost use Rattle.dv_change.specs.declared.position.Part.{Part};
     ghost use Rattle.dv_change.specs.Positions.{IsExact};
-    ghost use Rattle.dv_change.specs.Places.{IsValid, parts_of};
+    ghost use Rattle.dv_change.specs.Inner.Places.{IsValid, parts_of};
 
     ghost Value = { List Part };
 

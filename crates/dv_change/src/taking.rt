@@ -1,8 +1,9 @@
 //! How a stage takes in a change of its rows.
 
 ghost use Rattle.std.specs.Prelude.{◌≡◌, IfOk, OnOk};
-ghost use Rattle.dv_change.specs.Changes.{IsExactChange, IsPositioned, at, position_changed, row_in, with_change};
-ghost use Rattle.dv_change.specs.Told.{change_told};
+ghost use Rattle.dv_change.specs.Changes.{at, with_change};
+ghost use Rattle.dv_change.specs.Inner.Changes.{IsExactChange, IsPositioned, position_changed, row_in};
+ghost use Rattle.dv_change.specs.Inner.Told.{change_told};
 
 use crate::change::Change;
 use crate::position::Pos;

@@ -2,8 +2,9 @@
 
 ghost use Rattle.std.specs.Prelude.{◌≡◌, ◌≤◌, ◌+◌, ◌++◌, List, [], length, IfOk, OnErr, OnOk};
 ghost use Rattle.std.specs.List.{AllByRecursion};
-ghost use Rattle.dv_change.specs.Beginning.{BeginsWith};
-ghost use Rattle.dv_change.specs.Changes.{HaveOneLength, IsPositioned, Positioned, with_changes};
+ghost use Rattle.dv_change.specs.Inner.Beginning.{BeginsWith};
+ghost use Rattle.dv_change.specs.Changes.{Positioned, with_changes};
+ghost use Rattle.dv_change.specs.Inner.Changes.{HaveOneLength, IsPositioned};
 ghost use Rattle.dv_change.specs.Inputs.{HasInput, left_after, others_after};
 ghost use Rattle.dv_change.specs.Raised.{raised};
 ghost use Rattle.dv_change.specs.Work.{owed_by};

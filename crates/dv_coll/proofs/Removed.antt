@@ -10,7 +10,7 @@ use Rattle.std.specs.Cmp.{Equal-is, alike_right}
 use Rattle.std.specs.declared.cmp.Ordering.TheVariants.{Less}
 use Rattle.dv_value.specs.Tree.{Field}
 use Rattle.dv_order.specs.Key.{KeyTree, key_order}
-use Rattle.dv_order.specs.KeyLaws.{key_order_total}
+use Rattle.dv_order.specs.Inner.KeyLaws.{key_order_total}
 use Rattle.dv_coll.specs.Collection.{HasId, IsAscending, id_key, has_key, found, removed}
 use Rattle.dv_coll.proofs.Places.{Entries, Follow}
 

@@ -12,9 +12,9 @@ use Rattle.std.specs.Cmp.{Equal-is, alike_right}
 use Rattle.std.specs.declared.cmp.Ordering.TheVariants.{Less, Equal}
 use Rattle.dv_value.specs.Tree.{Tree, Field}
 use Rattle.dv_order.specs.Key.{KeyTree, key_order, key_at, first_value}
-use Rattle.dv_order.specs.KeyLaws.{key_order_total}
+use Rattle.dv_order.specs.Inner.KeyLaws.{key_order_total}
 use Rattle.dv_coll.specs.Collection.{HasId, IsAscending, id_key, has_key, found, replaced}
-use Rattle.dv_coll.specs.Keyed.{IsKeyed}
+use Rattle.dv_coll.specs.Inner.Keyed.{IsKeyed}
 use Rattle.dv_coll.proofs.Places.{Entries, Follow, lookup-found}
 use Rattle.dv_coll.proofs.Removed.{AreApart, apart_behind}
 

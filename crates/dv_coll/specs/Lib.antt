@@ -1,4 +1,3 @@
 pub mod Collection
-pub mod Keyed
-pub mod Fault
-pub mod Walk
+-- what only bodies and proofs need
+pub mod Inner

@@ -12,7 +12,7 @@ ghost use Rattle.dv_value.specs.FieldChange.{with_field_changed};
 ghost use Rattle.dv_value.specs.Names.{has_zero};
 ghost use Rattle.dv_order.specs.Key.{key_order};
 ghost use Rattle.dv_coll.specs.Collection.{HasId, IsAscending, id_key, found, inserted, removed, replaced, with_field_changed_in};
-ghost use Rattle.dv_coll.specs.Keyed.{changed_under};
+ghost use Rattle.dv_coll.specs.Inner.Keyed.{changed_under};
 
 use crate::fault::InsertFault;
 use crate::walk::Walk;
@@ -38,8 +38,8 @@ impl Model for Collection {
     ghost use Rattle.std.specs.Coded.{coded_list, coded×, coded_ℕ};
     ghost use Rattle.std.specs.BTreeMap.{values};
     ghost use Rattle.dv_value.specs.Tree.{Field};
-    ghost use Rattle.dv_value.specs.TreeCode.{coded_tree};
-    ghost use Rattle.dv_coll.specs.Keyed.{IsKeyed};
+    ghost use Rattle.dv_value.specs.Inner.TreeCode.{coded_tree};
+    ghost use Rattle.dv_coll.specs.Inner.Keyed.{IsKeyed};
 
     ghost Value = { prelude.List (prelude.List Field) };
 
@@ -294,7 +294,7 @@ impl<'a> Model for Iter<'a> {
     ghost use Rattle.std.specs.Prelude as prelude;
     ghost use Rattle.std.specs.Coded.{coded_list, coded×, coded_ℕ};
     ghost use Rattle.dv_value.specs.Tree.{Field};
-    ghost use Rattle.dv_value.specs.TreeCode.{coded_tree};
+    ghost use Rattle.dv_value.specs.Inner.TreeCode.{coded_tree};
 
     ghost Value = { prelude.List (prelude.List Field) };
 

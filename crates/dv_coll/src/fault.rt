@@ -17,7 +17,7 @@ pub enum InsertFault {
 }
 
 impl InsertFault {
-    ghost use Rattle.dv_coll.specs.Fault.{fault_number};
+    ghost use Rattle.dv_coll.specs.Inner.Fault.{fault_number};
 
     /// The fault's number, from 1 in the order in which the faults are declared.
     pub fn number(&self) -> u8
@@ -32,7 +32,7 @@ impl InsertFault {
 
 impl fmt::Display for InsertFault {
     ghost use Rattle.std.specs.Prelude.{Some};
-    ghost use Rattle.dv_coll.specs.Fault.{fault_text};
+    ghost use Rattle.dv_coll.specs.Inner.Fault.{fault_text};
 
     ghost output = { λ f. Some (fault_text f) };
 

@@ -3,7 +3,7 @@
 ghost use Rattle.std.specs.Prelude.{◌≡◌};
 ghost use Rattle.std.specs.Iterator.{YieldsFirstRef, item_count};
 ghost use Rattle.std.specs.Map.{values_of};
-ghost use Rattle.dv_coll.specs.Walk.{walked};
+ghost use Rattle.dv_coll.specs.Inner.Walk.{walked};
 
 use dv_order::Key;
 use dv_value::Document;
@@ -22,8 +22,8 @@ impl<'a> Model for Walk<'a> {
     ghost use Rattle.std.specs.Coded.{coded_list, coded×, coded_ℕ};
     ghost use Rattle.std.specs.Map.{values_of};
     ghost use Rattle.dv_value.specs.Tree.{Field};
-    ghost use Rattle.dv_value.specs.TreeCode.{coded_tree};
-    ghost use Rattle.dv_coll.specs.Walk.{walked};
+    ghost use Rattle.dv_value.specs.Inner.TreeCode.{coded_tree};
+    ghost use Rattle.dv_coll.specs.Inner.Walk.{walked};
 
     ghost Value = { prelude.List (prelude.List Field) };
 

@@ -20,7 +20,7 @@ use Rattle.dv_command.specs.declared.names.CommandName.{CommandName}
 use Rattle.dv_command.specs.declared.names.CommandName.TheVariants as names
 use Rattle.dv_command.specs.Asked.{Asked, write, asked_as, asked_by, check_count, command_name, command_named, looked_database, statement_limit, write_of}
 use Rattle.dv_command.specs.Lists.{CommandLists, check_only, in_either, list_under}
-use Rattle.dv_command.specs.Needed.{count_needed, front_needed, needed, needed_of, statements_needed}
+use Rattle.dv_command.specs.Inner.Needed.{count_needed, front_needed, needed, needed_of, statements_needed}
 use Rattle.dv_command.specs.Tables.{write_table}
 
 -- the same, and behind it the same

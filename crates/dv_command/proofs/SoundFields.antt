@@ -19,7 +19,8 @@ use Rattle.dv_fields.specs.Kinds as kinds
 use Rattle.dv_fields.specs.Namespaces.{database_in, namespace, dotted, is_database_name, is_collection_name, longest_namespace}
 use Rattle.dv_fields.specs.Refusals.{refused_by, pipeline_refusal}
 use Rattle.dv_value.specs.Results.{◌>>=◌, each}
-use Rattle.dv_command.specs.Sound.{AreSpellable, AreValidLists, AreIds, IsIndexName, AreIndexes, IsNamespace, IsSoundPipeline, IsSoundViewAsked}
+use Rattle.dv_command.specs.Sound.{AreSpellable, IsIndexName, IsSoundPipeline}
+use Rattle.dv_command.specs.Inner.Sound.{AreValidLists, AreIds, AreIndexes, IsNamespace, IsSoundViewAsked}
 use Rattle.dv_command.proofs.Lengths.{array_long}
 use Rattle.dv_fields.specs.declared.refusal.Refusal.{Refusal}
 use Rattle.dv_fields.specs.declared.refusal.Refusal.TheVariants.{BadValue, CommandNotFound, LimitReached}

@@ -4,7 +4,7 @@ ghost use Rattle.std.specs.Prelude.{◌≡◌, Ok, Err, MatchResult, map};
 ghost use Rattle.std.specs.Option.{option_map};
 ghost use Rattle.dv_command.specs.Asked as asking;
 ghost use Rattle.dv_command.specs.Entries as entered;
-ghost use Rattle.dv_command.specs.View.{asked_seen, index_seen, view_fields_seen, view_on_seen};
+ghost use Rattle.dv_command.specs.Inner.View.{asked_seen, index_seen, view_fields_seen, view_on_seen};
 ghost use Rattle.dv_fields.specs.Refusals.{UnlessWanting};
 ghost use Rattle.dv_value.specs.Results.{each};
 

@@ -2,7 +2,7 @@
 
 ghost use Rattle.std.specs.Prelude.{◌≡◌, Ok, Err, MatchResult, map};
 ghost use Rattle.dv_command.specs.Asked as asking;
-ghost use Rattle.dv_fields.specs.View.{rule_seen};
+ghost use Rattle.dv_fields.specs.Inner.View.{rule_seen};
 
 use crate::command::DocumentLists;
 use crate::lists::check_none;

@@ -5,7 +5,7 @@ ghost use Rattle.std.specs.List.{list_all};
 ghost use Rattle.std.specs.Option.{option_map};
 ghost use Rattle.std.specs.Str.{bytes_eq};
 ghost use Rattle.dv_command.specs.Lists as defined;
-ghost use Rattle.dv_command.specs.ListsView.{list_seen};
+ghost use Rattle.dv_command.specs.Inner.ListsView.{list_seen};
 
 use dv_value::{BsonFault, Document, Str};
 use std::alloc::Global;
@@ -41,13 +41,13 @@ impl Model for DocumentLists {
     ghost use Rattle.std.specs.Prelude.{ℕ, map};
     ghost use Rattle.std.specs.Coded.{coded_list, coded×, coded_ℕ};
     ghost use Rattle.dv_value.specs.Tree.{Field};
-    ghost use Rattle.dv_value.specs.TreeCode.{coded_tree};
+    ghost use Rattle.dv_value.specs.Inner.TreeCode.{coded_tree};
 
     ghost Value = { prelude.List (prelude.List ℕ × prelude.List (prelude.List Field)) };
 
     ghost coded = { coded_list (coded× (coded_list coded_ℕ) (coded_list (coded_list (coded× (coded_list coded_ℕ) coded_tree)))) };
 
-    ghost use Rattle.dv_command.specs.ListsView.{list_seen};
+    ghost use Rattle.dv_command.specs.Inner.ListsView.{list_seen};
 
     ghost view = { λ l. map list_seen l.lists.items };
 }

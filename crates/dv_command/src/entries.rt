@@ -7,7 +7,7 @@ ghost use Rattle.dv_path.specs.SortSpec.{direction_of, direction_of_number};
 ghost use Rattle.dv_command.specs.Forms.{or_bad_value};
 ghost use Rattle.dv_command.specs.Entries as entries;
 ghost use Rattle.dv_fields.specs.Refusals.{UnlessWanting};
-ghost use Rattle.dv_command.specs.View.{deletion_seen, index_seen, updating_seen};
+ghost use Rattle.dv_command.specs.Inner.View.{deletion_seen, index_seen, updating_seen};
 
 use crate::asking::IndexAsked;
 use crate::forms::{filter_of, is_replacement, update_of};

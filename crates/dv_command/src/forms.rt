@@ -4,7 +4,7 @@ ghost use Rattle.std.specs.Prelude.{◌≡◌};
 ghost use Rattle.dv_update.specs.UpdateView.{update};
 ghost use Rattle.dv_command.specs.Forms as forms;
 ghost use Rattle.dv_fields.specs.Refusals.{UnlessWanting};
-ghost use Rattle.dv_command.specs.View.{sort_seen};
+ghost use Rattle.dv_command.specs.Inner.View.{sort_seen};
 
 use dv_fields::Refusal;
 use dv_fields::fields::{document_or, first_name};

@@ -8,8 +8,8 @@ ghost use Rattle.dv_command.specs.Asked.{Asked, asked_by, asked_under, command_n
 ghost use Rattle.dv_command.specs.Lists.{CommandLists};
 ghost use Rattle.dv_command.specs.Replies.{count};
 ghost use Rattle.dv_command.specs.Entries.{Updating, updating_of};
-ghost use Rattle.dv_command.specs.Needed.{needed};
-ghost use Rattle.dv_command.specs.Sound.{AreValidLists, IsSoundRequest, IsSoundUpdate};
+ghost use Rattle.dv_command.specs.Inner.Needed.{needed};
+ghost use Rattle.dv_command.specs.Inner.Sound.{AreValidLists, IsSoundRequest, IsSoundUpdate};
 
 /// What a command asks is sound if the fields of its body and the lists beside it are: the documents in its list, how many they
 /// are, the names of its collections and of its indexes, its pipeline, and the ids of its cursors, of which there are no more than

@@ -1,7 +1,7 @@
 //! What of the lists beside its body a command needs.
 
 ghost use Rattle.std.specs.Prelude.{◌≡◌};
-ghost use Rattle.dv_command.specs.Needed as defined;
+ghost use Rattle.dv_command.specs.Inner.Needed as defined;
 
 use crate::names::{CommandName, command_named};
 use crate::statements::STATEMENT_LIMIT;
@@ -9,7 +9,7 @@ use crate::statements::STATEMENT_LIMIT;
 /// How many documents of a list of this name are needed of those beside the body of the command of that name: what the others
 /// are changes nothing of what it asks. Of the list of its statements as many as it may have, and one more, by which it is
 /// refused; of any other none.
-#[tactic(auto, unfolding(crate::specs::Needed::needed_of))]
+#[tactic(auto, unfolding(crate::specs::Inner::Needed::needed_of))]
 pub fn documents_needed(command: &str, list: &str) -> usize
     ensures { result ≡ defined.needed_of command.now list.now }
 {

@@ -2,7 +2,7 @@
 
 ghost use Rattle.std.specs.Prelude.{◌≡◌, Ok, Err, MatchResult};
 ghost use Rattle.dv_command.specs.Asked as asking;
-ghost use Rattle.dv_command.specs.View.{asked_seen, find_seen};
+ghost use Rattle.dv_command.specs.Inner.View.{asked_seen, find_seen};
 ghost use Rattle.dv_fields.specs.Refusals.{UnlessWanting};
 
 use crate::asking::{Aggregate, Asked, Explain, Find, GetMore, KillCursors};

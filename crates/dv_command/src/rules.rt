@@ -2,7 +2,7 @@
 
 ghost use Rattle.std.specs.Prelude.{◌≡◌, map};
 ghost use Rattle.dv_command.specs.Tables as tables;
-ghost use Rattle.dv_fields.specs.View.{rule_seen};
+ghost use Rattle.dv_fields.specs.Inner.View.{rule_seen};
 
 use dv_fields::{Kind, Rule};
 

@@ -1,7 +1,7 @@
 //! Commands of statements.
 
 ghost use Rattle.dv_command.specs.Asked as asking;
-ghost use Rattle.dv_command.specs.View.{asked_seen};
+ghost use Rattle.dv_command.specs.Inner.View.{asked_seen};
 ghost use Rattle.dv_fields.specs.Refusals.{UnlessWanting};
 
 use crate::asking::{Asked, Write, WriteKind};

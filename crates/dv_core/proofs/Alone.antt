@@ -4,10 +4,10 @@ use Rattle.std.proofs.lemmas.List.Sums.{passes_at_first, split_at_first}
 use Rattle.std.specs.List.{after_first, before_first, position_or_len}
 use Rattle.dv_value.specs.Tree.{Field}
 use Rattle.dv_catalog.specs.Changes.{Change, Effect, apply, changes_of, done_to, put}
-use Rattle.dv_catalog.specs.EffectLaws.{done_so}
+use Rattle.dv_catalog.specs.Inner.EffectLaws.{done_so}
 use Rattle.dv_catalog.specs.Effects.{put_new}
 use Rattle.dv_catalog.specs.Marks.{AreMarkedBy}
-use Rattle.dv_catalog.specs.Parts.{Makes, one_changed}
+use Rattle.dv_catalog.specs.Inner.Parts.{Makes, one_changed}
 use Rattle.dv_catalog.specs.State.{Collection, collection_of, is_view, lists_of}
 use Rattle.dv_catalog.specs.declared.stopped.Stopped.{Stopped}
 use Rattle.dv_coll.specs.Collection.{found, id_key}

@@ -13,7 +13,7 @@ use Rattle.dv_value.specs.Results.{◌>>=◌}
 use Rattle.dv_catalog.specs.State as stored
 use Rattle.dv_cursor.specs.Batch.{batch, rows_behind}
 use Rattle.dv_cursor.specs.Cursors.{Cursor, Cursors, added, advanced, closed, cursor_behind, cursor_over, free_id, rows_to_come, cursor_rows, without_session}
-use Rattle.dv_cursor.specs.Runs.{is_cursor_place}
+use Rattle.dv_cursor.specs.Inner.Runs.{is_cursor_place}
 use Rattle.dv_core.specs.Find.{are_too_large, kept, kept_under, replied}
 use Rattle.dv_core.specs.More.{next_of, cursor_number, rows_asked, rows_wanted, without_cursor, without_cursors}
 use Rattle.dv_core.specs.Runs.{Move, carries, ends, wants, stands, state_after_move, is_cursor_number, batch_told, is_nil, is_last_batch, asked_rows, asked_last, rows_told, tells_last, all_told, is_told_out}

@@ -13,7 +13,7 @@ use Rattle.dv_catalog.specs.State.{rows_of}
 use Rattle.dv_catalog.specs.Views.{aggregated}
 use Rattle.dv_cursor.specs.Batch.{batch, rows_behind}
 use Rattle.dv_cursor.specs.Cursors.{Cursors, added, free_id, rows_to_come}
-use Rattle.dv_cursor.specs.Runs.{is_cursor_place}
+use Rattle.dv_cursor.specs.Inner.Runs.{is_cursor_place}
 use Rattle.dv_core.specs.declared.outcome.Outcome.{Outcome}
 use Rattle.dv_core.specs.declared.outcome.Outcome.TheVariants.{Reply, Wanting, NoReply}
 use Rattle.dv_core.specs.Find.{are_too_large, first_batch, kept, kept_under, kept_by_cursor, replied}

@@ -2,7 +2,7 @@
 use Rattle.std.proofs.Common.{◌≡◌, ◌⊎◌, inl, inr, ℕ, zero, suc, ◌||◌, Bool, true, false, List, [], ◌∷◌, take, Result, Ok, Err, refl, sym, subst}
 use Rattle.dv_value.specs.Tree.{Field}
 use Rattle.dv_catalog.specs.Changes.{Change, Effect, Statement, breaks, changes_of, clashes_by, done_to, with_change}
-use Rattle.dv_catalog.specs.EffectLaws.{done_changes, done_so}
+use Rattle.dv_catalog.specs.Inner.EffectLaws.{done_changes, done_so}
 use Rattle.dv_catalog.specs.State.{Collection}
 use Rattle.dv_fields.specs.declared.refusal.Refusal.{Refusal}
 use Rattle.dv_keyed.specs.Index.{IndexForm}

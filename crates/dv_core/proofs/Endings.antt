@@ -13,7 +13,7 @@ use Rattle.dv_core.specs.declared.outcome.Outcome.{Outcome}
 use Rattle.dv_core.specs.declared.outcome.Outcome.TheVariants.{Reply, NoReply}
 use Rattle.dv_core.specs.Indexes.{form_asked, index_count, indexed, unindexed}
 use Rattle.dv_core.specs.More.{gone_ids, killed, missing_ids, went_each, without_cursor, without_cursors}
-use Rattle.dv_core.specs.StepParts.{Ends, Refuses, TellsOrNot}
+use Rattle.dv_core.specs.Inner.StepParts.{Ends, Refuses, TellsOrNot}
 
 -- a reply for which there is memory or isn't
 pub told_so : {E : Type 0} (reply : List Field) (made : Result (List Field) E) (outcome : Outcome) → IfOk made (λ told. told ≡ reply) → IfOk made (λ told. outcome ≡ Reply told) → OnErr made (outcome ≡ NoReply) → TellsOrNot reply outcome

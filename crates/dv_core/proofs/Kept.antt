@@ -25,7 +25,7 @@ use Rattle.dv_core.proofs.Bare.{BareStep}
 use Rattle.dv_core.proofs.Changed.{Did, outcome_may, MayWrite}
 use Rattle.dv_core.proofs.Done.{changes_done, changes_unbroken, front_unbroken, neither}
 use Rattle.dv_core.proofs.Standing.{IsKeptBy, Stands, made_stands, put_stands}
-use Rattle.dv_catalog.specs.EffectLaws.{IsGoodAfter, chosen_good, matching_good, all_changed_good}
+use Rattle.dv_catalog.specs.Inner.EffectLaws.{IsGoodAfter, chosen_good, matching_good, all_changed_good}
 
 -- changes keep a property of the collection of a namespace where they put no key of a unique index under two `_id`s
 abbrev pub ChangesKeep : (List ℕ → Collection → Type 0) → (Change → Type 0) → Type 0

@@ -9,7 +9,7 @@ use Rattle.dv_catalog.specs.IndexMaking.{indexes_created, indexes_dropped, with_
 use Rattle.dv_keyed.specs.Index.{IndexForm}
 use Rattle.dv_core.specs.Indexes.{form_asked}
 use Rattle.dv_core.specs.State as core
-use Rattle.dv_catalog.specs.StateLaws.{get-insert, get-remove}
+use Rattle.dv_catalog.specs.Inner.StateLaws.{get-insert, get-remove}
 use Rattle.dv_catalog.specs.Views.{created, dropped, made, reads_name, with_view, with_views}
 use Rattle.dv_command.specs.Asked.{Asked, Create, Drop, ViewOn, create, drop, create_indexes, drop_indexes, asked_by}
 use Rattle.dv_command.specs.declared.command.Command.{Command}

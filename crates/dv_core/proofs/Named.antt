@@ -13,10 +13,11 @@ use Rattle.dv_catalog.specs.Changes.{Change, Effect, Statement, apply, changes_o
 use Rattle.dv_catalog.specs.IndexMaking.{over_view, explained, explained_at, is_alike, is_made, way_by, unless_broken, with_all as with_all_entries, with_entries, with_index, within_limit, without_named, index_limit}
 use Rattle.dv_catalog.specs.State.{Collection, Standing, Namespaces, collection, collection_at, collection_of, indexes_of, with_documents, is_view}
 use Rattle.dv_catalog.specs.State as stored
-use Rattle.dv_catalog.specs.StateLaws.{get-insert}
+use Rattle.dv_catalog.specs.Inner.StateLaws.{get-insert}
 use Rattle.dv_command.specs.Asked.{Asked, create_indexes, drop_indexes, asked_by}
 use Rattle.dv_command.specs.Entries.{IndexAsked}
-use Rattle.dv_command.specs.Sound.{AreIndexes, IsIndexName, IsSoundRequest}
+use Rattle.dv_command.specs.Sound.{IsIndexName}
+use Rattle.dv_command.specs.Inner.Sound.{AreIndexes, IsSoundRequest}
 use Rattle.dv_command.specs.declared.command.Command.{Command}
 use Rattle.dv_core.specs.Indexes.{form_asked, index_name}
 use Rattle.dv_core.specs.Sound.{AreSoundIndexes, IsSoundCommand}

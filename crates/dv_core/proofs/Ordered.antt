@@ -15,7 +15,8 @@ use Rattle.dv_command.specs.Asked.{Asked, asked_by}
 use Rattle.dv_command.specs.Asked as asking
 use Rattle.dv_value.specs.Results.{◌>>=◌}
 use Rattle.dv_command.specs.Entries.{Updating, updating_of}
-use Rattle.dv_command.specs.Sound.{AreSpellable, IsSoundUpdate}
+use Rattle.dv_command.specs.Sound.{AreSpellable}
+use Rattle.dv_command.specs.Inner.Sound.{IsSoundUpdate}
 use Rattle.dv_command.specs.declared.asking.WriteKind.{WriteKind}
 use Rattle.dv_command.specs.declared.asking.WriteKind.TheVariants.{Insert, Update, Delete}
 use Rattle.dv_command.specs.declared.command.Command.{Command}
@@ -45,7 +46,7 @@ use Rattle.dv_index.specs.Indexed.{empty_indexed}
 use Rattle.dv_index.specs.Unique.{are_broken}
 use Rattle.dv_core.proofs.Kept.{ChangesKeep, Keeps, apply_holds, does_good, insert_keeps, updates_keep, deletes_keep, step_holds}
 use Rattle.dv_core.proofs.Stored.{storable_fits}
-use Rattle.dv_catalog.specs.EffectLaws.{KeepsId, told_after, after_id}
+use Rattle.dv_catalog.specs.Inner.EffectLaws.{KeepsId, told_after, after_id}
 use Rattle.dv_core.proofs.Valid.{storable_valid}
 
 none_ordered : AreOrdered []

@@ -7,16 +7,17 @@ use lib.ListN.{drop as behind_first}
 use Rattle.dv_value.specs.Spelling.{AreFields}
 use Rattle.dv_value.specs.Tree.{Field, fields_of}
 use Rattle.dv_catalog.specs.Scan.{scan}
-use Rattle.dv_catalog.specs.ScanLaws.{all_scanned}
+use Rattle.dv_catalog.specs.Inner.ScanLaws.{all_scanned}
 use Rattle.dv_catalog.specs.State as stored
 use Rattle.dv_catalog.specs.State.{rows_of}
 use Rattle.dv_command.specs.Asked.{Asked, hello, ping, find, aggregate, get_more, kill_cursors, create, drop, create_indexes, drop_indexes, explain, view_stats, asked_by}
 use Rattle.dv_command.specs.Asked as asking
-use Rattle.dv_command.specs.Sound.{AreSpellable, IsSoundRequest}
+use Rattle.dv_command.specs.Sound.{AreSpellable}
+use Rattle.dv_command.specs.Inner.Sound.{IsSoundRequest}
 use Rattle.dv_command.specs.declared.command.Command.{Command}
 use Rattle.dv_cursor.specs.Batch.{batch}
 use Rattle.dv_cursor.specs.Cursors.{Cursor, Cursors, added, advanced, closed, cursor_behind, cursor_over, free_id, place_cmp, rows_to_come, cursor_rows}
-use Rattle.dv_cursor.specs.Runs.{is_cursor_place}
+use Rattle.dv_cursor.specs.Inner.Runs.{is_cursor_place}
 use Rattle.dv_value.specs.Results.{◌>>=◌}
 use Rattle.dv_fields.specs.declared.refusal.Refusal.{Refusal}
 use Rattle.dv_fields.specs.declared.refusal.Refusal.TheVariants.{TooLarge}

@@ -10,7 +10,7 @@ use Rattle.dv_fields.specs.declared.refusal.Refusal.TheVariants.{TooLarge}
 use Rattle.dv_cursor.specs.Batch.{batch}
 use Rattle.dv_cursor.specs.Cursors.{Cursors}
 use Rattle.dv_catalog.specs.Scan.{limited, matching}
-use Rattle.dv_catalog.specs.ScanLaws.{all_scanned}
+use Rattle.dv_catalog.specs.Inner.ScanLaws.{all_scanned}
 use Rattle.dv_catalog.specs.State.{State, rows_of}
 use Rattle.dv_sort.specs.Sorting.{stable}
 use Rattle.dv_core.specs.Find.{first_batch, reply_to_find}

@@ -29,20 +29,21 @@ use Rattle.dv_core.specs.Stats.{told_of}
 use Rattle.dv_catalog.specs.Marks.{Stats, stats_of}
 use Rattle.dv_cursor.specs.Batch.{batch, rows_behind, total_size}
 use Rattle.dv_cursor.specs.Cursors.{Cursors, added, free_id}
-use Rattle.dv_cursor.specs.Runs.{IsWithinBatch}
+use Rattle.dv_cursor.specs.Inner.Runs.{IsWithinBatch}
 use Rattle.dv_keyed.specs.Index.{IndexForm, id_form}
 use Rattle.dv_index.specs.Indexed.{is_dropped, without_index}
 use Rattle.dv_catalog.specs.State as states
 use Rattle.dv_catalog.specs.Views.{aggregated, created, dropped, made, reads_name, with_view, with_view_by, with_views}
 use Rattle.dv_core.specs.Statements.{WriteCounts, Written, carry_out}
 use Rattle.dv_core.specs.Step.{Answer, answered, read_answer, write_answer, on_catalog, on_cursors, answer_to, step, asked_write}
-use Rattle.dv_command.specs.Sound.{AreSpellable, AreIds, IsNamespace, IsSoundRequest}
+use Rattle.dv_command.specs.Sound.{AreSpellable}
+use Rattle.dv_command.specs.Inner.Sound.{AreIds, IsNamespace, IsSoundRequest}
 use Rattle.dv_core.specs.Writes.{write_by}
 use Rattle.dv_core.proofs.Bare.{BareCut, BareStep, BareWriteCut}
 use Rattle.dv_core.proofs.Viewed.{PipesStayValid, gathered_valid, rows_valid}
 use Rattle.dv_core.proofs.Named.{IsNamed, explained_named}
 use Rattle.dv_core.proofs.Asking.{AsksSoundly, body_fits, body_size, soundly_asked}
-use Rattle.dv_catalog.specs.ScanLaws.{all_scanned}
+use Rattle.dv_catalog.specs.Inner.ScanLaws.{all_scanned}
 use Rattle.dv_core.specs.Find.{are_too_large, reply_to_find, reply_to_aggregate, kept, kept_under, kept_by_cursor, replied}
 use Rattle.dv_core.specs.Indexes.{explained_reply, form_asked, index_count, index_name}
 use Rattle.dv_core.specs.More.{gone_ids, id_behind, missing_ids, next_of, cursor_number, rows_asked, rows_wanted, went_each}

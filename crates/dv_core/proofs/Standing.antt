@@ -6,7 +6,7 @@ use Rattle.std.specs.Str.{bytes_eq}
 use Rattle.dv_value.specs.Tree.{Field}
 use Rattle.dv_catalog.specs.IndexMaking.{indexes_created, indexes_dropped, with_all, with_indexes_so, without_named}
 use Rattle.dv_catalog.specs.State.{Collection, Namespaces, Standing, State, collection, collection_at, collection_of, indexes_of, is_collection, is_there, is_view, with_documents, with_indexes, without_view}
-use Rattle.dv_catalog.specs.StateLaws.{get-insert, get-remove}
+use Rattle.dv_catalog.specs.Inner.StateLaws.{get-insert, get-remove}
 use Rattle.dv_catalog.specs.Views.{made, reads_name, with_view}
 use Rattle.dv_command.specs.Asked.{Asked, ViewOn, find, aggregate, get_more, kill_cursors, create, drop, create_indexes, drop_indexes}
 use Rattle.dv_core.specs.Indexes.{form_asked}

@@ -13,11 +13,11 @@ use Rattle.dv_catalog.specs.State.{Namespaces, collection_of, lists_of}
 use Rattle.dv_views.specs.Forms.{ViewForm}
 use Rattle.dv_catalog.specs.Changes.{Change, Effect, Statement, apply, changes_of, done_to}
 use Rattle.dv_core.specs.Statements.{WriteCounts, Written, nothing_written, with_next, with_all, with_result, is_due, next_changes, cut, AreCut, IsCutWrite}
-use Rattle.dv_catalog.specs.Parts as Parts
+use Rattle.dv_catalog.specs.Inner.Parts as Parts
 use Rattle.dv_catalog.specs.declared.stopped.Stopped.{Stopped}
 use Rattle.dv_command.specs.Replies.{document_of, cut_error}
 use Rattle.dv_core.specs.Marks.{AreMarkedByCut, AreMarkedByEach, due_changes}
-use Rattle.dv_core.specs.WriteParts.{with_stopped, next_behind, reply_seen, CarriesOutWrite, CutsNext, CutsWrite, DoesNext, NextStep, Notes, WritesOrCuts}
+use Rattle.dv_core.specs.Inner.WriteParts.{with_stopped, next_behind, reply_seen, CarriesOutWrite, CutsNext, CutsWrite, DoesNext, NextStep, Notes, WritesOrCuts}
 use Rattle.dv_core.proofs.Marking.{each_append, each_stopped}
 
 is_due-push : (ordered : Bool) (es : List Tree) (e : Tree) → is_due ordered (es ++ e ∷ []) ≡ not ordered

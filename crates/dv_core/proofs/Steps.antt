@@ -2,7 +2,7 @@
 use Rattle.std.proofs.Common.{◌≡◌, ◌⊎◌, ℕ, Bool, true, false, List, Result, Ok, Err, if◌then◌else◌, inl, inr, refl, sym, ap, subst, ◌∙◌}
 use Rattle.dv_value.specs.Tree.{Field}
 use Rattle.dv_catalog.specs.Marks.{AreMarkedByDrop, Marks, marks_made, names_of_new}
-use Rattle.dv_catalog.specs.Parts.{StandMade, StandSo}
+use Rattle.dv_catalog.specs.Inner.Parts.{StandMade, StandSo}
 use Rattle.dv_catalog.specs.State.{is_view}
 use Rattle.dv_catalog.specs.State as stored
 use Rattle.dv_core.specs.State.{State, marked, standing}
@@ -23,9 +23,9 @@ use Rattle.dv_core.specs.declared.outcome.Told.TheVariants as tells
 use Rattle.dv_core.specs.Statements.{WriteCounts, Written, carry_out}
 use Rattle.dv_core.specs.Marks.{AreMarked, AreMarkedAll, AreMarkedByWrite, AreMarkedForWant, marks_where_read, read_by}
 use Rattle.dv_core.specs.Step.{Answer, answered, read_answer, write_answer, on_catalog, on_cursors, answer_to, replying, Cut, MemoryStep, TellsOfWant, Wants}
-use Rattle.dv_core.specs.StepParts.{Ends, GivesAndLeaves, IsMadeOf, Refuses, StandRead, TellsReply, TellsOrNot, reply_told}
+use Rattle.dv_core.specs.Inner.StepParts.{Ends, GivesAndLeaves, IsMadeOf, Refuses, StandRead, TellsReply, TellsOrNot, reply_told}
 use Rattle.dv_core.specs.Told.{batch_told, outcome_told}
-use Rattle.dv_core.specs.WriteParts.{CarriesOutWrite, CutsWrite, WritesOrCuts, WritesOn, WritesWhere}
+use Rattle.dv_core.specs.Inner.WriteParts.{CarriesOutWrite, CutsWrite, WritesOrCuts, WritesOn, WritesWhere}
 use Rattle.dv_core.specs.Writes.{write_by}
 use Rattle.dv_core.proofs.Marking.{where_read}
 

@@ -8,7 +8,7 @@ use Rattle.std.proofs.lemmas.Slice.Eq.{bytes_eq-Decides}
 use Rattle.dv_value.specs.Tree.{Tree, document, array, Field, fields_of}
 use Rattle.dv_value.specs.Names.{value_under, has_name, has_zero, AreNamed, without}
 use Rattle.dv_value.specs.Spelling.{spelling, fields_levels, levels, Fits}
-use Rattle.dv_catalog.specs.StateLaws.{bytes_eq-symmetric}
+use Rattle.dv_catalog.specs.Inner.StateLaws.{bytes_eq-symmetric}
 use Rattle.dv_core.proofs.Spellings.{spelling-field}
 use Rattle.dv_fields.specs.declared.refusal.Refusal.{Refusal}
 use Rattle.dv_fields.specs.declared.refusal.Refusal.TheVariants.{TooLarge}

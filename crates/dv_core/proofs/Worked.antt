@@ -18,7 +18,7 @@ use Rattle.dv_value.specs.Results.{◌>>=◌}
 use Rattle.dv_fields.specs.declared.refusal.Refusal.{Refusal}
 use Rattle.dv_fields.specs.declared.refusal.Refusal.TheVariants.{DuplicateKey, WantOfMemory}
 use Rattle.dv_catalog.specs.Changes.{put, Effect, Statement, done_to, unless_it_breaks, with_put}
-use Rattle.dv_core.specs.Examples.{only, one_field, number, holding, letters, InsertExamples, ReadExamples, RefusalExamples, WantExamples}
+use Rattle.dv_core.specs.Inner.Examples.{only, one_field, number, holding, letters, InsertExamples, ReadExamples, RefusalExamples, WantExamples}
 use Rattle.dv_core.specs.Find.{first_batch}
 use Rattle.dv_core.specs.Marks.{AreMarkedByCut, AreMarkedForWant, due_changes}
 use Rattle.dv_cursor.specs.Batch.{batch}
@@ -27,7 +27,7 @@ use Rattle.dv_catalog.specs.State.{Collection, Standing, Namespaces, collection,
 use Rattle.dv_core.specs.State.{State, empty_store_state}
 use Rattle.dv_core.specs.Statements.{Written, nothing_written, is_due, with_result, with_next, with_all, next_changes, cut, IsCutWrite}
 use Rattle.dv_core.specs.Step.{Answer, answered, on_cursors, write_answer}
-use Rattle.dv_catalog.specs.StateLaws.{same_namespaces}
+use Rattle.dv_catalog.specs.Inner.StateLaws.{same_namespaces}
 use Rattle.dv_core.specs.Writes.{insert_one, write_by}
 use Rattle.dv_core.proofs.Marking.{no_view_marked}
 use Rattle.dv_index.specs.Indexed.{empty_indexed}

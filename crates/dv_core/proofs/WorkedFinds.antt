@@ -19,7 +19,7 @@ use Rattle.dv_sort.specs.Sorting.{stable}
 use Rattle.dv_catalog.specs.Changes.{Change, gone, apply, done_to, with_changes}
 use Rattle.dv_command.specs.Asked as asking
 use Rattle.dv_command.specs.declared.asking.WriteKind.TheVariants.{Delete}
-use Rattle.dv_core.specs.Examples.{only, one_field, number, deletion, holding, three, bounded, nulls, keyed_documents, DeleteExamples, FindExamples}
+use Rattle.dv_core.specs.Inner.Examples.{only, one_field, number, deletion, holding, three, bounded, nulls, keyed_documents, DeleteExamples, FindExamples}
 use Rattle.dv_core.specs.Find.{first_batch}
 use Rattle.dv_cursor.specs.Batch.{batch}
 use Rattle.dv_cursor.specs.Cursors.{no_cursors}

@@ -5,7 +5,7 @@ use Rattle.dv_value.specs.Spelling.{framed, element_spelling, payload, counted}
 use Rattle.dv_value.specs.Tree.{Field, int64}
 use Rattle.dv_catalog.specs.Changes.{Effect, done_to, put, unless_it_breaks, with_put}
 use Rattle.dv_catalog.specs.State.{Collection, collection_of}
-use Rattle.dv_core.specs.Examples.{LoadExamples, number, only, holding, with_id_and_a, with_collection}
+use Rattle.dv_core.specs.Inner.Examples.{LoadExamples, number, only, holding, with_id_and_a, with_collection}
 use Rattle.dv_core.specs.Load.{left_by}
 use Rattle.dv_core.specs.State.{State, empty_store_state}
 use Rattle.dv_value.specs.Results.{◌>>=◌}

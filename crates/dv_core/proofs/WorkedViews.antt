@@ -25,14 +25,14 @@ use Rattle.dv_catalog.specs.Scan.{scan}
 use Rattle.dv_catalog.specs.State.{Collection, Standing, Namespaces, collection, collection_of, lists_of, documents_of, is_collection, is_view, without_view}
 use Rattle.dv_catalog.specs.State as stored
 use Rattle.dv_core.specs.State.{State, empty_store_state}
-use Rattle.dv_catalog.specs.StateLaws.{same_namespaces, get-insert, get-remove}
+use Rattle.dv_catalog.specs.Inner.StateLaws.{same_namespaces, get-insert, get-remove}
 use Rattle.dv_catalog.specs.Views.{created, dropped, made, reads_name}
 use Rattle.dv_command.specs.Asked.{ViewOn}
 use Rattle.dv_command.specs.Replies.{reply_of, drop_reply, view_stats_reply}
 use Rattle.dv_fields.specs.declared.refusal.Refusal.{Refusal}
 use Rattle.dv_fields.specs.declared.refusal.Refusal.TheVariants.{NamespaceExists, NamespaceNotFound, ReadByView}
 use Rattle.dv_path.specs.declared.direction.Direction.TheVariants.{Descending}
-use Rattle.dv_core.specs.Examples.{chained, holding, limiting, nesting, only, two, viewing, MarkExamples, ViewExamples}
+use Rattle.dv_core.specs.Inner.Examples.{chained, holding, limiting, nesting, only, two, viewing, MarkExamples, ViewExamples}
 use Rattle.dv_core.specs.Find.{first_batch}
 use Rattle.dv_cursor.specs.Batch.{batch}
 use Rattle.dv_core.specs.Step.{answered, on_catalog, on_cursors, read_answer, replying}

@@ -13,8 +13,5 @@ pub mod Load
 pub mod Runs
 pub mod Part
 pub mod Sound
-pub mod Examples
--- words that only bodies need
-pub mod StateCode
-pub mod StepParts
-pub mod WriteParts
+-- what only bodies and proofs need
+pub mod Inner

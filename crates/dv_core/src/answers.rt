@@ -5,7 +5,7 @@ ghost use Rattle.dv_fields.specs.declared.refusal.Refusal.TheVariants.{WantOfMem
 ghost use Rattle.dv_fields.specs.Refusals.{UnlessWanting};
 ghost use Rattle.dv_command.specs.Replies as replies;
 ghost use Rattle.dv_core.specs.declared.outcome.Outcome.TheVariants.{Reply, NoReply};
-ghost use Rattle.dv_core.specs.StepParts.{Refuses, TellsReply, reply_told};
+ghost use Rattle.dv_core.specs.Inner.StepParts.{Refuses, TellsReply, reply_told};
 ghost use Rattle.dv_core.specs.Told.{HasId, outcome_told};
 
 use crate::outcome::{Batch, Outcome, Told};

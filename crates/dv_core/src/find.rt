@@ -4,7 +4,7 @@ ghost use Rattle.std.specs.Prelude.{◌≡◌, ◌<◌, ◌^◌, List as Sequenc
 ghost use Rattle.std.specs.String.{string_bytes};
 ghost use Rattle.dv_catalog.specs.Scan.{limited};
 ghost use Rattle.dv_core.specs.Find as finding;
-ghost use Rattle.dv_core.specs.StepParts.{GivesAndLeaves, reply_told};
+ghost use Rattle.dv_core.specs.Inner.StepParts.{GivesAndLeaves, reply_told};
 ghost use Rattle.dv_core.specs.Told.{batch_told};
 ghost use Rattle.dv_command.specs.Replies.{document_of};
 ghost use Rattle.dv_cursor.specs.Batch.{batch, rows_behind};

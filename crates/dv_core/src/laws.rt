@@ -14,7 +14,7 @@ ghost use Rattle.dv_fields.specs.declared.refusal.Refusal.{Refusal};
 ghost use Rattle.dv_fields.specs.declared.refusal.Refusal.TheVariants.{LimitReached, OnView, TooLarge};
 ghost use Rattle.dv_core.specs.declared.outcome.Outcome.{Outcome};
 ghost use Rattle.dv_core.specs.declared.outcome.Outcome.TheVariants.{Reply, Wanting};
-ghost use Rattle.dv_core.specs.Examples as examples;
+ghost use Rattle.dv_core.specs.Inner.Examples as examples;
 ghost use Rattle.dv_core.specs.Find.{are_too_large, first_batch};
 ghost use Rattle.dv_core.specs.Load.{IsLoaded, insert_alone, loaded, namespace_in};
 ghost use Rattle.dv_core.specs.Part.{IsPart};

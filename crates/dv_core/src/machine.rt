@@ -36,7 +36,7 @@ pub struct Machine {
 
 impl Model for Machine {
     ghost use Rattle.dv_core.specs.State.{State};
-    ghost use Rattle.dv_core.specs.StateCode.{coded_store_state};
+    ghost use Rattle.dv_core.specs.Inner.StateCode.{coded_store_state};
 
     ghost Value = { State };
 
@@ -50,13 +50,13 @@ impl Machine {
     ghost use Rattle.dv_cursor.specs.Cursors.{Cursors as CursorsSeen};
     ghost use Rattle.dv_value.specs.declared.fault.BsonFault.TheVariants.{NoMemory};
     ghost use Rattle.dv_catalog.specs.Marks.{AreMarkedByDrop, marks_made, names_of_new, stored_of};
-    ghost use Rattle.dv_catalog.specs.Parts.{StandMade, StandSo};
+    ghost use Rattle.dv_catalog.specs.Inner.Parts.{StandMade, StandSo};
     ghost use Rattle.dv_catalog.specs.Views as views;
     ghost use Rattle.dv_command.specs.declared.command.Command.TheVariants.{Invalid};
     ghost use Rattle.dv_fields.specs.Refusals.{UnlessWanting};
     ghost use Rattle.dv_command.specs.Asked as asking;
     ghost use Rattle.dv_command.specs.Replies as replies;
-    ghost use Rattle.dv_command.specs.View.{aggregate_seen, create_indexes_seen, create_seen, drop_indexes_seen, drop_seen, explain_seen, find_seen, get_more_seen, kill_cursors_seen, view_stats_seen, write_seen};
+    ghost use Rattle.dv_command.specs.Inner.View.{aggregate_seen, create_indexes_seen, create_seen, drop_indexes_seen, drop_seen, explain_seen, find_seen, get_more_seen, kill_cursors_seen, view_stats_seen, write_seen};
     ghost use Rattle.dv_core.specs.Find as finding;
     ghost use Rattle.dv_core.specs.Indexes as indexing;
     ghost use Rattle.dv_core.specs.More as more;
@@ -65,9 +65,9 @@ impl Machine {
     ghost use Rattle.dv_core.specs.State.{empty_store_state, marked, standing};
     ghost use Rattle.dv_core.specs.Stats as telling;
     ghost use Rattle.dv_core.specs.Step.{MemoryStep, TellsOfWant, end_session, replying};
-    ghost use Rattle.dv_core.specs.StepParts.{Ends, GivesAndLeaves, LoadsOne, StandRead, reply_told};
+    ghost use Rattle.dv_core.specs.Inner.StepParts.{Ends, GivesAndLeaves, LoadsOne, StandRead, reply_told};
     ghost use Rattle.dv_core.specs.Told.{HasId, batch_told, outcome_told};
-    ghost use Rattle.dv_core.specs.WriteParts.{WritesOn};
+    ghost use Rattle.dv_core.specs.Inner.WriteParts.{WritesOn};
     ghost use Rattle.dv_core.specs.Writes.{write_by};
 
     /// One without any collection.

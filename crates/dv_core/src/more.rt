@@ -2,10 +2,10 @@
 
 ghost use Rattle.std.specs.Prelude.{◌≡◌, ◌<◌, ◌^◌, Ok, IfOk, OnErr, OnOk, is_some, length};
 ghost use Rattle.std.specs.Option.{option_map};
-ghost use Rattle.dv_command.specs.View.{get_more_seen, kill_cursors_seen};
+ghost use Rattle.dv_command.specs.Inner.View.{get_more_seen, kill_cursors_seen};
 ghost use Rattle.dv_core.specs.More as more;
 ghost use Rattle.dv_command.specs.Replies as replies;
-ghost use Rattle.dv_core.specs.StepParts.{Ends, GivesAndLeaves, reply_told};
+ghost use Rattle.dv_core.specs.Inner.StepParts.{Ends, GivesAndLeaves, reply_told};
 
 use crate::answers::{refuse, told};
 use crate::outcome::{Batch, Outcome};

@@ -1,7 +1,7 @@
 //! What comes behind a statement that was refused.
 
 ghost use Rattle.std.specs.Prelude.{◌≡◌, ◌<◌, ◌^◌, IfOk};
-ghost use Rattle.dv_core.specs.WriteParts as parts;
+ghost use Rattle.dv_core.specs.Inner.WriteParts as parts;
 
 use dv_catalog::Stopped;
 use dv_command::Refusal;

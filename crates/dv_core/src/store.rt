@@ -24,7 +24,7 @@ pub struct Store {
 
 impl Model for Store {
     ghost use Rattle.dv_core.specs.State.{State};
-    ghost use Rattle.dv_core.specs.StateCode.{coded_store_state};
+    ghost use Rattle.dv_core.specs.Inner.StateCode.{coded_store_state};
     ghost use Rattle.dv_core.specs.Sound.{IsOrderly};
 
     ghost Value = { State };
@@ -44,7 +44,7 @@ impl Store {
     ghost use Rattle.dv_core.specs.Load as loading;
     ghost use Rattle.dv_core.specs.State.{empty_store_state, marked};
     ghost use Rattle.dv_core.specs.Step.{MemoryStep, TellsOfWant, end_session};
-    ghost use Rattle.dv_core.specs.StepParts.{IsMadeOf};
+    ghost use Rattle.dv_core.specs.Inner.StepParts.{IsMadeOf};
     ghost use Rattle.dv_core.specs.Told.{HasId, outcome_told};
 
     /// A store without any collection.

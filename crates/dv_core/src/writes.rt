@@ -4,11 +4,11 @@ ghost use Rattle.std.specs.Prelude.{◌≡◌, ◌<◌, true, false, map};
 ghost use Rattle.std.specs.String.{string_bytes};
 ghost use Rattle.dv_value.specs.View.{tree};
 ghost use Rattle.dv_command.specs.Asked.{statement_limit};
-ghost use Rattle.dv_command.specs.View.{write_seen};
+ghost use Rattle.dv_command.specs.Inner.View.{write_seen};
 ghost use Rattle.dv_core.specs.Statements.{is_due};
-ghost use Rattle.dv_catalog.specs.Parts.{Makes, StandBehind};
+ghost use Rattle.dv_catalog.specs.Inner.Parts.{Makes, StandBehind};
 ghost use Rattle.dv_catalog.specs.State.{is_view};
-ghost use Rattle.dv_core.specs.WriteParts.{written_seen, outcome_of, NextStep, WritesOrCuts};
+ghost use Rattle.dv_core.specs.Inner.WriteParts.{written_seen, outcome_of, NextStep, WritesOrCuts};
 ghost use Rattle.dv_core.specs.Writes.{statement_of, write_by};
 
 use crate::next::Next;

@@ -30,7 +30,7 @@ impl Written {
     ghost use Rattle.dv_command.specs.Asked.{statement_limit};
     ghost use Rattle.dv_catalog.specs.State.{Namespaces};
     ghost use Rattle.dv_core.specs.Statements.{nothing_written};
-    ghost use Rattle.dv_core.specs.WriteParts.{written_seen, with_counted, Notes};
+    ghost use Rattle.dv_core.specs.Inner.WriteParts.{written_seen, with_counted, Notes};
 
     /// No statement so far.
     pub(crate) fn new(alloc: Global) -> Self

@@ -5,7 +5,7 @@ use Rattle.std.proofs.lemmas.Bool.{lt-ltb}
 use Rattle.std.proofs.lemmas.List.{length-take-le}
 use Rattle.dv_value.specs.Tree.{Field}
 use Rattle.dv_cursor.specs.Batch.{total_size, batch_limit, can_hold, longest_front, batch}
-use Rattle.dv_cursor.specs.Runs.{IsWithinBatch}
+use Rattle.dv_cursor.specs.Inner.Runs.{IsWithinBatch}
 use Rattle.dv_cursor.proofs.Batches.{none_held}
 
 abbrev Rows : Type 0

@@ -8,7 +8,7 @@ use Rattle.std.specs.declared.cmp.Ordering.{Ordering}
 use Rattle.std.specs.declared.cmp.Ordering.TheVariants.{Less, Equal, Greater}
 use Rattle.dv_value.specs.Tree.{Field}
 use Rattle.dv_cursor.specs.Cursors.{Cursor, Cursors, CursorPlace, free_id, with_cursor}
-use Rattle.dv_cursor.specs.Runs.{Event, add, advance, close, end, after_event, added_under, with_cursor_id, id_given, ids_given}
+use Rattle.dv_cursor.specs.Inner.Runs.{Event, add, advance, close, end, after_event, added_under, with_cursor_id, id_given, ids_given}
 
 -- a free id is the next one
 free_next : (b : Bool) (n id : ℕ) → cond b (Some n) None ≡ Some id → id ≡ n

@@ -2,7 +2,7 @@
 use Rattle.std.proofs.Common.{◌≡◌, ℕ, zero, suc, Bool, true, false, List, [], ◌∷◌, ◌++◌, take, drop, length, cond, refl, ap, ◌∙◌, append_assoc}
 use Rattle.dv_value.specs.Tree.{Field}
 use Rattle.dv_cursor.specs.Batch.{can_hold, longest_front, batch, rows_behind}
-use Rattle.dv_cursor.specs.Runs.{batches_joined, behind_all}
+use Rattle.dv_cursor.specs.Inner.Runs.{batches_joined, behind_all}
 
 abbrev Rows : Type 0
 Rows = List (List Field)

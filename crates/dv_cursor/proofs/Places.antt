@@ -8,7 +8,7 @@ use Rattle.std.specs.declared.cmp.Ordering.{Ordering}
 use Rattle.std.specs.declared.cmp.Ordering.TheVariants.{Less, Equal, Greater}
 use Rattle.dv_value.specs.Tree.{Field}
 use Rattle.dv_cursor.specs.Cursors.{Cursor, Cursors, CursorPlace, place_cmp, added, advanced, closed, cursor_behind, with_cursor, without_session}
-use Rattle.dv_cursor.specs.Runs.{is_cursor_place}
+use Rattle.dv_cursor.specs.Inner.Runs.{is_cursor_place}
 use Rattle.dv_cursor.proofs.Kept.{Kept, place_cmp_total}
 use Rattle.dv_cursor.proofs.Ended.{get-apart}
 

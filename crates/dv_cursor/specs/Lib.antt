@@ -1,4 +1,4 @@
 pub mod Batch
 pub mod Cursors
-pub mod CursorsCode
-pub mod Runs
+-- what only bodies and proofs need
+pub mod Inner

@@ -13,7 +13,7 @@ pub(crate) struct Cursor {
 impl Model for Cursor {
     ghost use Rattle.std.specs.String.{string_bytes};
     ghost use Rattle.dv_cursor.specs.Cursors as cursors;
-    ghost use Rattle.dv_cursor.specs.CursorsCode.{coded_cursor};
+    ghost use Rattle.dv_cursor.specs.Inner.CursorsCode.{coded_cursor};
 
     ghost Value = { cursors.Cursor };
 

@@ -30,7 +30,7 @@ pub struct Cursors {
 impl Model for Cursors {
     ghost use Rattle.std.specs.FinMap as finite;
     ghost use Rattle.dv_cursor.specs.Cursors as all;
-    ghost use Rattle.dv_cursor.specs.CursorsCode.{coded_cursors};
+    ghost use Rattle.dv_cursor.specs.Inner.CursorsCode.{coded_cursors};
 
     ghost Value = { all.Cursors };
 

@@ -7,7 +7,7 @@ ghost use Rattle.std.specs.Ordering.{nat_cmp};
 ghost use Rattle.dv_value.specs.Tree.{Field};
 ghost use Rattle.dv_cursor.specs.Batch.{batch, rows_behind, can_hold};
 ghost use Rattle.dv_cursor.specs.Cursors.{Cursors, added, advanced, closed, cursor_behind, free_id, without_session};
-ghost use Rattle.dv_cursor.specs.Runs.{Event, IsWithinBatch, behind_all, ids_given, is_cursor_place, batches_joined};
+ghost use Rattle.dv_cursor.specs.Inner.Runs.{Event, IsWithinBatch, behind_all, ids_given, is_cursor_place, batches_joined};
 
 /// A batch and the rows after it are the rows.
 pub fn a_batch_is_a_front()

@@ -20,7 +20,7 @@ pub struct Rows {
 impl Model for Rows {
     ghost use Rattle.std.specs.Prelude as prelude;
     ghost use Rattle.dv_value.specs.Tree.{Field};
-    ghost use Rattle.dv_cursor.specs.CursorsCode.{coded_batch};
+    ghost use Rattle.dv_cursor.specs.Inner.CursorsCode.{coded_batch};
 
     ghost Value = { prelude.List (prelude.List Field) };
 

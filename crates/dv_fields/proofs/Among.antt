@@ -9,7 +9,7 @@ use Rattle.dv_fields.specs.Fields.{each_document, integer_in, check_read}
 use Rattle.dv_value.specs.Results.{◌>>=◌, each}
 use Rattle.dv_fields.specs.declared.refusal.Refusal.{Refusal}
 use Rattle.dv_fields.specs.declared.refusal.Refusal.TheVariants.{TypeMismatch}
-use Rattle.dv_fields.specs.DocumentsView.{is_document, is_integer, AreDocuments, documents_seen}
+use Rattle.dv_fields.specs.Inner.DocumentsView.{is_document, is_integer, AreDocuments, documents_seen}
 
 pub same_fields : (fs : List Field) → list_of_fields (fields_of fs) ≡ fs
 same_fields [] = refl

@@ -5,7 +5,7 @@ ghost use Rattle.std.specs.Iterator.{YieldsFirstRef, item_count};
 ghost use Rattle.std.specs.List.{list_all};
 ghost use Rattle.dv_value.specs.Tree.{elements_of};
 ghost use Rattle.dv_fields.specs.Fields as fields;
-ghost use Rattle.dv_fields.specs.DocumentsView.{is_document};
+ghost use Rattle.dv_fields.specs.Inner.DocumentsView.{is_document};
 
 use crate::refusal::Refusal;
 use dv_value::{Document, List, Value};
@@ -28,8 +28,8 @@ impl<'a> Model for Documents<'a> {
     ghost use Rattle.std.specs.Prelude as prelude;
     ghost use Rattle.std.specs.Coded.{coded_list, coded×, coded_ℕ};
     ghost use Rattle.dv_value.specs.Tree.{Field};
-    ghost use Rattle.dv_value.specs.TreeCode.{coded_tree};
-    ghost use Rattle.dv_fields.specs.DocumentsView.{source_seen, IsOfDocuments};
+    ghost use Rattle.dv_value.specs.Inner.TreeCode.{coded_tree};
+    ghost use Rattle.dv_fields.specs.Inner.DocumentsView.{source_seen, IsOfDocuments};
 
     ghost Value = { prelude.List (prelude.List Field) };
 

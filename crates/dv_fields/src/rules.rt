@@ -4,10 +4,10 @@ ghost use Rattle.std.specs.Prelude.{◌≡◌, map};
 ghost use Rattle.std.specs.List.{list_all};
 ghost use Rattle.std.specs.Option.{option_map};
 ghost use Rattle.dv_value.specs.View.{tree};
-ghost use Rattle.dv_fields.specs.DocumentsView.{is_integer};
+ghost use Rattle.dv_fields.specs.Inner.DocumentsView.{is_integer};
 ghost use Rattle.dv_fields.specs.Fields as defined;
 ghost use Rattle.dv_fields.specs.Kinds as kinds;
-ghost use Rattle.dv_fields.specs.View.{kind_seen, place_seen, rule_seen};
+ghost use Rattle.dv_fields.specs.Inner.View.{kind_seen, place_seen, rule_seen};
 
 use crate::refusal::Refusal;
 use crate::values::{

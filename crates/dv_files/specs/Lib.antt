@@ -1,3 +1,4 @@
 pub mod Check
-pub mod Fault
 pub mod File
+-- what only bodies and proofs need
+pub mod Inner

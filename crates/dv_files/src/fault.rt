@@ -34,7 +34,7 @@ pub enum LoadFault {
 }
 
 impl From<FileFault> for LoadFault {
-    ghost use Rattle.dv_files.specs.Fault.{unread};
+    ghost use Rattle.dv_files.specs.Inner.Fault.{unread};
 
     ghost from_gives = { λ fault e. e ≡ unread fault };
 

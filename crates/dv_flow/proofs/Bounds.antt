@@ -16,17 +16,18 @@ use Rattle.dv_row.specs.Projecting.{projected}
 use Rattle.dv_row.specs.Unwinding.{unwound}
 use Rattle.dv_change.specs.declared.change.Change.{Change}
 use Rattle.dv_change.specs.declared.change.Change.TheVariants.{Gone, Put}
-use Rattle.dv_change.specs.Changes.{IsExactChange, IsPositioned, Positioned, alone, at, in_row_order, position_changed, row_in, with_change}
+use Rattle.dv_change.specs.Changes.{Positioned, at, in_row_order, with_change}
+use Rattle.dv_change.specs.Inner.Changes.{IsExactChange, IsPositioned, alone, position_changed, row_in}
 use Rattle.dv_change.specs.Difference.{diff, gones, puts, stands_as}
-use Rattle.dv_change.specs.Ordered.{put}
-use Rattle.dv_change.specs.PositionLaws.{pos_order_total}
+use Rattle.dv_change.specs.Inner.Ordered.{put}
+use Rattle.dv_change.specs.Inner.PositionLaws.{pos_order_total}
 use Rattle.dv_change.specs.Positions.{PosTree, pos_order}
-use Rattle.dv_flow.specs.Bounds.{rows_made}
-use Rattle.dv_flow.specs.Matching.{match_ordered, match_single}
+use Rattle.dv_flow.specs.Inner.Bounds.{rows_made}
+use Rattle.dv_flow.specs.Inner.Matching.{match_ordered, match_single}
 use Rattle.dv_flow.specs.Placed.{matched_at, rows_numbered, shown_at, sorted_at, unwound_at}
-use Rattle.dv_flow.specs.Projecting.{project_ordered, project_single}
-use Rattle.dv_flow.specs.Sorting.{sort_empty, sort_exact, sort_ordered, sort_single}
-use Rattle.dv_flow.specs.Unwinding.{but_last, unwind_empty, unwind_exact, unwind_ordered, unwind_single}
+use Rattle.dv_flow.specs.Inner.Projecting.{project_ordered, project_single}
+use Rattle.dv_flow.specs.Inner.Sorting.{sort_empty, sort_exact, sort_ordered, sort_single}
+use Rattle.dv_flow.specs.Inner.Unwinding.{but_last, unwind_empty, unwind_exact, unwind_ordered, unwind_single}
 use Rattle.dv_flow.proofs.Owed.{row-owed}
 
 -- ---- differences of short lists

@@ -14,14 +14,15 @@ use Rattle.std.specs.Ordering.{is_eq, is_gt, is_lt, match_ordering, ordering_rev
 use Rattle.dv_value.specs.Tree.{Field}
 use Rattle.dv_change.specs.declared.change.Change.{Change}
 use Rattle.dv_change.specs.declared.change.Change.TheVariants.{Gone, Put}
-use Rattle.dv_change.specs.Changes.{IsPositioned, Positioned, at, position_changed, with_change}
-use Rattle.dv_change.specs.DiffLaws.{diff-parts}
+use Rattle.dv_change.specs.Changes.{Positioned, at, with_change}
+use Rattle.dv_change.specs.Inner.Changes.{IsPositioned, position_changed}
+use Rattle.dv_change.specs.Inner.DiffLaws.{diff-parts}
 use Rattle.dv_change.specs.Difference.{diff}
-use Rattle.dv_change.specs.Ordered.{gone, put}
-use Rattle.dv_change.specs.PositionLaws.{pos_order_total}
+use Rattle.dv_change.specs.Inner.Ordered.{gone, put}
+use Rattle.dv_change.specs.Inner.PositionLaws.{pos_order_total}
 use Rattle.dv_change.specs.Positions.{PosTree, pos_order}
-use Rattle.dv_change.specs.RowLaws.{positioned-none, positioned-tail, put-front}
-use Rattle.dv_flow.specs.Limiting.{is_past, last_place, limit_ordered, next_place}
+use Rattle.dv_change.specs.Inner.RowLaws.{positioned-none, positioned-tail, put-front}
+use Rattle.dv_flow.specs.Inner.Limiting.{is_past, last_place, limit_ordered, next_place}
 use Rattle.dv_flow.specs.Placed.{front_at}
 
 -- ---- two lists of which the first is the front of both

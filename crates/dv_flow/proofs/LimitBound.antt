@@ -7,14 +7,15 @@ use Rattle.std.specs.Ordering.{is_eq}
 use Rattle.dv_value.specs.Tree.{Field}
 use Rattle.dv_change.specs.declared.change.Change.{Change}
 use Rattle.dv_change.specs.declared.change.Change.TheVariants.{Gone, Put}
-use Rattle.dv_change.specs.Changes.{IsExactChange, IsPositioned, Positioned, at, position_changed, row_in, with_change}
-use Rattle.dv_change.specs.DiffLaws.{at-differs, at-went, diff-parts, positioned-changed, positioned-filter}
+use Rattle.dv_change.specs.Changes.{Positioned, at, with_change}
+use Rattle.dv_change.specs.Inner.Changes.{IsExactChange, IsPositioned, position_changed, row_in}
+use Rattle.dv_change.specs.Inner.DiffLaws.{at-differs, at-went, diff-parts, positioned-changed, positioned-filter}
 use Rattle.dv_change.specs.Difference.{diff, gones, puts, stands_as}
-use Rattle.dv_change.specs.Ordered.{gone}
+use Rattle.dv_change.specs.Inner.Ordered.{gone}
 use Rattle.dv_change.specs.Positions.{PosTree, pos_order}
-use Rattle.dv_change.specs.RowLaws.{at-gone, at_back, positioned-gone, positioned-none, same_rows}
+use Rattle.dv_change.specs.Inner.RowLaws.{at-gone, at_back, positioned-gone, positioned-none, same_rows}
 use Rattle.dv_flow.proofs.Limits.{at-front-changed, is_beside}
-use Rattle.dv_flow.specs.Limiting.{edge_of, limit_ordered}
+use Rattle.dv_flow.specs.Inner.Limiting.{edge_of, limit_ordered}
 use Rattle.dv_flow.specs.Placed.{front_at}
 
 abbrev went : Positioned → Positioned → Positioned

@@ -11,16 +11,17 @@ use Rattle.std.specs.Ordering.{is_eq, match_ordering}
 use Rattle.dv_value.specs.Tree.{Field}
 use Rattle.dv_change.specs.declared.change.Change.{Change}
 use Rattle.dv_change.specs.declared.change.Change.TheVariants.{Gone, Put}
-use Rattle.dv_change.specs.Changes.{IsExactChange, IsPositioned, Positioned, at, forget, position_changed, row_in, with_change}
-use Rattle.dv_change.specs.DiffLaws.{IsPartAt, exact-place, or_else, positioned-changed}
+use Rattle.dv_change.specs.Changes.{Positioned, at, forget, with_change}
+use Rattle.dv_change.specs.Inner.Changes.{IsExactChange, IsPositioned, position_changed, row_in}
+use Rattle.dv_change.specs.Inner.DiffLaws.{IsPartAt, exact-place, or_else, positioned-changed}
 use Rattle.dv_change.specs.Difference.{diff}
-use Rattle.dv_change.specs.Ordered.{gone, put}
-use Rattle.dv_change.specs.PositionLaws.{pos_order_total}
+use Rattle.dv_change.specs.Inner.Ordered.{gone, put}
+use Rattle.dv_change.specs.Inner.PositionLaws.{pos_order_total}
 use Rattle.dv_change.specs.Positions.{IsExact, PosTree, pos_order}
-use Rattle.dv_change.specs.Told.{change_to, diff_told, told_along}
-use Rattle.dv_change.specs.ToldLaws.{along-diff, told-parts}
-use Rattle.dv_change.specs.RowLaws.{at-like, at-put, positioned-none, positioned-put}
-use Rattle.dv_flow.specs.Limiting.{at_either, edge_of, last_place, limit_ordered, next_place, with_limited_row}
+use Rattle.dv_change.specs.Inner.Told.{change_to, diff_told, told_along}
+use Rattle.dv_change.specs.Inner.ToldLaws.{along-diff, told-parts}
+use Rattle.dv_change.specs.Inner.RowLaws.{at-like, at-put, positioned-none, positioned-put}
+use Rattle.dv_flow.specs.Inner.Limiting.{at_either, edge_of, last_place, limit_ordered, next_place, with_limited_row}
 use Rattle.dv_flow.specs.Placed.{front_at}
 
 -- ---- what a change makes of the first rows, at positions that stand beside neither its own nor the edge

@@ -4,7 +4,7 @@ use Rattle.std.proofs.Common.{ap, arith, ◌∙◌}
 use Rattle.dv_value.specs.Tree.{Field}
 use Rattle.dv_change.specs.declared.position.Part.TheVariants.{At}
 use Rattle.dv_change.specs.Changes.{Positioned, in_row_order}
-use Rattle.dv_change.specs.Ordered.{put}
+use Rattle.dv_change.specs.Inner.Ordered.{put}
 use Rattle.dv_change.specs.Positions.{PosTree}
 use Rattle.dv_flow.specs.Placed.{rows_numbered}
 

@@ -6,13 +6,14 @@ use Rattle.std.specs.Cmp.{Equal-is, tied_itself}
 use Rattle.std.specs.Ordering.{is_eq}
 use Rattle.dv_value.specs.Tree.{Field}
 use Rattle.dv_change.specs.declared.change.Change.{Change}
-use Rattle.dv_change.specs.Changes.{IsExactChange, IsPositioned, Positioned, alone, at, position_changed, row_in, with_change}
+use Rattle.dv_change.specs.Changes.{Positioned, at, with_change}
+use Rattle.dv_change.specs.Inner.Changes.{IsExactChange, IsPositioned, alone, position_changed, row_in}
 use Rattle.dv_change.specs.Difference.{diff}
-use Rattle.dv_change.specs.DiffLaws.{IsPartAt, at-alone, at-changed, diff-parts, exact-place, positioned-alone, positioned-changed}
-use Rattle.dv_change.specs.PositionLaws.{pos_order_total}
+use Rattle.dv_change.specs.Inner.DiffLaws.{IsPartAt, at-alone, at-changed, diff-parts, exact-place, positioned-alone, positioned-changed}
+use Rattle.dv_change.specs.Inner.PositionLaws.{pos_order_total}
 use Rattle.dv_change.specs.Positions.{IsExact, PosTree, pos_order}
-use Rattle.dv_change.specs.Told.{diff_told, told_along}
-use Rattle.dv_change.specs.ToldLaws.{along-diff, length-told, told-parts}
+use Rattle.dv_change.specs.Inner.Told.{diff_told, told_along}
+use Rattle.dv_change.specs.Inner.ToldLaws.{along-diff, length-told, told-parts}
 
 module _ (makes : Positioned → Positioned) (origin : PosTree → PosTree)
     (ordered : (rows : Positioned) → IsPositioned rows → IsPositioned (makes rows))

@@ -17,9 +17,10 @@ use Rattle.dv_path.specs.declared.direction.Direction.TheVariants.{Ascending, De
 use Rattle.dv_path.specs.SortKey.{sort_key, stands_first}
 use Rattle.dv_path.specs.SortSpec.{Part}
 use Rattle.dv_sort.specs.Sorting.{ordered, placed, stable, stands_before}
-use Rattle.dv_change.specs.Changes.{IsPositioned, Positioned, forget, in_row_order}
-use Rattle.dv_change.specs.Ordered.{put}
-use Rattle.dv_change.specs.PositionLaws.{part_order_total, pos_order_total}
+use Rattle.dv_change.specs.Changes.{Positioned, forget, in_row_order}
+use Rattle.dv_change.specs.Inner.Changes.{IsPositioned}
+use Rattle.dv_change.specs.Inner.Ordered.{put}
+use Rattle.dv_change.specs.Inner.PositionLaws.{part_order_total, pos_order_total}
 use Rattle.dv_change.specs.Positions.{PosTree, part_order, pos_order}
 use Rattle.dv_flow.specs.Placed.{part_at, sort_place, sorted_at}
 

@@ -14,12 +14,13 @@ use Rattle.dv_value.specs.Tree.{Field}
 use Rattle.dv_row.specs.declared.unwind.Unwind.{Unwind}
 use Rattle.dv_row.specs.Unwinding.{unwound}
 use Rattle.dv_change.specs.declared.position.Part.TheVariants.{At}
-use Rattle.dv_change.specs.Changes.{HaveOneLength, IsPositioned, Positioned, forget, in_row_order}
-use Rattle.dv_change.specs.Ordered.{put}
-use Rattle.dv_change.specs.PositionLaws.{part_order_total}
+use Rattle.dv_change.specs.Changes.{Positioned, forget, in_row_order}
+use Rattle.dv_change.specs.Inner.Changes.{HaveOneLength, IsPositioned}
+use Rattle.dv_change.specs.Inner.Ordered.{put}
+use Rattle.dv_change.specs.Inner.PositionLaws.{part_order_total}
 use Rattle.dv_change.specs.Positions.{PosTree, part_order, pos_order}
-use Rattle.dv_change.specs.RowLaws.{put-front}
-use Rattle.dv_flow.specs.Gathered.{all-both}
+use Rattle.dv_change.specs.Inner.RowLaws.{put-front}
+use Rattle.dv_flow.specs.Inner.Gathered.{all-both}
 use Rattle.dv_flow.specs.Placed.{rows_numbered, unwound_at}
 
 -- a position stands below all of some rows

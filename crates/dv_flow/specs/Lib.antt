@@ -1,12 +1,5 @@
 pub use Rattle.dv_change.specs.Changes
 pub use Rattle.dv_change.specs.Positions
 pub mod Placed
-pub mod Bounds
-pub mod Rows
-pub mod Gathered
-pub mod Matching
-pub mod Projecting
-pub mod Unwinding
-pub mod Sorting
-pub mod Limiting
-pub mod Simple
+-- what only bodies and proofs need
+pub mod Inner

@@ -2,10 +2,11 @@
 
 ghost use Rattle.std.specs.Prelude.{◌≡◌, ◌∷◌, [], IfOk, OnOk};
 ghost use Rattle.std.specs.declared.cmp.Ordering.TheVariants.{Equal};
-ghost use Rattle.dv_change.specs.Changes.{HaveOneLength, IsPositioned, Positioned, alone, at};
+ghost use Rattle.dv_change.specs.Changes.{Positioned, at};
+ghost use Rattle.dv_change.specs.Inner.Changes.{HaveOneLength, IsPositioned, alone};
 ghost use Rattle.dv_change.specs.Positions.{IsExact, PosTree, pos_order};
-ghost use Rattle.dv_change.specs.Told.{no_lists};
-ghost use Rattle.dv_flow.specs.Rows.{HoldsRows};
+ghost use Rattle.dv_change.specs.Inner.Told.{no_lists};
+ghost use Rattle.dv_flow.specs.Inner.Rows.{HoldsRows};
 
 use dv_change::{Input, Operator, Ordered, Pos, Taken, Ticks, hand_over};
 use dv_value::{Document, NoMemory};

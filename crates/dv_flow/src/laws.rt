@@ -6,7 +6,8 @@ ghost use Rattle.std.specs.List.{flat_map};
 ghost use Rattle.dv_match.specs.Filter.{Members};
 ghost use Rattle.dv_match.specs.Match.{matches};
 ghost use Rattle.dv_change.specs.declared.change.Change.{Change};
-ghost use Rattle.dv_change.specs.Changes.{HaveOneLength, IsExactChange, IsPositioned, Positioned, at, forget, position_changed, row_in, with_change};
+ghost use Rattle.dv_change.specs.Changes.{Positioned, at, forget, with_change};
+ghost use Rattle.dv_change.specs.Inner.Changes.{HaveOneLength, IsExactChange, IsPositioned, position_changed, row_in};
 ghost use Rattle.dv_change.specs.Difference.{diff};
 ghost use Rattle.dv_path.specs.SortSpec.{Part};
 ghost use Rattle.dv_row.specs.declared.project.Project.{Project};
@@ -14,7 +15,7 @@ ghost use Rattle.dv_row.specs.declared.unwind.Unwind.{Unwind};
 ghost use Rattle.dv_row.specs.Projecting.{projected};
 ghost use Rattle.dv_row.specs.Unwinding.{unwound};
 ghost use Rattle.dv_sort.specs.Sorting.{stable};
-ghost use Rattle.dv_flow.specs.Bounds.{rows_made};
+ghost use Rattle.dv_flow.specs.Inner.Bounds.{rows_made};
 ghost use Rattle.dv_flow.specs.Placed.{front_at, matched_at, shown_at, sorted_at, unwound_at};
 
 /// Without positions, the rows that match are the filter of the rows.

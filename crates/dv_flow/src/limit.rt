@@ -1,13 +1,13 @@
 //! `$limit`, told of each change.
 
 ghost use Rattle.std.specs.Prelude.{◌≡◌, ◌+◌, ◌++◌, ◌≤◌, ◌∷◌, false, [], length, IfOk, IsTrue, OnErr, OnOk};
-ghost use Rattle.dv_change.specs.Beginning.{BeginsWith};
+ghost use Rattle.dv_change.specs.Inner.Beginning.{BeginsWith};
 ghost use Rattle.dv_change.specs.Changes.{at, with_change};
 ghost use Rattle.dv_change.specs.Difference.{diff};
-ghost use Rattle.dv_change.specs.Ordered.{gone, put};
+ghost use Rattle.dv_change.specs.Inner.Ordered.{gone, put};
 ghost use Rattle.dv_change.specs.Raised.{raised};
-ghost use Rattle.dv_change.specs.Told.{change_to, no_lists, told_along};
-ghost use Rattle.dv_flow.specs.Limiting.{HoldsLimit, IsBehind, IsCut, IsOverfull, IsUnderfull, IsWithinLimit, at_either, edge_of, is_past, last_place, limit_empty, limit_even, limit_ordered, limit_rows, next_place, positioned_held, with_limited_row};
+ghost use Rattle.dv_change.specs.Inner.Told.{change_to, no_lists, told_along};
+ghost use Rattle.dv_flow.specs.Inner.Limiting.{HoldsLimit, IsBehind, IsCut, IsOverfull, IsUnderfull, IsWithinLimit, at_either, edge_of, is_past, last_place, limit_empty, limit_even, limit_ordered, limit_rows, next_place, positioned_held, with_limited_row};
 ghost use Rattle.dv_flow.specs.Placed.{front_at};
 
 use dv_change::{Input, Operator, Ordered, Pos, Taken, Ticks, hand_over};

@@ -1,7 +1,7 @@
 //! `$limit`, kept by changes.
 
 ghost use Rattle.std.specs.Prelude.{◌≡◌, []};
-ghost use Rattle.dv_flow.specs.Limiting.{IsSoundLimit, limit_count, limit_empty, limit_even, limit_left, limit_makes, limit_ordered, limit_positioned};
+ghost use Rattle.dv_flow.specs.Inner.Limiting.{IsSoundLimit, limit_count, limit_empty, limit_even, limit_left, limit_makes, limit_ordered, limit_positioned};
 
 use crate::limit::LimitOperator;
 use dv_change::{Change, Input, Keeping, Ticks, Turn};

@@ -1,7 +1,7 @@
 //! `$match`, kept by changes.
 
 ghost use Rattle.std.specs.Prelude.{refl};
-ghost use Rattle.dv_flow.specs.Matching.{match_even, match_ordered, match_single};
+ghost use Rattle.dv_flow.specs.Inner.Matching.{match_even, match_ordered, match_single};
 ghost use Rattle.dv_flow.specs.Placed.{matched_at};
 
 use crate::by_row::ByRow;

@@ -2,7 +2,7 @@
 
 ghost use Rattle.std.specs.Prelude.{refl};
 ghost use Rattle.dv_flow.specs.Placed.{shown_at};
-ghost use Rattle.dv_flow.specs.Projecting.{project_even, project_ordered, project_single};
+ghost use Rattle.dv_flow.specs.Inner.Projecting.{project_even, project_ordered, project_single};
 
 use crate::by_row::ByRow;
 use crate::row_turn::RowTurn;

@@ -1,7 +1,7 @@
 //! Stages that make their rows of each row by itself, kept by changes.
 
 ghost use Rattle.std.specs.Prelude.{◌≡◌, [], IfOk};
-ghost use Rattle.dv_flow.specs.Rows.{IsSoundRows, rows_left, rows_stage};
+ghost use Rattle.dv_flow.specs.Inner.Rows.{IsSoundRows, rows_left, rows_stage};
 
 use crate::by_row::{ByRow, RowOperator};
 use dv_change::{Change, Input, Keeping, Ticks, Turn};

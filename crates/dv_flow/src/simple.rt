@@ -1,7 +1,7 @@
 //! The simple stages together.
 
 ghost use Rattle.std.specs.Prelude.{[]};
-ghost use Rattle.dv_flow.specs.Simple.{IsSoundSimple, simple_empty, simple_even, simple_left, simple_makes, simple_ordered, simple_positioned};
+ghost use Rattle.dv_flow.specs.Inner.Simple.{IsSoundSimple, simple_empty, simple_even, simple_left, simple_makes, simple_ordered, simple_positioned};
 
 use crate::limit_turn::LimitTurn;
 use crate::matching::MatchTurn;

@@ -3,7 +3,7 @@
 ghost use Rattle.std.specs.Prelude.{◌≡◌, IfOk, drop, length};
 ghost use Rattle.dv_flow.specs.Placed as defined;
 ghost use Rattle.dv_flow.specs.Placed.{sorted_at};
-ghost use Rattle.dv_flow.specs.Sorting.{sort_empty, sort_even, sort_exact, sort_ordered, sort_single};
+ghost use Rattle.dv_flow.specs.Inner.Sorting.{sort_empty, sort_even, sort_exact, sort_ordered, sort_single};
 
 use crate::by_row::ByRow;
 use crate::row_turn::RowTurn;

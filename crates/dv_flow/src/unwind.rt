@@ -3,7 +3,7 @@
 ghost use Rattle.std.specs.Prelude.{◌≡◌, IfOk};
 ghost use Rattle.dv_change.specs.Changes.{in_row_order};
 ghost use Rattle.dv_flow.specs.Placed.{rows_numbered, unwound_at};
-ghost use Rattle.dv_flow.specs.Unwinding.{but_last, unwind_empty, unwind_even, unwind_exact, unwind_ordered, unwind_single};
+ghost use Rattle.dv_flow.specs.Inner.Unwinding.{but_last, unwind_empty, unwind_even, unwind_exact, unwind_ordered, unwind_single};
 
 use crate::by_row::ByRow;
 use crate::row_turn::RowTurn;

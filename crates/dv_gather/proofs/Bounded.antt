@@ -13,11 +13,11 @@ use Rattle.dv_gather.specs.declared.accumulator.Accumulator.{Accumulator}
 use Rattle.dv_gather.specs.declared.accumulator.Accumulator.TheVariants.{Sum, Min, Max, Push}
 use Rattle.dv_gather.specs.declared.total.Total as memory
 use Rattle.dv_gather.specs.declared.tally.Tally.{Tally}
-use Rattle.dv_gather.specs.Bounds.{IsWithinCount, AreWithin, EachWithin}
+use Rattle.dv_gather.specs.Inner.Bounds.{IsWithinCount, AreWithin, EachWithin}
 use Rattle.dv_gather.specs.Grouping.{Accumulation}
-use Rattle.dv_gather.specs.Tallies.{Tallied, started, started_from, totals_of_none, without_rows}
-use Rattle.dv_gather.specs.Totals.{Total, summed, best, all, of_none}
-use Rattle.dv_gather.specs.TotalView.{total_seen, tally_seen, tallies_seen}
+use Rattle.dv_gather.specs.Inner.Tallies.{Tallied, started, started_from, totals_of_none, without_rows}
+use Rattle.dv_gather.specs.Inner.Totals.{Total, summed, best, all, of_none}
+use Rattle.dv_gather.specs.Inner.TotalView.{total_seen, tally_seen, tallies_seen}
 use Rattle.dv_gather.proofs.GroupRows.{seen-inserted}
 
 -- ---- totals

@@ -12,13 +12,13 @@ use Rattle.dv_value.specs.Spelling.{IsValue}
 use Rattle.dv_order.specs.Order.{order}
 use Rattle.dv_row.specs.Expressions.{constant, value_of}
 use Rattle.dv_row.specs.Row.{Row}
-use Rattle.dv_row.specs.Valid.{AreValid, of-ok}
+use Rattle.dv_row.specs.Inner.Valid.{AreValid, of-ok}
 use Rattle.dv_gather.specs.GroupParsing.{group_in}
-use Rattle.dv_gather.specs.Valid.{IsSoundGroup, IsSoundLookup, grouped-valid, group_in-sound, looked_up-valid, lookup_in-sound}
+use Rattle.dv_gather.specs.Inner.Valid.{IsSoundGroup, IsSoundLookup, grouped-valid, group_in-sound, looked_up-valid, lookup_in-sound}
 use Rattle.dv_gather.specs.declared.lookup.Lookup as lookups
 use Rattle.dv_gather.specs.Grouping.{Grouping, grouped, values_over}
 use Rattle.dv_gather.specs.Groups.{Keyed, group_keys}
-use Rattle.dv_gather.specs.GroupLaws.{Above, above-same, any-equal, key_there, keys_ascend}
+use Rattle.dv_gather.specs.Inner.GroupLaws.{Above, above-same, any-equal, key_there, keys_ascend}
 use Rattle.dv_gather.specs.Lookups.{looked_up, lookup_in, set_field}
 use Rattle.dv_gather.specs.Sums.{total, is_int64, spelled, sum_of}
 

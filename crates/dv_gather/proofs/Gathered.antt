@@ -9,7 +9,7 @@ use Rattle.dv_order.specs.Key.{KeyTree, value, key_order}
 use Rattle.dv_candidates.specs.Candidates.{Candidate, array_in, leaves, or_null, whole, with_elements}
 use Rattle.dv_path.specs.LeafKeys.{is_key_of, is_some_key, leaf_values}
 use Rattle.dv_gather.specs.Joining.{joined_by, local_values}
-use Rattle.dv_gather.specs.KeySets.{AreKeysOf}
+use Rattle.dv_gather.specs.Inner.KeySets.{AreKeysOf}
 use Rattle.dv_gather.proofs.Lists.{or-false}
 
 pub fields_again : (fs : List Field) → list_of_fields (fields_of fs) ≡ fs

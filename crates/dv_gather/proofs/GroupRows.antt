@@ -18,11 +18,11 @@ use Rattle.dv_gather.specs.declared.extreme.Extreme.{Extreme}
 use Rattle.dv_gather.specs.declared.accumulator.Accumulator.{Accumulator}
 use Rattle.dv_gather.specs.declared.accumulator.Accumulator.TheVariants.{Sum, Min, Max, Push}
 use Rattle.dv_gather.specs.Extremes.{better, extreme_from}
-use Rattle.dv_gather.specs.Gathering.{Entry, listed, group_put, gathered}
+use Rattle.dv_gather.specs.Inner.Gathering.{Entry, listed, group_put, gathered}
 use Rattle.dv_gather.specs.Grouping.{Accumulation, Grouping, key_in, keyed, with_present, values_over, accumulated, with_accumulated, key_of_group, group_row, grouped}
 use Rattle.dv_gather.specs.Sums.{addend, is_int64, total}
-use Rattle.dv_gather.specs.Tallies.{Tallied, with_present_at, with_values_from, with_values, with_tallied_row, without_rows, with_row_under, with_rows_put, with_finished, key_or_null, finished_row}
-use Rattle.dv_gather.specs.Totals.{Total, summed, best, all, of_none, with_value, with_each, with_total_at, finished}
+use Rattle.dv_gather.specs.Inner.Tallies.{Tallied, with_present_at, with_values_from, with_values, with_tallied_row, without_rows, with_row_under, with_rows_put, with_finished, key_or_null, finished_row}
+use Rattle.dv_gather.specs.Inner.Totals.{Total, summed, best, all, of_none, with_value, with_each, with_total_at, finished}
 use Rattle.dv_gather.proofs.Grouped.{groups-are}
 
 -- ---- maps whose values are seen as others

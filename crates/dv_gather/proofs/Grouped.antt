@@ -13,8 +13,8 @@ use Rattle.dv_value.specs.Tree.{Tree, Field}
 use Rattle.dv_order.specs.Order.{canon, order}
 use Rattle.dv_order.specs.Key.{value, key_order}
 use Rattle.dv_gather.specs.Groups.{Keyed, with_key, keys_from, group_keys, documents_under_key, groups_of}
-use Rattle.dv_gather.specs.Gathering.{Entry, listed, group_put, gathered}
-use Rattle.dv_gather.specs.GroupLaws.{above-earlier, above-same, Above, any-with, back, itself, same-as, sorted-with}
+use Rattle.dv_gather.specs.Inner.Gathering.{Entry, listed, group_put, gathered}
+use Rattle.dv_gather.specs.Inner.GroupLaws.{above-earlier, above-same, Above, any-with, back, itself, same-as, sorted-with}
 
 -- ---- entries
 

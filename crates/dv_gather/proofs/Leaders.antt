@@ -6,11 +6,11 @@ use Rattle.std.specs.declared.cmp.Ordering.{Ordering}
 use Rattle.std.specs.declared.cmp.Ordering.TheVariants.{Less, Equal, Greater}
 use Rattle.dv_value.specs.Tree.{Tree, int32, int64, string, document, array, boolean, binary, object_id, date, null, timestamp, min_key, max_key}
 use Rattle.dv_order.specs.Order.{order}
-use Rattle.dv_order.specs.TotalOrder.{order_total}
+use Rattle.dv_order.specs.Inner.TotalOrder.{order_total}
 use Rattle.dv_gather.specs.declared.extreme.Extreme.{Extreme}
 use Rattle.dv_gather.specs.declared.extreme.Extreme.TheVariants.{Least, Greatest}
 use Rattle.dv_gather.specs.Extremes.{is_null, extreme_stands_so, better, extreme_from, extreme_of}
-use Rattle.dv_gather.specs.Leading.{Leads, IsLeader}
+use Rattle.dv_gather.specs.Inner.Leading.{Leads, IsLeader}
 
 abbrev ahead : Extreme → Ordering
 ahead Least = Less

@@ -10,7 +10,7 @@ use Rattle.dv_order.specs.Order.{order}
 use Rattle.dv_candidates.specs.Candidates.{Candidate}
 use Rattle.dv_row.specs.Expressions.{Expression, value_of}
 use Rattle.dv_row.specs.Row.{Row}
-use Rattle.dv_gather.specs.Counting.{is_number}
+use Rattle.dv_gather.specs.Inner.Counting.{is_number}
 use Rattle.dv_gather.specs.Grouping.{Grouping, key_in, keyed, with_present, values_over, group_row, grouped}
 use Rattle.dv_gather.specs.Groups.{Keyed, with_key, keys_from, group_keys, documents_under_key, groups_of}
 use Rattle.dv_gather.specs.Sums.{addend, total, is_int64, spelled, sum_of}

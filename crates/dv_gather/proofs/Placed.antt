@@ -16,16 +16,16 @@ use Rattle.std.proofs.lemmas.List.Folds.{list_any-append}
 use Rattle.std.proofs.lemmas.Option.{slice_get_read}
 use Rattle.dv_value.specs.Tree.{Tree, Field}
 use Rattle.dv_value.specs.Names.{has_name, with_value_under}
-use Rattle.dv_row.specs.EachLaws.{drop-read}
+use Rattle.dv_row.specs.Inner.EachLaws.{drop-read}
 use Rattle.dv_order.specs.Order.{canon, order}
 use Rattle.dv_order.specs.Key.{KeyTree, value, key_order}
-use Rattle.dv_order.specs.KeyLaws.{key_order_total}
+use Rattle.dv_order.specs.Inner.KeyLaws.{key_order_total}
 use Rattle.dv_path.specs.LeafKeys.{leaf_values}
 use Rattle.dv_gather.specs.Joining.{as_value, joined_by, matches}
 use Rattle.dv_gather.specs.Lookups.{set_field}
 use Rattle.dv_row.specs.Expressions.{with_field_behind}
-use Rattle.dv_gather.specs.KeySets.{AreKeysOf, any_key, referred}
-use Rattle.dv_gather.specs.Places.{ArePlaces, is_place, is_kept, is_under, is_found, item_passes_at, items_chosen, item_at, items_at}
+use Rattle.dv_gather.specs.Inner.KeySets.{AreKeysOf, any_key, referred}
+use Rattle.dv_gather.specs.Inner.Places.{ArePlaces, is_place, is_kept, is_under, is_found, item_passes_at, items_chosen, item_at, items_at}
 use Rattle.dv_gather.proofs.Lists.{or-false, or-assoc, cond-or, any-same, equal-back}
 use Rattle.dv_gather.proofs.Shared.{matches-by_keys}
 

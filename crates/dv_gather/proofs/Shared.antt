@@ -8,10 +8,10 @@ use Rattle.std.specs.Ordering.{is_eq}
 use Rattle.dv_value.specs.Tree.{Tree, Field}
 use Rattle.dv_order.specs.Order.{canon, order}
 use Rattle.dv_order.specs.Key.{KeyTree, value, key_order}
-use Rattle.dv_order.specs.KeyLaws.{key_order_total}
+use Rattle.dv_order.specs.Inner.KeyLaws.{key_order_total}
 use Rattle.dv_path.specs.LeafKeys.{is_key_of, is_some_key, leaf_values}
 use Rattle.dv_gather.specs.Joining.{is_equal_to_one, is_joined, joined_by, matches}
-use Rattle.dv_gather.specs.KeySets.{AreKeysOf, any_key}
+use Rattle.dv_gather.specs.Inner.KeySets.{AreKeysOf, any_key}
 use Rattle.dv_gather.proofs.Lists.{same-truth, any-same}
 
 -- equal keys are those of the same values

@@ -11,9 +11,9 @@ use Rattle.dv_row.specs.Row.{Row}
 use Rattle.dv_gather.specs.declared.total.Total as memory
 use Rattle.dv_gather.specs.declared.tally.Tally.{Tally}
 use Rattle.dv_gather.specs.Grouping.{Accumulation, Grouping, key_in}
-use Rattle.dv_gather.specs.Tallies.{taken, started, with_tallied_row, without_rows, with_row_under, with_row_put, finished_row}
-use Rattle.dv_gather.specs.Totals.{with_value, with_total_at}
-use Rattle.dv_gather.specs.TotalView.{total_seen, tally_seen, tallies_seen}
+use Rattle.dv_gather.specs.Inner.Tallies.{taken, started, with_tallied_row, without_rows, with_row_under, with_row_put, finished_row}
+use Rattle.dv_gather.specs.Inner.Totals.{with_value, with_total_at}
+use Rattle.dv_gather.specs.Inner.TotalView.{total_seen, tally_seen, tallies_seen}
 use Rattle.dv_gather.proofs.GroupRows.{seen-inserted, seen-found}
 
 -- a value more in the total at a place

@@ -7,7 +7,7 @@ use Rattle.dv_path.specs.LeafKeys.{leaf_values}
 use Rattle.dv_candidates.specs.Path.{path_of}
 use Rattle.dv_row.specs.ExpressionParsing.{expression_in}
 use Rattle.dv_row.specs.Expressions.{value_of}
-use Rattle.dv_gather.specs.Examples.{by, mixed, a_group, group_rows, group_row, after_group, a_lookup, seven, eight, nine, ten, after_lookup}
+use Rattle.dv_gather.specs.Inner.Examples.{by, mixed, a_group, group_rows, group_row, after_group, a_lookup, seven, eight, nine, ten, after_lookup}
 use Rattle.dv_value.specs.Short.{int, text, doc, list}
 use Rattle.dv_gather.specs.GroupParsing.{group_in}
 use Rattle.dv_gather.specs.Grouping.{accumulated, grouped}

@@ -1,21 +1,9 @@
-pub mod Bounds
-pub mod Counting
-pub mod Examples
 pub mod Extremes
-pub mod Gathering
-pub mod GroupCode
-pub mod GroupLaws
 pub mod GroupParsing
-pub mod GroupView
 pub mod Grouping
 pub mod Groups
 pub mod Joining
-pub mod KeySets
-pub mod Leading
 pub mod Lookups
-pub mod Places
 pub mod Sums
-pub mod Tallies
-pub mod TotalView
-pub mod Totals
-pub mod Valid
+-- what only bodies and proofs need
+pub mod Inner

@@ -2,10 +2,10 @@
 
 ghost use Rattle.std.specs.Prelude.{◌≡◌, ℕ, suc, IfOk, pos, true};
 ghost use Rattle.dv_value.specs.View.{tree};
-ghost use Rattle.dv_gather.specs.Bounds.{IsWithinCount, most};
+ghost use Rattle.dv_gather.specs.Inner.Bounds.{IsWithinCount, most};
 ghost use Rattle.dv_gather.specs.Sums as defined;
-ghost use Rattle.dv_gather.specs.Totals.{summed, with_value, finished};
-ghost use Rattle.dv_gather.specs.TotalView.{sum_seen};
+ghost use Rattle.dv_gather.specs.Inner.Totals.{summed, with_value, finished};
+ghost use Rattle.dv_gather.specs.Inner.TotalView.{sum_seen};
 
 use dv_value::{BsonFault, Document, NoMemory, Str, Value};
 use itoa::Buffer;

@@ -1,15 +1,15 @@
 //! `$group`.
 
 ghost use Rattle.std.specs.Prelude.{◌≡◌, [], ℕ, suc, map, IfOk, OnOk};
-ghost use Rattle.dv_row.specs.ExpressionView.{expression_seen};
-ghost use Rattle.dv_row.specs.RowValueView.{row_value};
-ghost use Rattle.dv_gather.specs.Bounds.{EachWithin, most};
+ghost use Rattle.dv_row.specs.Inner.ExpressionView.{expression_seen};
+ghost use Rattle.dv_row.specs.Inner.RowValueView.{row_value};
+ghost use Rattle.dv_gather.specs.Inner.Bounds.{EachWithin, most};
 ghost use Rattle.dv_gather.specs.Grouping as defined;
 ghost use Rattle.dv_gather.specs.GroupParsing.{grouping};
-ghost use Rattle.dv_gather.specs.GroupView.{accumulation};
-ghost use Rattle.dv_gather.specs.KeySets.{referred};
-ghost use Rattle.dv_gather.specs.Tallies.{finished_row, with_row_put, with_rows_put};
-ghost use Rattle.dv_gather.specs.TotalView.{tallies_seen};
+ghost use Rattle.dv_gather.specs.Inner.GroupView.{accumulation};
+ghost use Rattle.dv_gather.specs.Inner.KeySets.{referred};
+ghost use Rattle.dv_gather.specs.Inner.Tallies.{finished_row, with_row_put, with_rows_put};
+ghost use Rattle.dv_gather.specs.Inner.TotalView.{tallies_seen};
 
 use crate::accumulator::Accumulator;
 use crate::tally::Tally;
@@ -40,15 +40,15 @@ pub struct Group {
 
 impl Model for Group {
     ghost use Rattle.std.specs.Prelude.{map};
-    ghost use Rattle.dv_row.specs.ExpressionView.{expression_seen};
+    ghost use Rattle.dv_row.specs.Inner.ExpressionView.{expression_seen};
     ghost use Rattle.dv_gather.specs.Grouping.{Grouping};
-    ghost use Rattle.dv_gather.specs.GroupCode.{coded_grouping};
+    ghost use Rattle.dv_gather.specs.Inner.GroupCode.{coded_grouping};
 
     ghost Value = { Grouping };
 
     ghost coded = { coded_grouping };
 
-    ghost use Rattle.dv_gather.specs.GroupView.{accumulation};
+    ghost use Rattle.dv_gather.specs.Inner.GroupView.{accumulation};
     ghost use Rattle.dv_gather.specs.GroupParsing.{grouping};
 
     ghost view = { λ g. grouping (expression_seen g.key) (map accumulation g.fields.items) };

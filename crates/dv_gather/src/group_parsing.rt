@@ -3,11 +3,11 @@
 ghost use Rattle.std.specs.Prelude.{◌≡◌, map, codes, IfOk};
 ghost use Rattle.dv_value.specs.Names.{value_under, without};
 ghost use Rattle.dv_value.specs.View.{tree};
-ghost use Rattle.dv_row.specs.ExpressionView.{expression_seen};
+ghost use Rattle.dv_row.specs.Inner.ExpressionView.{expression_seen};
 ghost use Rattle.dv_row.specs.Parsing.{Gives};
 ghost use Rattle.dv_value.specs.Results.{each};
 ghost use Rattle.dv_gather.specs.GroupParsing as defined;
-ghost use Rattle.dv_gather.specs.GroupView.{accumulation};
+ghost use Rattle.dv_gather.specs.Inner.GroupView.{accumulation};
 
 use crate::accumulator::Accumulator;
 use crate::group::{Group, GroupField};

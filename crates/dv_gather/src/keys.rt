@@ -6,7 +6,7 @@ ghost use Rattle.dv_order.specs.Key.{KeyTree, key_order};
 ghost use Rattle.dv_path.specs.LeafKeys.{is_some_key, leaf_values};
 ghost use Rattle.dv_candidates.specs.View.{seen};
 ghost use Rattle.dv_gather.specs.Joining.{joined_by, local_values};
-ghost use Rattle.dv_gather.specs.KeySets.{AreKeysOf};
+ghost use Rattle.dv_gather.specs.Inner.KeySets.{AreKeysOf};
 
 use crate::lookup::Lookup;
 use dv_candidates::{Candidate, Path, fold_whole, sole_candidate};

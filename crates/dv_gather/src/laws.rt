@@ -11,22 +11,22 @@ ghost use Rattle.dv_order.specs.Order.{order};
 ghost use Rattle.dv_row.specs.declared.fault.PipelineFault.TheVariants.{BadSpec};
 ghost use Rattle.dv_row.specs.Expressions.{Expression, constant, value_of};
 ghost use Rattle.dv_row.specs.Row.{Row};
-ghost use Rattle.dv_row.specs.Valid.{AreValid};
-ghost use Rattle.dv_gather.specs.Counting.{is_number};
+ghost use Rattle.dv_row.specs.Inner.Valid.{AreValid};
+ghost use Rattle.dv_gather.specs.Inner.Counting.{is_number};
 ghost use Rattle.dv_value.specs.Short as short;
-ghost use Rattle.dv_gather.specs.Examples as examples;
+ghost use Rattle.dv_gather.specs.Inner.Examples as examples;
 ghost use Rattle.dv_gather.specs.GroupParsing.{group_in};
 ghost use Rattle.dv_gather.specs.declared.lookup.Lookup as lookups;
 ghost use Rattle.dv_gather.specs.Grouping.{Grouping, accumulated, group_row, grouped, key_in, keyed, values_over};
 ghost use Rattle.dv_gather.specs.Groups.{Keyed, groups_of, group_keys};
-ghost use Rattle.dv_gather.specs.Leading.{IsLeader};
+ghost use Rattle.dv_gather.specs.Inner.Leading.{IsLeader};
 ghost use Rattle.dv_gather.specs.Lookups.{looked_up, lookup_in, set_field};
 ghost use Rattle.dv_gather.specs.Sums.{sum_of};
 
 use crate::accumulator::Accumulator;
 
 /// The keys of the groups ascend and are distinct, and each row's key is exactly one of them: so it is in one group.
-#[tactic(auto, using(crate::specs::GroupLaws::keys_ascend, crate::proofs::GatherLaws::one_key))]
+#[tactic(auto, using(crate::specs::Inner::GroupLaws::keys_ascend, crate::proofs::GatherLaws::one_key))]
 pub fn each_row_is_in_one_group()
     ensures ascending { (rows : List Keyed) → IsStrictlySortedBy order (group_keys rows) }
     ensures one { (before after : List Keyed) (row : Keyed) → length (filter (λ k. is_eq (order row.0 k)) (group_keys (before ++ row ∷ after))) ≡ 1 }

@@ -3,7 +3,7 @@
 ghost use Rattle.std.specs.Prelude.{◌≡◌, IfOk, OnOk};
 ghost use Rattle.dv_value.specs.Tree.{array, elements_of};
 ghost use Rattle.dv_value.specs.View.{tree};
-ghost use Rattle.dv_gather.specs.KeySets.{referred};
+ghost use Rattle.dv_gather.specs.Inner.KeySets.{referred};
 ghost use Rattle.dv_gather.specs.Lookups as defined;
 
 use crate::joining::{matches_of, places_of};
@@ -46,13 +46,13 @@ impl<'a> Model for Join<'a> {
     ghost Value = { Lookup × List (List Field) };
 
     ghost use Rattle.std.specs.Coded.{coded_list, coded×, coded_ℕ};
-    ghost use Rattle.dv_value.specs.TreeCode.{coded_tree};
+    ghost use Rattle.dv_value.specs.Inner.TreeCode.{coded_tree};
     ghost use Rattle.dv_gather.specs.contracts.lookup.Lookup as lookups;
 
     ghost coded = { coded× lookups.the_row.coded (coded_list (coded_list (coded× (coded_list coded_ℕ) coded_tree))) };
 
-    ghost use Rattle.dv_gather.specs.KeySets.{referred};
-    ghost use Rattle.dv_gather.specs.Places.{ArePlaces};
+    ghost use Rattle.dv_gather.specs.Inner.KeySets.{referred};
+    ghost use Rattle.dv_gather.specs.Inner.Places.{ArePlaces};
 
     ghost view = { λ j. (j.lookup.now, referred j.documents.now) };
 

@@ -2,11 +2,11 @@
 
 ghost use Rattle.std.specs.Prelude.{◌≡◌, ℕ, suc, map, IfOk, OnOk};
 ghost use Rattle.dv_value.specs.View.{tree};
-ghost use Rattle.dv_row.specs.RowValueView.{row_value};
-ghost use Rattle.dv_gather.specs.Bounds.{AreWithin, most};
-ghost use Rattle.dv_gather.specs.GroupView.{accumulation};
-ghost use Rattle.dv_gather.specs.Tallies as defined;
-ghost use Rattle.dv_gather.specs.TotalView.{keys_seen, tally_seen, total_seen};
+ghost use Rattle.dv_row.specs.Inner.RowValueView.{row_value};
+ghost use Rattle.dv_gather.specs.Inner.Bounds.{AreWithin, most};
+ghost use Rattle.dv_gather.specs.Inner.GroupView.{accumulation};
+ghost use Rattle.dv_gather.specs.Inner.Tallies as defined;
+ghost use Rattle.dv_gather.specs.Inner.TotalView.{keys_seen, tally_seen, total_seen};
 
 use crate::group::GroupField;
 use crate::total::{Total, add_at};

@@ -2,10 +2,10 @@
 
 ghost use Rattle.std.specs.Prelude.{◌≡◌, ℕ, suc, map, IfOk, OnOk};
 ghost use Rattle.dv_value.specs.View.{tree};
-ghost use Rattle.dv_row.specs.RowValueView.{row_value};
-ghost use Rattle.dv_gather.specs.Bounds.{AreWithin, IsWithinCount, most};
-ghost use Rattle.dv_gather.specs.Totals as defined;
-ghost use Rattle.dv_gather.specs.TotalView.{total_seen};
+ghost use Rattle.dv_row.specs.Inner.RowValueView.{row_value};
+ghost use Rattle.dv_gather.specs.Inner.Bounds.{AreWithin, IsWithinCount, most};
+ghost use Rattle.dv_gather.specs.Inner.Totals as defined;
+ghost use Rattle.dv_gather.specs.Inner.TotalView.{total_seen};
 
 use crate::accumulator::Accumulator;
 use crate::adding::Sum;

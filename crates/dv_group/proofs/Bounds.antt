@@ -13,15 +13,16 @@ use Rattle.dv_row.specs.Row.{Row}
 use Rattle.dv_change.specs.declared.change.Change.{Change}
 use Rattle.dv_change.specs.declared.change.Change.TheVariants.{Gone, Put}
 use Rattle.dv_change.specs.declared.position.Part.TheVariants.{Up}
-use Rattle.dv_change.specs.Changes.{IsExactChange, IsPositioned, Positioned, at, forget, position_changed, row_in, with_change}
+use Rattle.dv_change.specs.Changes.{Positioned, at, forget, with_change}
+use Rattle.dv_change.specs.Inner.Changes.{IsExactChange, IsPositioned, position_changed, row_in}
 use Rattle.dv_change.specs.Difference.{diff, gones, puts, stands_as}
-use Rattle.dv_change.specs.DiffLaws.{all-filter, positioned-filter}
-use Rattle.dv_change.specs.PositionLaws.{pos_order_total}
+use Rattle.dv_change.specs.Inner.DiffLaws.{all-filter, positioned-filter}
+use Rattle.dv_change.specs.Inner.PositionLaws.{pos_order_total}
 use Rattle.dv_change.specs.Positions.{PosTree, pos_order}
-use Rattle.dv_change.specs.RowLaws.{all-implied, at_back}
+use Rattle.dv_change.specs.Inner.RowLaws.{all-implied, at_back}
 use Rattle.dv_gather.specs.Grouping.{Grouping, row_shown}
-use Rattle.dv_group.specs.Grouped.{or-right}
-use Rattle.dv_group.specs.Members.{row_key, rows_with, shown_of, with_shown}
+use Rattle.dv_group.specs.Inner.Grouped.{or-right}
+use Rattle.dv_group.specs.Inner.Members.{row_key, rows_with, shown_of, with_shown}
 use Rattle.dv_group.specs.Placed.{grouped_at}
 use Rattle.dv_group.proofs.Owed.{all-put_some, group-owed, shown-are}
 

@@ -6,21 +6,22 @@ use Rattle.std.specs.List.{AllByRecursion}
 use Rattle.std.specs.Ordering.{is_eq}
 use Rattle.dv_value.specs.Tree.{Tree}
 use Rattle.dv_row.specs.Row.{Row}
-use Rattle.dv_change.specs.Changes.{IsPositioned, Positioned, at, forget}
-use Rattle.dv_change.specs.Ordered.{gone, put}
-use Rattle.dv_change.specs.PositionLaws.{pos_order_total}
+use Rattle.dv_change.specs.Changes.{Positioned, at, forget}
+use Rattle.dv_change.specs.Inner.Changes.{IsPositioned}
+use Rattle.dv_change.specs.Inner.Ordered.{gone, put}
+use Rattle.dv_change.specs.Inner.PositionLaws.{pos_order_total}
 use Rattle.dv_change.specs.Positions.{IsExact, PosTree, pos_order}
-use Rattle.dv_change.specs.RowLaws.{at-gone, at-put, at_back, positioned-gone, positioned-put, same_rows}
+use Rattle.dv_change.specs.Inner.RowLaws.{at-gone, at-put, at_back, positioned-gone, positioned-put, same_rows}
 use Rattle.dv_gather.specs.Grouping.{Accumulation, Grouping, key_in, row_shown, with_accumulated}
 use Rattle.dv_group.specs.declared.bundle.Bundle.{Bundle}
 use Rattle.dv_group.specs.declared.running.Running as memory
 use Rattle.dv_group.specs.declared.running.Running.TheVariants.{Summed}
 use Rattle.dv_group.specs.declared.running.Way.TheVariants.{Comes, Goes}
 use Rattle.dv_group.specs.declared.summing.KeptSum.{KeptSum}
-use Rattle.dv_group.specs.Members.{set_at}
-use Rattle.dv_group.specs.Room.{AreNarrowIn, HaveRoom, IsBundle, IsNarrow, IsNarrowIn, IsNarrowValue, most_rows}
-use Rattle.dv_group.specs.Running.{Running, moved_from, running_of, field_value, with_told}
-use Rattle.dv_group.specs.RunningView.{running_seen}
+use Rattle.dv_group.specs.Inner.Members.{set_at}
+use Rattle.dv_group.specs.Inner.Room.{AreNarrowIn, HaveRoom, IsBundle, IsNarrow, IsNarrowIn, IsNarrowValue, most_rows}
+use Rattle.dv_group.specs.Inner.Running.{Running, moved_from, running_of, field_value, with_told}
+use Rattle.dv_group.specs.Inner.RunningView.{running_seen}
 use Rattle.dv_group.proofs.Following.{all-came, all-come, all-left, all-may-come, all-may-go, all-narrow, all-told, all-went}
 
 -- ---- rows at a position

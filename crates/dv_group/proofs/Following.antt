@@ -8,8 +8,9 @@ use Rattle.std.specs.Ordering.{is_eq, match_ordering}
 use Rattle.dv_value.specs.Tree.{Field, array, elements_of}
 use Rattle.dv_row.specs.Expressions.{with_field_behind}
 use Rattle.dv_row.specs.Row.{Row}
-use Rattle.dv_change.specs.Changes.{IsPositioned, Positioned, at, forget}
-use Rattle.dv_change.specs.Ordered.{gone, put}
+use Rattle.dv_change.specs.Changes.{Positioned, at, forget}
+use Rattle.dv_change.specs.Inner.Changes.{IsPositioned}
+use Rattle.dv_change.specs.Inner.Ordered.{gone, put}
 use Rattle.dv_change.specs.Positions.{IsExact, PosTree, pos_order}
 use Rattle.dv_gather.specs.declared.accumulator.Accumulator.{Accumulator}
 use Rattle.dv_gather.specs.declared.accumulator.Accumulator.TheVariants.{Sum, Min, Max, Push}
@@ -17,8 +18,8 @@ use Rattle.dv_gather.specs.Grouping.{Accumulation, accumulated, field_over, valu
 use Rattle.dv_gather.specs.Sums.{spelled}
 use Rattle.dv_group.specs.declared.running.Way.{Way}
 use Rattle.dv_group.specs.declared.running.Way.TheVariants.{Comes, Goes}
-use Rattle.dv_group.specs.Room.{AreNarrowIn, HasRoomFor, HaveRoom, IsNarrow, IsNarrowFor, IsNarrowIn, IsWithinRows, most_rows}
-use Rattle.dv_group.specs.Running.{Running, moved_at, moved_by, moved_from, running_by, running_of, summed, told_by, with_running_row, with_told, without_row}
+use Rattle.dv_group.specs.Inner.Room.{AreNarrowIn, HasRoomFor, HaveRoom, IsNarrow, IsNarrowFor, IsNarrowIn, IsWithinRows, most_rows}
+use Rattle.dv_group.specs.Inner.Running.{Running, moved_at, moved_by, moved_from, running_by, running_of, summed, told_by, with_running_row, with_told, without_row}
 use Rattle.dv_group.proofs.Pushing.{pushed-gone, pushed-put, pushed-values}
 use Rattle.dv_group.proofs.Ranking.{first-greatest, first-least, ranked-gone, ranked-put}
 use Rattle.dv_group.proofs.SumsKept.{counted, narrow-is, sum-gone, sum-put, total-is, wides-gone, wides-put, within-most}

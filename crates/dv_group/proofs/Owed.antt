@@ -16,17 +16,18 @@ use Rattle.dv_row.specs.Row.{Row}
 use Rattle.dv_change.specs.declared.change.Change.{Change}
 use Rattle.dv_change.specs.declared.position.Part.TheVariants.{Up, Down, At}
 use Rattle.dv_change.specs.declared.taking.Taken.{Taken}
-use Rattle.dv_change.specs.Changes.{IsExactChange, IsPositioned, Positioned, at, forget, position_changed, row_in, with_change, with_changes}
+use Rattle.dv_change.specs.Changes.{Positioned, at, forget, with_change, with_changes}
+use Rattle.dv_change.specs.Inner.Changes.{IsExactChange, IsPositioned, position_changed, row_in}
 use Rattle.dv_change.specs.Difference.{diff}
-use Rattle.dv_change.specs.DiffLaws.{IsPartAt, at-changed, at-filter, diff-parts, exact-place, or_else, positioned-changed, positioned-filter}
-use Rattle.dv_change.specs.Ordered.{gone}
+use Rattle.dv_change.specs.Inner.DiffLaws.{IsPartAt, at-changed, at-filter, diff-parts, exact-place, or_else, positioned-changed, positioned-filter}
+use Rattle.dv_change.specs.Inner.Ordered.{gone}
 use Rattle.dv_change.specs.Positions.{IsExact, PosTree, pos_order}
-use Rattle.dv_change.specs.RowLaws.{all-put, at-gone, at-like, at-put, at_back, positioned-gone, positioned-none, positioned-put, same_rows}
-use Rattle.dv_change.specs.Told.{diff_told, told_along, with_old}
-use Rattle.dv_change.specs.ToldLaws.{along-diff, told-parts}
+use Rattle.dv_change.specs.Inner.RowLaws.{all-put, at-gone, at-like, at-put, at_back, positioned-gone, positioned-none, positioned-put, same_rows}
+use Rattle.dv_change.specs.Inner.Told.{diff_told, told_along, with_old}
+use Rattle.dv_change.specs.Inner.ToldLaws.{along-diff, told-parts}
 use Rattle.dv_gather.specs.Grouping.{Grouping, row_shown}
-use Rattle.dv_group.specs.Grouped.{IsKeyPlace, at-grouped, beside, group_ordered, grouped-places, one-part}
-use Rattle.dv_group.specs.Members.{AreMembers, KeptGroups, row_has_key, is_key, group_members, moved, moved_all, moved_as, put_some, row_key, rows_in, rows_with, set_at, shown_as, shown_of, with_shown}
+use Rattle.dv_group.specs.Inner.Grouped.{IsKeyPlace, at-grouped, beside, group_ordered, grouped-places, one-part}
+use Rattle.dv_group.specs.Inner.Members.{AreMembers, KeptGroups, row_has_key, is_key, group_members, moved, moved_all, moved_as, put_some, row_key, rows_in, rows_with, set_at, shown_as, shown_of, with_shown}
 use Rattle.dv_group.specs.Placed.{grouped_at}
 
 -- ---- a row more, where there is one

@@ -8,9 +8,9 @@ use Rattle.dv_change.specs.Positions.{PosTree}
 use Rattle.dv_gather.specs.Grouping.{Accumulation}
 use Rattle.dv_group.specs.declared.running.Running as memory
 use Rattle.dv_group.specs.declared.running.Way.{Way}
-use Rattle.dv_group.specs.Room.{AreNarrowIn, HasRoomFor, HaveRoom, IsNarrowIn}
-use Rattle.dv_group.specs.Running.{Running, moved_at, moved_by, moved_from, with_told}
-use Rattle.dv_group.specs.RunningView.{running_seen}
+use Rattle.dv_group.specs.Inner.Room.{AreNarrowIn, HasRoomFor, HaveRoom, IsNarrowIn}
+use Rattle.dv_group.specs.Inner.Running.{Running, moved_at, moved_by, moved_from, with_told}
+use Rattle.dv_group.specs.Inner.RunningView.{running_seen}
 
 pub drop-one : {A : Type 0} (n : ℕ) (xs : List A) → drop 1 (drop n xs) ≡ drop (suc n) xs
 drop-one zero xs = refl

@@ -11,16 +11,17 @@ use Rattle.dv_value.specs.declared.value.Value.{Value}
 use Rattle.dv_value.specs.Tree.{Tree}
 use Rattle.dv_value.specs.View.{tree}
 use Rattle.dv_row.specs.Row.{Row}
-use Rattle.dv_change.specs.Changes.{IsPositioned, Positioned, at, forget}
-use Rattle.dv_change.specs.Ordered.{gone, put}
-use Rattle.dv_change.specs.PositionLaws.{pos_order_total}
+use Rattle.dv_change.specs.Changes.{Positioned, at, forget}
+use Rattle.dv_change.specs.Inner.Changes.{IsPositioned}
+use Rattle.dv_change.specs.Inner.Ordered.{gone, put}
+use Rattle.dv_change.specs.Inner.PositionLaws.{pos_order_total}
 use Rattle.dv_change.specs.Positions.{IsExact, PosTree, pos_order}
-use Rattle.dv_change.specs.RowLaws.{all-implied, past, positioned-tail, put-front}
+use Rattle.dv_change.specs.Inner.RowLaws.{all-implied, past, positioned-tail, put-front}
 use Rattle.dv_gather.specs.Grouping.{Accumulation, values_over, with_present}
 use Rattle.dv_group.specs.declared.running.Way.{Way}
 use Rattle.dv_group.specs.declared.running.Way.TheVariants.{Comes, Goes}
-use Rattle.dv_group.specs.Running.{Values, field_value, moved_by, pushed, pushed_over, repushed, values_in, with_first, with_pushed}
-use Rattle.dv_group.specs.RunningView.{values_seen}
+use Rattle.dv_group.specs.Inner.Running.{Values, field_value, moved_by, pushed, pushed_over, repushed, values_in, with_first, with_pushed}
+use Rattle.dv_group.specs.Inner.RunningView.{values_seen}
 
 module _ {V W : Type 0} (f : V → W) where
   abbrev pub each_seen : List (PosTree × V) → List (PosTree × W)

@@ -12,22 +12,23 @@ use Rattle.dv_value.specs.Tree.{Tree, null}
 use Rattle.dv_order.specs.Key.{value}
 use Rattle.dv_order.specs.Order.{canon, order}
 use Rattle.dv_order.specs.OwnKeys.{IsOwn}
-use Rattle.dv_order.specs.SameOrder.{order_of_canon}
-use Rattle.dv_order.specs.TotalOrder.{order_total}
+use Rattle.dv_order.specs.Inner.SameOrder.{order_of_canon}
+use Rattle.dv_order.specs.Inner.TotalOrder.{order_total}
 use Rattle.dv_candidates.specs.Candidates.{or_null}
 use Rattle.dv_row.specs.Row.{Row}
 use Rattle.dv_change.specs.declared.position.Part.{Part}
-use Rattle.dv_change.specs.Changes.{IsPositioned, Positioned, at, forget}
-use Rattle.dv_change.specs.Ordered.{gone, put}
-use Rattle.dv_change.specs.PositionLaws.{part_order_total, pos_order_total}
+use Rattle.dv_change.specs.Changes.{Positioned, at, forget}
+use Rattle.dv_change.specs.Inner.Changes.{IsPositioned}
+use Rattle.dv_change.specs.Inner.Ordered.{gone, put}
+use Rattle.dv_change.specs.Inner.PositionLaws.{part_order_total, pos_order_total}
 use Rattle.dv_change.specs.Positions.{IsExact, IsExactPart, PosTree, part_order, pos_order}
-use Rattle.dv_change.specs.RowLaws.{at-gone, at-like, at-put, at_back, past, positioned-gone, positioned-none, positioned-put, positioned-tail, same_rows}
+use Rattle.dv_change.specs.Inner.RowLaws.{at-gone, at-like, at-put, at_back, past, positioned-gone, positioned-none, positioned-put, positioned-tail, same_rows}
 use Rattle.dv_gather.specs.declared.accumulator.Accumulator.{Accumulator}
 use Rattle.dv_gather.specs.declared.accumulator.Accumulator.TheVariants.{Sum, Min, Max, Push}
 use Rattle.dv_gather.specs.Extremes.{extreme_from, is_null, extreme_stands_so}
 use Rattle.dv_gather.specs.Grouping.{Accumulation, accumulated, values_over, with_present}
-use Rattle.dv_gather.specs.Totals.{best, of_none}
-use Rattle.dv_group.specs.Running.{value_of_first, rank, ranked_over, field_value, with_ranked, without_ranked}
+use Rattle.dv_gather.specs.Inner.Totals.{best, of_none}
+use Rattle.dv_group.specs.Inner.Running.{value_of_first, rank, ranked_over, field_value, with_ranked, without_ranked}
 
 -- ---- a row that comes and goes
 

@@ -10,13 +10,13 @@ use Rattle.std.specs.Ordering.{is_eq, match_ordering}
 use Rattle.dv_value.specs.Tree.{Tree}
 use Rattle.dv_row.specs.Row.{Row}
 use Rattle.dv_change.specs.Changes.{Positioned, at, forget}
-use Rattle.dv_change.specs.Ordered.{gone, put}
+use Rattle.dv_change.specs.Inner.Ordered.{gone, put}
 use Rattle.dv_change.specs.Positions.{PosTree, pos_order}
 use Rattle.dv_gather.specs.declared.accumulator.Accumulator.TheVariants.{Sum}
 use Rattle.dv_gather.specs.Grouping.{Accumulation, values_over, with_present}
 use Rattle.dv_gather.specs.Sums.{addend, is_int64, total}
-use Rattle.dv_group.specs.Room.{IsNarrowFor, IsWithinRows, most_rows}
-use Rattle.dv_group.specs.Running.{adds, sum_over, summed, field_value, widens, wides_over}
+use Rattle.dv_group.specs.Inner.Room.{IsNarrowFor, IsWithinRows, most_rows}
+use Rattle.dv_group.specs.Inner.Running.{adds, sum_over, summed, field_value, widens, wides_over}
 
 -- ---- one row more, and one less
 

@@ -5,14 +5,14 @@ use Rattle.dv_order.specs.Key.{KeyTree}
 use Rattle.dv_row.specs.Row.{Row}
 use Rattle.dv_change.specs.declared.position.Part.TheVariants.{Up}
 use Rattle.dv_change.specs.Changes.{Positioned, forget}
-use Rattle.dv_change.specs.Ordered.{gone}
+use Rattle.dv_change.specs.Inner.Ordered.{gone}
 use Rattle.dv_change.specs.Positions.{PosTree}
 use Rattle.dv_gather.specs.Grouping.{Grouping, row_shown}
 use Rattle.dv_group.specs.declared.shift.Shift.{Shift}
 use Rattle.dv_group.specs.declared.shift.Shifts.{Shifts}
 use Rattle.dv_group.specs.declared.shift.Telling.{Telling}
 use Rattle.dv_group.specs.declared.shift.Telling.TheVariants.{Told, Untold}
-use Rattle.dv_group.specs.Members.{AreShifts, IsShiftAt, KeptGroups, are_one, group_members, is_key, put_some, set_at, with_row, with_shown}
+use Rattle.dv_group.specs.Inner.Members.{AreShifts, IsShiftAt, KeptGroups, are_one, group_members, is_key, put_some, set_at, with_row, with_shown}
 use Rattle.dv_group.proofs.Under.{back, shown-once}
 
 -- where two keys aren't equal, neither is that of the other

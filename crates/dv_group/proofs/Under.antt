@@ -8,22 +8,23 @@ use Rattle.std.specs.Cmp.{Equal-is, eq_by_cmp_equiv}
 use Rattle.std.specs.Map.{lookup, remove_entry, set_value}
 use Rattle.std.specs.Ordering.{is_eq, match_ordering, ordering_reverse, ordering_then}
 use Rattle.dv_order.specs.Key.{KeyTree, key_order}
-use Rattle.dv_order.specs.KeyLaws.{key_order_total}
+use Rattle.dv_order.specs.Inner.KeyLaws.{key_order_total}
 use Rattle.dv_row.specs.Row.{Row}
 use Rattle.dv_change.specs.declared.position.Part.TheVariants.{Up}
-use Rattle.dv_change.specs.Changes.{IsPositioned, Positioned, forget}
-use Rattle.dv_change.specs.Ordered.{gone}
+use Rattle.dv_change.specs.Changes.{Positioned, forget}
+use Rattle.dv_change.specs.Inner.Changes.{IsPositioned}
+use Rattle.dv_change.specs.Inner.Ordered.{gone}
 use Rattle.dv_change.specs.Positions.{IsExact, PosTree}
-use Rattle.dv_change.specs.RowLaws.{positioned-none}
+use Rattle.dv_change.specs.Inner.RowLaws.{positioned-none}
 use Rattle.dv_gather.specs.Grouping.{Grouping, row_shown}
 use Rattle.dv_group.specs.declared.bundle.Bundle.{Bundle}
 use Rattle.dv_group.specs.declared.kept.Kept.{Kept}
-use Rattle.dv_group.specs.Grouped.{beside}
-use Rattle.dv_group.specs.Room.{IsBundle}
+use Rattle.dv_group.specs.Inner.Grouped.{beside}
+use Rattle.dv_group.specs.Inner.Room.{IsBundle}
 use Rattle.dv_group.specs.declared.shift.Shift.{Shift}
 use Rattle.dv_group.specs.declared.shift.Telling.{Telling}
 use Rattle.dv_group.specs.declared.shift.Telling.TheVariants.{Told, Untold}
-use Rattle.dv_group.specs.Members.{AreBundles, IsKept, IsRowOf, IsShift, IsTold, KeptGroups, are_one, group_members, is_key, moved, put_some, rows_in, set_at, shown_of, with_shown}
+use Rattle.dv_group.specs.Inner.Members.{AreBundles, IsKept, IsRowOf, IsShift, IsTold, KeptGroups, are_one, group_members, is_key, moved, put_some, rows_in, set_at, shown_of, with_shown}
 use Rattle.dv_group.proofs.Bundled.{set-over}
 
 pub back : (k l : KeyTree) → is_eq (key_order k l) ≡ is_eq (key_order l k)

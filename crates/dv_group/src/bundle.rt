@@ -2,13 +2,13 @@
 
 ghost use Rattle.std.specs.Prelude.{◌≡◌, ◌↔◌, [], ◌∷◌, IfOk, IsTrue, OnOk, drop, map};
 ghost use Rattle.dv_change.specs.Changes.{forget};
-ghost use Rattle.dv_change.specs.Ordered.{gone};
-ghost use Rattle.dv_gather.specs.GroupView.{accumulation};
+ghost use Rattle.dv_change.specs.Inner.Ordered.{gone};
+ghost use Rattle.dv_gather.specs.Inner.GroupView.{accumulation};
 ghost use Rattle.dv_gather.specs.Grouping.{row_shown};
-ghost use Rattle.dv_group.specs.Members.{set_at};
-ghost use Rattle.dv_group.specs.Room.{AreNarrowIn, HaveRoom, IsBundle};
-ghost use Rattle.dv_group.specs.Running.{moved_at, moved_from, running_of, with_told};
-ghost use Rattle.dv_group.specs.RunningView.{running_seen};
+ghost use Rattle.dv_group.specs.Inner.Members.{set_at};
+ghost use Rattle.dv_group.specs.Inner.Room.{AreNarrowIn, HaveRoom, IsBundle};
+ghost use Rattle.dv_group.specs.Inner.Running.{moved_at, moved_from, running_of, with_told};
+ghost use Rattle.dv_group.specs.Inner.RunningView.{running_seen};
 
 use crate::running::{Running, Way};
 use dv_change::{Ordered, Pos};

@@ -1,15 +1,16 @@
 //! `$group`, told what stood where a change is.
 
 ghost use Rattle.std.specs.Prelude.{◌≡◌, ◌≤◌, ◌+◌, ◌++◌, [], length, IfOk, OnErr, OnOk, Some};
-ghost use Rattle.dv_change.specs.Beginning.{BeginsWith};
-ghost use Rattle.dv_change.specs.Changes.{IsPositioned, Positioned, forget};
+ghost use Rattle.dv_change.specs.Inner.Beginning.{BeginsWith};
+ghost use Rattle.dv_change.specs.Changes.{Positioned, forget};
+ghost use Rattle.dv_change.specs.Inner.Changes.{IsPositioned};
 ghost use Rattle.dv_change.specs.Raised.{raised};
-ghost use Rattle.dv_change.specs.Told.{diff_told, no_lists};
+ghost use Rattle.dv_change.specs.Inner.Told.{diff_told, no_lists};
 ghost use Rattle.dv_gather.specs.Grouping.{row_shown};
-ghost use Rattle.dv_group.specs.Grouped.{group_empty, group_even, group_ordered};
-ghost use Rattle.dv_group.specs.Held.{HoldsGroups};
-ghost use Rattle.dv_group.specs.Members as defined;
-ghost use Rattle.dv_group.specs.Members.{AreBundles, AreMembers, group_members, moved_as, shown_as};
+ghost use Rattle.dv_group.specs.Inner.Grouped.{group_empty, group_even, group_ordered};
+ghost use Rattle.dv_group.specs.Inner.Held.{HoldsGroups};
+ghost use Rattle.dv_group.specs.Inner.Members as defined;
+ghost use Rattle.dv_group.specs.Inner.Members.{AreBundles, AreMembers, group_members, moved_as, shown_as};
 ghost use Rattle.dv_group.specs.Placed.{grouped_at};
 ghost use Rattle.dv_order.specs.Key.{KeyTree};
 

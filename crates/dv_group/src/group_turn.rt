@@ -1,9 +1,9 @@
 //! `$group`, kept by changes.
 
 ghost use Rattle.std.specs.Prelude.{◌≡◌, [], IfOk};
-ghost use Rattle.dv_group.specs.Grouped.{group_empty, group_even, group_ordered};
+ghost use Rattle.dv_group.specs.Inner.Grouped.{group_empty, group_even, group_ordered};
 ghost use Rattle.dv_group.specs.Placed.{grouped_at};
-ghost use Rattle.dv_group.specs.Turned.{IsSoundGroups, grouping_of, rows_left};
+ghost use Rattle.dv_group.specs.Inner.Turned.{IsSoundGroups, grouping_of, rows_left};
 
 use crate::group_operator::GroupOperator;
 use dv_change::{Change, Input, Keeping, Ticks, Turn};

@@ -2,8 +2,8 @@
 
 ghost use Rattle.std.specs.Prelude.{◌≡◌, [], IfOk, OnOk, Some, cond};
 ghost use Rattle.dv_order.specs.Key.{KeyTree};
-ghost use Rattle.dv_group.specs.Members as defined;
-ghost use Rattle.dv_group.specs.Members.{AreBundles, AreShifts, IsShift, IsShiftAt, is_key, group_members, moved, moved_all, moved_as, own_key, set_at};
+ghost use Rattle.dv_group.specs.Inner.Members as defined;
+ghost use Rattle.dv_group.specs.Inner.Members.{AreBundles, AreShifts, IsShift, IsShiftAt, is_key, group_members, moved, moved_all, moved_as, own_key, set_at};
 
 use crate::bundle::Bundle;
 use crate::kept::Kept;

@@ -3,7 +3,7 @@
 ghost use Rattle.std.specs.Prelude.{◌≡◌, ◌↔◌, [], IfOk, IsTrue, None, OnOk};
 ghost use Rattle.dv_change.specs.Changes.{forget};
 ghost use Rattle.dv_gather.specs.Grouping.{row_shown};
-ghost use Rattle.dv_group.specs.Members.{IsKept, IsShift, IsTold, set_at};
+ghost use Rattle.dv_group.specs.Inner.Members.{IsKept, IsShift, IsTold, set_at};
 
 use crate::bundle::Bundle;
 use crate::shift::{Shift, Telling};

@@ -3,7 +3,8 @@
 
 ghost use Rattle.std.specs.Prelude.{◌≡◌, ◌≤◌, length};
 ghost use Rattle.dv_change.specs.declared.change.Change.{Change};
-ghost use Rattle.dv_change.specs.Changes.{IsExactChange, IsPositioned, Positioned, forget, with_change};
+ghost use Rattle.dv_change.specs.Changes.{Positioned, forget, with_change};
+ghost use Rattle.dv_change.specs.Inner.Changes.{IsExactChange, IsPositioned};
 ghost use Rattle.dv_change.specs.Difference.{diff};
 ghost use Rattle.dv_gather.specs.Grouping.{Grouping, grouped};
 ghost use Rattle.dv_group.specs.Placed.{grouped_at};

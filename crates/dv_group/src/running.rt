@@ -3,12 +3,12 @@
 ghost use Rattle.std.specs.Prelude.{◌≡◌, [], ◌∷◌, IfOk, OnOk, map};
 ghost use Rattle.dv_value.specs.Tree.{array, elements_of};
 ghost use Rattle.dv_value.specs.View.{tree};
-ghost use Rattle.dv_gather.specs.GroupView.{accumulation};
+ghost use Rattle.dv_gather.specs.Inner.GroupView.{accumulation};
 ghost use Rattle.dv_gather.specs.Grouping.{Accumulation};
-ghost use Rattle.dv_group.specs.Room.{HasRoomFor, IsNarrowIn};
-ghost use Rattle.dv_group.specs.Running as defined;
-ghost use Rattle.dv_group.specs.Running.{value_of_first, moved_by, rank, running_by, told_by, values_in};
-ghost use Rattle.dv_group.specs.RunningView.{running_seen, values_seen};
+ghost use Rattle.dv_group.specs.Inner.Room.{HasRoomFor, IsNarrowIn};
+ghost use Rattle.dv_group.specs.Inner.Running as defined;
+ghost use Rattle.dv_group.specs.Inner.Running.{value_of_first, moved_by, rank, running_by, told_by, values_in};
+ghost use Rattle.dv_group.specs.Inner.RunningView.{running_seen, values_seen};
 
 use crate::summing::KeptSum;
 use dv_change::{Ordered, Part, Pos};

@@ -2,8 +2,8 @@
 
 ghost use Rattle.std.specs.Prelude.{◌≡◌, ◌∷◌, [], IfOk};
 ghost use Rattle.dv_change.specs.declared.position.Part.TheVariants.{Up};
-ghost use Rattle.dv_group.specs.Members as defined;
-ghost use Rattle.dv_group.specs.Members.{put_some};
+ghost use Rattle.dv_group.specs.Inner.Members as defined;
+ghost use Rattle.dv_group.specs.Inner.Members.{put_some};
 
 use dv_change::{Ordered, Part, Pos};
 use dv_order::Key;

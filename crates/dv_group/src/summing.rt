@@ -3,9 +3,9 @@
 ghost use Rattle.std.specs.Prelude.{◌≡◌, ◌≤◌, ◌+◌, ◌-◌, ◌+ℤ◌, ◌-ℤ◌, IfOk, Some, nat_eq, pos};
 ghost use Rattle.dv_value.specs.View.{tree};
 ghost use Rattle.dv_gather.specs.Sums as sums;
-ghost use Rattle.dv_group.specs.Room.{IsNarrowValue, IsWithinRows, most_rows};
-ghost use Rattle.dv_group.specs.Running.{adds, summed, widens};
-ghost use Rattle.dv_group.specs.RunningView.{kept_sum_seen};
+ghost use Rattle.dv_group.specs.Inner.Room.{IsNarrowValue, IsWithinRows, most_rows};
+ghost use Rattle.dv_group.specs.Inner.Running.{adds, summed, widens};
+ghost use Rattle.dv_group.specs.Inner.RunningView.{kept_sum_seen};
 
 use dv_gather::{addend, is_int64, sum_value};
 use dv_value::{NoMemory, Value};

@@ -10,14 +10,16 @@ use Rattle.std.specs.Ordering.{is_eq}
 use Rattle.std.proofs.lemmas.Cmp.{tied_itself}
 use Rattle.dv_value.specs.Tree.{Field}
 use Rattle.dv_order.specs.Key.{KeyTree, key_order}
-use Rattle.dv_order.specs.KeyLaws.{key_order_total}
+use Rattle.dv_order.specs.Inner.KeyLaws.{key_order_total}
 use Rattle.dv_coll.specs.Collection.{IsAscending, found, has_key, id_key, replaced}
-use Rattle.dv_index.specs.Change.{AreIndexesOf}
-use Rattle.dv_keyed.specs.Index.{IndexForm, IndexTree, BeginsWithId, form_of, id_form}
-use Rattle.dv_index.specs.Indexed.{IndexedTree, is_dropped, with_documents, with_indexes, without_index}
+use Rattle.dv_index.specs.Inner.Change.{AreIndexesOf}
+use Rattle.dv_keyed.specs.Index.{IndexForm, id_form}
+use Rattle.dv_keyed.specs.Inner.Index.{IndexTree, BeginsWithId, form_of}
+use Rattle.dv_index.specs.Indexed.{IndexedTree, is_dropped, without_index}
+use Rattle.dv_index.specs.Inner.Indexed.{with_documents, with_indexes}
 use Rattle.dv_path.specs.LeafKeys.{is_leaf_key}
-use Rattle.dv_keyed.specs.Pairs.{Pair, has_pair}
-use Rattle.dv_index.specs.Search.{IsIndexOf, is_key_under}
+use Rattle.dv_keyed.specs.Inner.Pairs.{Pair, has_pair}
+use Rattle.dv_index.specs.Inner.Search.{IsIndexOf, is_key_under}
 use Rattle.dv_index.proofs.Lists.{or-false, equal-from}
 use Rattle.dv_index.proofs.Picked.{Before, head-before, tail-ascends}
 

@@ -5,13 +5,14 @@ use Rattle.std.specs.Option.{IsSome, option_map}
 use Rattle.std.specs.Ordering.{is_eq}
 use Rattle.dv_value.specs.Tree.{Field}
 use Rattle.dv_order.specs.Key.{KeyTree, key_order}
-use Rattle.dv_order.specs.KeyLaws.{key_order_total}
+use Rattle.dv_order.specs.Inner.KeyLaws.{key_order_total}
 use Rattle.dv_coll.specs.Collection.{found, id_key, has_key as is_of, inserted, removed, replaced}
-use Rattle.dv_keyed.specs.Keys.{has_key}
-use Rattle.dv_keyed.specs.Pairs.{Pair, has_pair}
-use Rattle.dv_keyed.specs.Index.{IndexForm, IndexTree, form_of}
-use Rattle.dv_index.specs.Search.{IsIndexOf, is_key_under}
-use Rattle.dv_index.specs.Change.{IsChangeOf, IsFresh, changed_id, document_after, documents_after}
+use Rattle.dv_keyed.specs.Inner.Keys.{has_key}
+use Rattle.dv_keyed.specs.Inner.Pairs.{Pair, has_pair}
+use Rattle.dv_keyed.specs.Index.{IndexForm}
+use Rattle.dv_keyed.specs.Inner.Index.{IndexTree, form_of}
+use Rattle.dv_index.specs.Inner.Search.{IsIndexOf, is_key_under}
+use Rattle.dv_index.specs.Inner.Change.{IsChangeOf, IsFresh, changed_id, document_after, documents_after}
 use Rattle.dv_index.specs.declared.change.Change.{Change}
 use Rattle.dv_index.specs.declared.change.Change.TheVariants.{Insert, Replace, Remove}
 use Rattle.dv_index.proofs.Lists.{and-true, equal-back, equal-from}

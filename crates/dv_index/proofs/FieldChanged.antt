@@ -7,8 +7,8 @@ use Rattle.dv_value.specs.Tree.{Field}
 use Rattle.dv_value.specs.declared.field_change.FieldChange.{FieldChange}
 use Rattle.dv_order.specs.Key.{KeyTree}
 use Rattle.dv_coll.specs.Collection.{HasId, found, has_key, id_key}
-use Rattle.dv_index.specs.Change.{AreIndexesOf}
-use Rattle.dv_keyed.specs.Index.{IndexTree}
+use Rattle.dv_index.specs.Inner.Change.{AreIndexesOf}
+use Rattle.dv_keyed.specs.Inner.Index.{IndexTree}
 use Rattle.dv_index.proofs.Changed.{found-same}
 
 module _ (k : KeyTree) (d e : List Field) (ds : List (List Field)) (here : found k ds ≡ Some d) where

@@ -12,21 +12,21 @@ use Rattle.std.proofs.lemmas.Slice.Eq.{bytes_eq-Decides}
 use Rattle.dv_value.specs.Tree.{Tree, Field, array, null, no_elements, element, list_of_elements}
 use Rattle.dv_order.specs.Order.{canon}
 use Rattle.dv_order.specs.Key.{KeyTree, value, key_at, key_order}
-use Rattle.dv_order.specs.KeyLaws.{key_order_total}
+use Rattle.dv_order.specs.Inner.KeyLaws.{key_order_total}
 use Rattle.dv_path.specs.declared.direction.Direction.{Direction}
 use Rattle.dv_candidates.specs.Candidates.{Candidate, leaves, or_null, whole, with_elements}
 use Rattle.dv_path.specs.LeafKeys.{is_key_of, is_leaf_key, is_some_key, leaf_values}
 use Rattle.dv_path.specs.SortKey.{earliest, keys_of, sort_key, stands_first}
 use Rattle.dv_coll.specs.Collection.{IsAscending, found, id_key}
 use Rattle.dv_keyed.specs.Choice.{same_path}
-use Rattle.dv_keyed.specs.Ahead.{is_ahead, leaf_sorted_by}
+use Rattle.dv_keyed.specs.Inner.Ahead.{is_ahead, leaf_sorted_by}
 use Rattle.dv_match.specs.Filter.{Members}
 use Rattle.dv_match.specs.Match.{matches}
-use Rattle.dv_keyed.specs.Index.{IndexTree}
-use Rattle.dv_keyed.specs.Interval.{is_in_all}
-use Rattle.dv_keyed.specs.Pairs.{IsOnlyKey, has_pair}
-use Rattle.dv_index.specs.Ahead.{LeadsSomewhere}
-use Rattle.dv_index.specs.Search.{IsIndexOf, is_key_under}
+use Rattle.dv_keyed.specs.Inner.Index.{IndexTree}
+use Rattle.dv_keyed.specs.Inner.Interval.{is_in_all}
+use Rattle.dv_keyed.specs.Inner.Pairs.{IsOnlyKey, has_pair}
+use Rattle.dv_index.specs.Inner.Ahead.{LeadsSomewhere}
+use Rattle.dv_index.specs.Inner.Search.{IsIndexOf, is_key_under}
 use Rattle.dv_index.proofs.Lists.{both}
 use Rattle.dv_index.proofs.Picked.{all-found}
 use Rattle.dv_index.proofs.Places.{some-same}

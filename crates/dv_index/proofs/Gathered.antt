@@ -16,11 +16,12 @@ use Rattle.dv_match.specs.Filter.{Condition, Members}
 use Rattle.dv_match.specs.Match.{matches}
 use Rattle.dv_coll.specs.Collection.{HasId, IsAscending, IsNoArray, found, id_key}
 use Rattle.dv_keyed.specs.Choice.{chosen}
-use Rattle.dv_keyed.specs.Index.{IndexTree}
-use Rattle.dv_keyed.specs.Interval.{is_in_all}
-use Rattle.dv_keyed.specs.Pairs.{IsOnlyKey, has_pair}
-use Rattle.dv_keyed.specs.Within.{covers, has_within, is_within}
-use Rattle.dv_index.specs.Search.{IsIndexOf, is_key_under}
+use Rattle.dv_keyed.specs.Inner.Index.{IndexTree}
+use Rattle.dv_keyed.specs.Inner.Interval.{is_in_all}
+use Rattle.dv_keyed.specs.Inner.Pairs.{IsOnlyKey, has_pair}
+use Rattle.dv_keyed.specs.Within.{has_within, is_within}
+use Rattle.dv_keyed.specs.Inner.Within.{covers}
+use Rattle.dv_index.specs.Inner.Search.{IsIndexOf, is_key_under}
 use Rattle.dv_index.proofs.Lists.{or-false}
 use Rattle.dv_index.proofs.Picked.{all-found}
 use Rattle.dv_index.proofs.Places.{path-at, some-same}

@@ -16,10 +16,11 @@ use Rattle.dv_order.specs.Key.{KeyTree, key_order}
 use Rattle.dv_candidates.specs.Candidates.{candidates, leaves, or_null, whole, with_elements}
 use Rattle.dv_path.specs.LeafKeys.{is_leaf_key, is_some_key, leaf_values}
 use Rattle.dv_coll.specs.Collection.{HasId, found, has_key as is_of, id_key, replaced, with_field_changed_in}
-use Rattle.dv_index.specs.Change.{AreIndexesOf}
-use Rattle.dv_keyed.specs.Index.{IndexForm, IndexTree, form_of}
-use Rattle.dv_index.specs.Search.{IsIndexOf, is_key_under}
-use Rattle.dv_index.specs.Through.{leads_through, any_leads_through}
+use Rattle.dv_index.specs.Inner.Change.{AreIndexesOf}
+use Rattle.dv_keyed.specs.Index.{IndexForm}
+use Rattle.dv_keyed.specs.Inner.Index.{IndexTree, form_of}
+use Rattle.dv_index.specs.Inner.Search.{IsIndexOf, is_key_under}
+use Rattle.dv_index.specs.Inner.Through.{leads_through, any_leads_through}
 use Rattle.dv_index.proofs.Changed.{ReplacedIsFound, found-same}
 use Rattle.dv_index.proofs.FieldChanged.{LeavesKey, FoundHas, FoundBegins}
 use Rattle.dv_index.proofs.Lists.{any-map}

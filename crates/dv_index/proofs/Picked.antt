@@ -12,7 +12,7 @@ use Rattle.dv_value.specs.View.{tree}
 use Rattle.dv_value.specs.declared.value.Value.{Value}
 use Rattle.dv_order.specs.Order.{canon}
 use Rattle.dv_order.specs.Key.{KeyTree, key_order, value}
-use Rattle.dv_order.specs.KeyLaws.{key_order_total}
+use Rattle.dv_order.specs.Inner.KeyLaws.{key_order_total}
 use Rattle.dv_path.specs.LeafKeys.{is_key_of, is_some_key}
 use Rattle.dv_coll.specs.Collection.{IsAscending, id_key, has_key, found}
 use Rattle.dv_index.proofs.Lists.{any-map, equal-back, equal-from}

@@ -3,9 +3,10 @@ use Rattle.std.proofs.Common.{◌≡◌, ◌∙◌, ℕ, zero, suc, List, [], �
 use Rattle.std.specs.List.{AllByRecursion}
 use Rattle.std.specs.Option.{option_map}
 use Rattle.dv_value.specs.Tree.{Field}
-use Rattle.dv_index.specs.Change.{AreIndexesOf, IsIndexAt}
-use Rattle.dv_keyed.specs.Index.{IndexForm, IndexTree, BeginsWithId, form_of}
-use Rattle.dv_index.specs.Search.{IsIndexOf}
+use Rattle.dv_index.specs.Inner.Change.{AreIndexesOf, IsIndexAt}
+use Rattle.dv_keyed.specs.Index.{IndexForm}
+use Rattle.dv_keyed.specs.Inner.Index.{IndexTree, BeginsWithId, form_of}
+use Rattle.dv_index.specs.Inner.Search.{IsIndexOf}
 
 pub some-same : {X : Type 0} (x y : X) → Some x ≡ Some y → x ≡ y
 some-same x y e = cc

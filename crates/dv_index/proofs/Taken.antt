@@ -6,12 +6,12 @@ use Rattle.std.proofs.lemmas.Bool.{and_from, and_parts, or_cases, or_left, or_ri
 use Rattle.std.proofs.lemmas.Cmp.{alike_right, tied_itself}
 use Rattle.dv_value.specs.Tree.{Field}
 use Rattle.dv_order.specs.Key.{KeyTree, key_order}
-use Rattle.dv_order.specs.KeyLaws.{key_order_total}
+use Rattle.dv_order.specs.Inner.KeyLaws.{key_order_total}
 use Rattle.dv_path.specs.LeafKeys.{is_leaf_key}
 use Rattle.dv_coll.specs.Collection.{IsAscending, found, has_key as is_of, id_key}
-use Rattle.dv_keyed.specs.Keys.{has_key}
-use Rattle.dv_keyed.specs.Pairs.{Pair, has_pair, is_pair_of, is_under_another, pairs_without}
-use Rattle.dv_index.specs.Search.{is_key_under}
+use Rattle.dv_keyed.specs.Inner.Keys.{has_key}
+use Rattle.dv_keyed.specs.Inner.Pairs.{Pair, has_pair, is_pair_of, is_under_another, pairs_without}
+use Rattle.dv_index.specs.Inner.Search.{is_key_under}
 use Rattle.dv_index.specs.Unique.{are_apart, is_key_taken, share_key}
 use Rattle.dv_index.proofs.Lists.{and-true, equal-back, equal-from}
 use Rattle.dv_index.proofs.Picked.{all-found}

@@ -8,11 +8,12 @@ use Rattle.dv_value.specs.Tree.{Field}
 use Rattle.dv_order.specs.Key.{KeyTree, key_order}
 use Rattle.dv_path.specs.LeafKeys.{is_leaf_key}
 use Rattle.dv_coll.specs.Collection.{AreStanding, HasId, IsAscending, found, id_key, replaced}
-use Rattle.dv_index.specs.Change.{AreIndexesOf, UniqueAreIndexesOf}
-use Rattle.dv_keyed.specs.Index.{BeginsWithId, IndexForm, IndexTree, form_of}
-use Rattle.dv_keyed.specs.Keys.{has_key}
-use Rattle.dv_keyed.specs.Pairs.{Pair, has_pair, is_pair_of, is_under_another, pairs_without}
-use Rattle.dv_index.specs.Search.{IsIndexOf, is_key_under}
+use Rattle.dv_index.specs.Inner.Change.{AreIndexesOf, UniqueAreIndexesOf}
+use Rattle.dv_keyed.specs.Index.{IndexForm}
+use Rattle.dv_keyed.specs.Inner.Index.{BeginsWithId, IndexTree, form_of}
+use Rattle.dv_keyed.specs.Inner.Keys.{has_key}
+use Rattle.dv_keyed.specs.Inner.Pairs.{Pair, has_pair, is_pair_of, is_under_another, pairs_without}
+use Rattle.dv_index.specs.Inner.Search.{IsIndexOf, is_key_under}
 use Rattle.dv_index.specs.Unique.{clashes, is_key_taken, replacing_clashes}
 use Rattle.dv_index.proofs.Built.{IsElsewhere, still-apart}
 use Rattle.dv_index.proofs.Changed.{ReplacedIsFound, found-same}

@@ -12,8 +12,8 @@ use Rattle.dv_match.specs.Filter.{Members}
 use Rattle.dv_match.specs.Match.{matches}
 use Rattle.dv_coll.specs.Collection.{HasId, id_key}
 use Rattle.dv_order.specs.Key.{KeyTree}
-use Rattle.dv_keyed.specs.Interval.{is_in_all}
-use Rattle.dv_index.specs.InDirection.{in_direction}
+use Rattle.dv_keyed.specs.Inner.Interval.{is_in_all}
+use Rattle.dv_index.specs.Inner.InDirection.{in_direction}
 use Rattle.dv_index.proofs.Gathered.{OnlyKeysAreWithin, leaves-id, narrowed}
 use Rattle.dv_index.proofs.Lists.{or-false}
 use Rattle.dv_index.proofs.Picked.{not_true}

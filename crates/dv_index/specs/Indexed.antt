@@ -7,10 +7,9 @@ use Rattle.std.specs.Option.{option_map}
 use Rattle.std.specs.Coded.{Coded, coded_ℕ, coded_list, coded×, code_by}
 use Rattle.std.specs.Str.{bytes_eq}
 use Rattle.dv_value.specs.Tree.{Field}
-use Rattle.dv_value.specs.TreeCode.{coded_tree}
 use Rattle.dv_match.specs.Filter.{Condition, Members}
 use Rattle.dv_keyed.specs.Choice.{chosen}
-use Rattle.dv_keyed.specs.Index.{IndexForm, coded_form, id_form}
+use Rattle.dv_keyed.specs.Index.{IndexForm, id_form}
 use Rattle.dv_index.specs.Search.{covered}
 
 pub record IndexedTree : Type 0 where
@@ -20,14 +19,6 @@ pub record IndexedTree : Type 0 where
 -- without documents, and with the index that every collection has
 abbrev pub empty_indexed : IndexedTree
 empty_indexed = record { documents = []; indexes = id_form ∷ [] }
-
--- with other documents, and the same indexes
-abbrev pub with_documents : List (List Field) → IndexedTree → IndexedTree
-with_documents documents c = record { documents = documents; indexes = c.indexes }
-
--- with other indexes, and the same documents
-abbrev pub with_indexes : List IndexForm → IndexedTree → IndexedTree
-with_indexes indexes c = record { documents = c.documents; indexes = indexes }
 
 -- whether an index goes with a name; the one on `_id` never does
 abbrev pub is_dropped : List ℕ → IndexForm → Bool
@@ -52,8 +43,3 @@ index_chosen filter xs = name_at (chosen filter (paths_of xs)) xs
 -- how many documents it covers
 abbrev pub documents_covered : Members → IndexedTree → ℕ
 documents_covered filter c = covered (chosen filter (paths_of c.indexes)) (paths_of c.indexes) c.documents
-
--- one to one as a ghost value
-abbrev pub coded_indexed : Coded IndexedTree
-coded_indexed =
-    code_by (List (List Field) × List IndexForm) (coded× (coded_list (coded_list (coded× (coded_list coded_ℕ) coded_tree))) (coded_list coded_form)) (λ c. (c.documents, c.indexes)) (λ p. record { documents = p.0; indexes = p.1 }) (λ _. refl)

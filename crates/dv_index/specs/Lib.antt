@@ -1,9 +1,5 @@
-pub mod Through
 pub mod Search
-pub mod InDirection
-pub mod Ahead
-pub mod View
 pub mod Indexed
-pub mod Change
 pub mod Unique
-pub mod Examples
+-- what only bodies and proofs need
+pub mod Inner

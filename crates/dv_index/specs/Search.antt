@@ -3,22 +3,8 @@
 use Rattle.std.specs.Prelude.{◌≡◌, ℕ, Bool, false, List, length, Option, None, Some}
 use Rattle.std.specs.List.{count_by, slice_get}
 use Rattle.dv_value.specs.Tree.{Field}
-use Rattle.dv_order.specs.Key.{KeyTree}
-use Rattle.dv_path.specs.LeafKeys.{is_leaf_key}
 use Rattle.dv_match.specs.Filter.{Condition}
-use Rattle.dv_coll.specs.Collection.{found}
-use Rattle.dv_keyed.specs.Pairs.{has_pair}
-use Rattle.dv_keyed.specs.Index.{IndexTree}
 use Rattle.dv_keyed.specs.Within.{has_within}
-
--- whether a document has a key, where there is one
-abbrev pub is_key_under : KeyTree → List (List ℕ) → Option (List Field) → Bool
-is_key_under k path None = false
-is_key_under k path (Some d) = is_leaf_key k path d
-
--- the index has the keys of these documents, each with its document's `_id`
-pub record IsIndexOf (index : IndexTree) (ds : List (List Field)) : Type 0 where
-  pub has : (k id : KeyTree) → has_pair k id index.pairs ≡ is_key_under k index.path (found id ds)
 
 -- how many documents a plan covers, by indexes on these paths: those that have a leaf in the bounds, and for a scan all
 abbrev pub covered_at : Option (List (List ℕ)) → Condition → List (List Field) → ℕ

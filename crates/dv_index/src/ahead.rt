@@ -5,10 +5,10 @@ ghost use Rattle.std.specs.List.{AllByRecursion};
 ghost use Rattle.dv_value.specs.Tree.{Field};
 ghost use Rattle.dv_match.specs.Match.{matches};
 ghost use Rattle.dv_path.specs.Parts.{part};
-ghost use Rattle.dv_keyed.specs.Ahead as defined;
-ghost use Rattle.dv_index.specs.Ahead.{LeadsSomewhere};
-ghost use Rattle.dv_index.specs.Change.{AreIndexesOf};
-ghost use Rattle.dv_index.specs.Search.{IsIndexOf};
+ghost use Rattle.dv_keyed.specs.Inner.Ahead as defined;
+ghost use Rattle.dv_index.specs.Inner.Ahead.{LeadsSomewhere};
+ghost use Rattle.dv_index.specs.Inner.Change.{AreIndexesOf};
+ghost use Rattle.dv_index.specs.Inner.Search.{IsIndexOf};
 
 use crate::indexes::Indexes;
 use crate::search::documents_of;

@@ -6,10 +6,10 @@ ghost use Rattle.std.specs.Option.{option_map};
 ghost use Rattle.dv_coll.specs.Collection.{HasId, found, id_key};
 ghost use Rattle.dv_order.specs.Key.{KeyTree, key_order};
 ghost use Rattle.std.specs.Ordering.{is_eq};
-ghost use Rattle.dv_index.specs.Change.{HasIdFirst, IsChangeOf, IsFresh, IsTaken, changed_id, document_after, documents_after};
-ghost use Rattle.dv_keyed.specs.Index.{form_of};
-ghost use Rattle.dv_keyed.specs.Keys.{has_key};
-ghost use Rattle.dv_index.specs.Search.{IsIndexOf, is_key_under};
+ghost use Rattle.dv_index.specs.Inner.Change.{HasIdFirst, IsChangeOf, IsFresh, IsTaken, changed_id, document_after, documents_after};
+ghost use Rattle.dv_keyed.specs.Inner.Index.{form_of};
+ghost use Rattle.dv_keyed.specs.Inner.Keys.{has_key};
+ghost use Rattle.dv_index.specs.Inner.Search.{IsIndexOf, is_key_under};
 
 use dv_candidates::Path;
 use dv_coll::{Collection, InsertFault, laws};

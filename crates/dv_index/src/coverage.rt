@@ -1,10 +1,10 @@
 //! How many documents a plan covers.
 
 ghost use Rattle.std.specs.Prelude.{◌≡◌, map, IfOk, count_by};
-ghost use Rattle.dv_index.specs.Change.{AreIndexesOf, IsIndexAt};
+ghost use Rattle.dv_index.specs.Inner.Change.{AreIndexesOf, IsIndexAt};
 ghost use Rattle.dv_keyed.specs.Within.{has_within};
 ghost use Rattle.dv_index.specs.Search as defined;
-ghost use Rattle.dv_keyed.specs.View.{bounds_seen, plan_seen};
+ghost use Rattle.dv_keyed.specs.Inner.View.{bounds_seen, plan_seen};
 
 use crate::indexes::Indexes;
 use crate::search::candidates;

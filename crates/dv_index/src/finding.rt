@@ -3,8 +3,8 @@
 ghost use Rattle.std.specs.Prelude.{◌≡◌, filter as kept, map, reverse, take, IfOk, IfSome};
 ghost use Rattle.dv_match.specs.Match.{matches};
 ghost use Rattle.dv_path.specs.Parts.{part};
-ghost use Rattle.dv_keyed.specs.Ahead.{is_ahead};
-ghost use Rattle.dv_index.specs.InDirection.{in_direction};
+ghost use Rattle.dv_keyed.specs.Inner.Ahead.{is_ahead};
+ghost use Rattle.dv_index.specs.Inner.InDirection.{in_direction};
 
 use crate::ahead::{Ahead, candidates_ahead, index_in_order, leads_somewhere};
 use crate::indexed::IndexedCollection;

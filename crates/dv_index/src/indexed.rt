@@ -7,11 +7,13 @@ ghost use Rattle.std.specs.Str.{bytes_eq};
 ghost use Rattle.dv_value.specs.Names.{has_zero};
 ghost use Rattle.dv_value.specs.Tree.{Field};
 ghost use Rattle.dv_coll.specs.Collection.{AreStanding, HasId, IsAscending, found, id_key, inserted, removed, replaced, with_field_changed_in};
-ghost use Rattle.dv_index.specs.Change.{AreIndexesOf, IsChangeOf, IsTaken, documents_after};
-ghost use Rattle.dv_keyed.specs.Index.{form_of, id_form};
-ghost use Rattle.dv_keyed.specs.View.{form_of_new, plan_seen};
-ghost use Rattle.dv_index.specs.View.{afters, befores};
-ghost use Rattle.dv_index.specs.Indexed.{empty_indexed, is_dropped, with_documents, with_indexes, without_index};
+ghost use Rattle.dv_index.specs.Inner.Change.{AreIndexesOf, IsChangeOf, IsTaken, documents_after};
+ghost use Rattle.dv_keyed.specs.Index.{id_form};
+ghost use Rattle.dv_keyed.specs.Inner.Index.{form_of};
+ghost use Rattle.dv_keyed.specs.Inner.View.{form_of_new, plan_seen};
+ghost use Rattle.dv_index.specs.Inner.View.{afters, befores};
+ghost use Rattle.dv_index.specs.Indexed.{empty_indexed, is_dropped, without_index};
+ghost use Rattle.dv_index.specs.Inner.Indexed.{with_documents, with_indexes};
 ghost use Rattle.dv_index.specs.Unique.{are_broken};
 ghost use Rattle.dv_index.specs.Indexed as defined;
 ghost use Rattle.dv_index.specs.Unique as uniqueness;
@@ -42,9 +44,10 @@ pub struct IndexedCollection {
 
 impl Model for IndexedCollection {
     ghost use Rattle.std.specs.Prelude as prelude;
-    ghost use Rattle.dv_index.specs.Change.{AreIndexesOf};
-    ghost use Rattle.dv_keyed.specs.Index.{form_of};
-    ghost use Rattle.dv_index.specs.Indexed.{IndexedTree, coded_indexed};
+    ghost use Rattle.dv_index.specs.Inner.Change.{AreIndexesOf};
+    ghost use Rattle.dv_keyed.specs.Inner.Index.{form_of};
+    ghost use Rattle.dv_index.specs.Indexed.{IndexedTree};
+    ghost use Rattle.dv_index.specs.Inner.Indexed.{coded_indexed};
 
     ghost Value = { IndexedTree };
 

@@ -3,10 +3,11 @@
 ghost use Rattle.std.specs.Prelude.{◌≡◌, ◌&&◌, ◌∷◌, ◌++◌, [], true, false, map, not, filter, slice_get, IfOk, IsErrOf, OnErr, OnOk};
 ghost use Rattle.std.specs.List.{list_any};
 ghost use Rattle.std.specs.Option.{option_copied};
-ghost use Rattle.dv_index.specs.Change.{AreIndexesOf, IsChangeOf, IsFresh, IsTaken, documents_after};
-ghost use Rattle.dv_keyed.specs.Index.{BeginsWithId, form_of, id_form};
+ghost use Rattle.dv_index.specs.Inner.Change.{AreIndexesOf, IsChangeOf, IsFresh, IsTaken, documents_after};
+ghost use Rattle.dv_keyed.specs.Index.{id_form};
+ghost use Rattle.dv_keyed.specs.Inner.Index.{BeginsWithId, form_of};
 ghost use Rattle.dv_index.specs.Indexed.{is_dropped};
-ghost use Rattle.dv_index.specs.Through.{any_leads_through, leads_through};
+ghost use Rattle.dv_index.specs.Inner.Through.{any_leads_through, leads_through};
 
 use crate::change::{Change, carry_out};
 use dv_candidates::{Path, PathFault};
@@ -28,7 +29,7 @@ pub struct Indexes {
 impl Model for Indexes {
     ghost use Rattle.std.specs.Prelude.{List};
     ghost use Rattle.std.specs.Coded.{coded_list};
-    ghost use Rattle.dv_keyed.specs.Index.{BeginsWithId, IndexTree, coded_index};
+    ghost use Rattle.dv_keyed.specs.Inner.Index.{BeginsWithId, IndexTree, coded_index};
 
     ghost Value = { List IndexTree };
 

@@ -12,13 +12,14 @@ ghost use Rattle.dv_match.specs.Filter.{Members};
 ghost use Rattle.dv_match.specs.Match.{matches};
 ghost use Rattle.dv_order.specs.Key.{KeyTree, key_order};
 ghost use Rattle.dv_keyed.specs.Choice.{chosen};
-ghost use Rattle.dv_index.specs.Examples.{covered_by, index_for, three_indexes};
-ghost use Rattle.dv_keyed.specs.Index.{IndexForm, IndexTree, id_form};
+ghost use Rattle.dv_index.specs.Inner.Examples.{covered_by, index_for, three_indexes};
+ghost use Rattle.dv_keyed.specs.Index.{IndexForm, id_form};
+ghost use Rattle.dv_keyed.specs.Inner.Index.{IndexTree};
 ghost use Rattle.dv_index.specs.Indexed.{IndexedTree, documents_covered, without_index};
-ghost use Rattle.dv_keyed.specs.Keys.{has_key};
-ghost use Rattle.dv_keyed.specs.Pairs.{has_pair};
+ghost use Rattle.dv_keyed.specs.Inner.Keys.{has_key};
+ghost use Rattle.dv_keyed.specs.Inner.Pairs.{has_pair};
 ghost use Rattle.dv_keyed.specs.Within.{has_within};
-ghost use Rattle.dv_index.specs.Search.{IsIndexOf};
+ghost use Rattle.dv_index.specs.Inner.Search.{IsIndexOf};
 ghost use Rattle.dv_index.specs.Unique.{are_broken, clashes};
 
 pub use dv_keyed::laws::{

@@ -6,10 +6,10 @@ ghost use Rattle.dv_coll.specs.Collection.{HasId, found, id_key};
 ghost use Rattle.std.specs.Ordering.{is_eq};
 ghost use Rattle.dv_order.specs.Key.{KeyTree, key_order};
 ghost use Rattle.dv_path.specs.LeafKeys.{is_leaf_key};
-ghost use Rattle.dv_keyed.specs.Index.{form_of};
-ghost use Rattle.dv_keyed.specs.View.{form_of_new};
-ghost use Rattle.dv_keyed.specs.Pairs.{has_pair, is_under_another};
-ghost use Rattle.dv_index.specs.Search.{IsIndexOf, is_key_under};
+ghost use Rattle.dv_keyed.specs.Inner.Index.{form_of};
+ghost use Rattle.dv_keyed.specs.Inner.View.{form_of_new};
+ghost use Rattle.dv_keyed.specs.Inner.Pairs.{has_pair, is_under_another};
+ghost use Rattle.dv_index.specs.Inner.Search.{IsIndexOf, is_key_under};
 ghost use Rattle.dv_index.specs.Unique.{are_apart, are_broken, is_broken};
 
 use crate::change::key_of_id;

@@ -13,12 +13,13 @@ ghost use Rattle.dv_coll.specs.Collection.{id_key};
 ghost use Rattle.dv_value.specs.View.{tree};
 ghost use Rattle.dv_order.specs.Key.{KeyTree, key_order};
 ghost use Rattle.dv_path.specs.LeafKeys.{is_key_of, is_some_key};
-ghost use Rattle.dv_index.specs.Change.{AreIndexesOf, IsIndexAt};
+ghost use Rattle.dv_index.specs.Inner.Change.{AreIndexesOf, IsIndexAt};
 ghost use Rattle.dv_keyed.specs.Index.{id_form};
-ghost use Rattle.dv_keyed.specs.Keys.{has_key};
-ghost use Rattle.dv_keyed.specs.Within.{covers, has_within};
-ghost use Rattle.dv_index.specs.Search.{IsIndexOf};
-ghost use Rattle.dv_keyed.specs.View.{bounds_seen, plan_seen};
+ghost use Rattle.dv_keyed.specs.Inner.Keys.{has_key};
+ghost use Rattle.dv_keyed.specs.Within.{has_within};
+ghost use Rattle.dv_keyed.specs.Inner.Within.{covers};
+ghost use Rattle.dv_index.specs.Inner.Search.{IsIndexOf};
+ghost use Rattle.dv_keyed.specs.Inner.View.{bounds_seen, plan_seen};
 
 use crate::indexes::Indexes;
 use crate::walk::{is_walk, walked};

@@ -5,11 +5,11 @@ ghost use Rattle.std.specs.List.{AllByRecursion};
 ghost use Rattle.dv_coll.specs.Collection.{AreStanding, HasId, id_key};
 ghost use Rattle.dv_order.specs.Key.{KeyTree};
 ghost use Rattle.dv_path.specs.LeafKeys.{is_leaf_key};
-ghost use Rattle.dv_index.specs.Change.{UniqueAreIndexesOf};
-ghost use Rattle.dv_keyed.specs.Index.{form_of};
-ghost use Rattle.dv_keyed.specs.Keys.{has_key};
-ghost use Rattle.dv_index.specs.Search.{IsIndexOf};
-ghost use Rattle.dv_index.specs.View.{afters, befores};
+ghost use Rattle.dv_index.specs.Inner.Change.{UniqueAreIndexesOf};
+ghost use Rattle.dv_keyed.specs.Inner.Index.{form_of};
+ghost use Rattle.dv_keyed.specs.Inner.Keys.{has_key};
+ghost use Rattle.dv_index.specs.Inner.Search.{IsIndexOf};
+ghost use Rattle.dv_index.specs.Inner.View.{afters, befores};
 ghost use Rattle.dv_index.specs.Unique as defined;
 
 use crate::change::key_of_id;

@@ -6,8 +6,8 @@ ghost use Rattle.std.specs.Range.Bound.{IsForward};
 ghost use Rattle.dv_coll.specs.Collection.{id_key};
 ghost use Rattle.dv_match.specs.Match.{matches};
 ghost use Rattle.dv_order.specs.Key.{key_order};
-ghost use Rattle.dv_keyed.specs.Interval.{is_between};
-ghost use Rattle.dv_index.specs.InDirection.{in_direction};
+ghost use Rattle.dv_keyed.specs.Inner.Interval.{is_between};
+ghost use Rattle.dv_index.specs.Inner.InDirection.{in_direction};
 
 use crate::indexes::Indexes;
 use dv_coll::{Collection, Walk};

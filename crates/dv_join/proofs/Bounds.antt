@@ -11,14 +11,16 @@ use Rattle.dv_gather.specs.Joining.{is_joined}
 use Rattle.dv_gather.specs.Lookups.{joined_row, looked_up}
 use Rattle.dv_change.specs.declared.change.Change.{Change}
 use Rattle.dv_change.specs.declared.change.Change.TheVariants.{Gone, Put}
-use Rattle.dv_change.specs.Changes.{IsExactChange, IsPositioned, Positioned, alone, at, forget, position_changed, row_in, with_change}
+use Rattle.dv_change.specs.Changes.{Positioned, at, forget, with_change}
+use Rattle.dv_change.specs.Inner.Changes.{IsExactChange, IsPositioned, alone, position_changed, row_in}
 use Rattle.dv_change.specs.Difference.{diff, gones, puts, stands_as}
-use Rattle.dv_change.specs.DiffLaws.{at-filter, exact-place, positioned-alone, positioned-filter}
+use Rattle.dv_change.specs.Inner.DiffLaws.{at-filter, exact-place, positioned-alone, positioned-filter}
 use Rattle.dv_change.specs.Positions.{IsExact, PosTree, pos_order}
-use Rattle.dv_change.specs.RowLaws.{at-like, positioned-none, same_rows}
-use Rattle.dv_join.specs.Bounds.{is_touched, rows_touched}
-use Rattle.dv_join.specs.Placed.{at-looked_up, looked_up_at, looked_up_ordered}
-use Rattle.dv_join.specs.Turning.{if_any}
+use Rattle.dv_change.specs.Inner.RowLaws.{at-like, positioned-none, same_rows}
+use Rattle.dv_join.specs.Inner.Bounds.{is_touched, rows_touched}
+use Rattle.dv_join.specs.Placed.{looked_up_at}
+use Rattle.dv_join.specs.Inner.Placed.{at-looked_up, looked_up_ordered}
+use Rattle.dv_join.specs.Inner.Turning.{if_any}
 use Rattle.dv_join.proofs.Owed.{foreign-owed, left-owed, neither}
 
 pub lookup-forgets : (l : Lookup) (rows foreign : Positioned) → forget (looked_up_at l rows foreign) ≡ looked_up l (forget rows) (forget foreign)

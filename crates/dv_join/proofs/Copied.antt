@@ -11,7 +11,7 @@ use Rattle.dv_gather.specs.declared.lookup.Lookup.{Lookup}
 use Rattle.dv_gather.specs.Lookups.{joined_documents, joined_row, set_field}
 use Rattle.dv_change.specs.Changes.{Positioned, forget}
 use Rattle.dv_change.specs.Positions.{PosTree}
-use Rattle.dv_join.specs.Copied.{DiffersByTarget, made_of}
+use Rattle.dv_join.specs.Inner.Copied.{DiffersByTarget, made_of}
 
 -- ---- a value under a name
 

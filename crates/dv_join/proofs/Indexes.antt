@@ -15,14 +15,15 @@ use Rattle.std.specs.Ordering.{is_eq}
 use Rattle.std.specs.Set.{sorted_merge}
 use Rattle.dv_value.specs.Tree.{Field}
 use Rattle.dv_order.specs.Key.{KeyTree, key_order}
-use Rattle.dv_order.specs.KeyLaws.{key_order_total}
+use Rattle.dv_order.specs.Inner.KeyLaws.{key_order_total}
 use Rattle.dv_change.specs.declared.change.Change.{Change}
-use Rattle.dv_change.specs.Changes.{IsExactChange, IsPositioned, Positioned, at, position_changed, row_in, with_change}
+use Rattle.dv_change.specs.Changes.{Positioned, at, with_change}
+use Rattle.dv_change.specs.Inner.Changes.{IsExactChange, IsPositioned, position_changed, row_in}
 use Rattle.dv_change.specs.Positions.{PosTree}
 use Rattle.dv_join.specs.declared.index.Index.{Index}
-use Rattle.dv_join.specs.Indexed.{IsJoinIndexOf, has_any, moved_in_index, under}
-use Rattle.dv_join.specs.Listed.{with_each_row}
-use Rattle.dv_join.specs.Turning.{if_any}
+use Rattle.dv_join.specs.Inner.Indexed.{IsJoinIndexOf, has_any, moved_in_index, under}
+use Rattle.dv_join.specs.Inner.Listed.{with_each_row}
+use Rattle.dv_join.specs.Inner.Turning.{if_any}
 use Rattle.dv_join.proofs.Rows.{none-passing, passing-changed, with_all-passing}
 
 -- ---- keys

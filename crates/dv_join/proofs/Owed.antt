@@ -14,16 +14,19 @@ use Rattle.dv_gather.specs.Lookups.{joined_row}
 use Rattle.dv_change.specs.declared.change.Change.{Change}
 use Rattle.dv_change.specs.declared.input.Input.TheVariants.{Named}
 use Rattle.dv_change.specs.Inputs.{HasInput, others_after}
-use Rattle.dv_change.specs.Changes.{IsExactChange, IsPositioned, Positioned, alone, at, forget, position_changed, row_in, with_change}
+use Rattle.dv_change.specs.Changes.{Positioned, at, forget, with_change}
+use Rattle.dv_change.specs.Inner.Changes.{IsExactChange, IsPositioned, alone, position_changed, row_in}
 use Rattle.dv_change.specs.Difference.{diff}
-use Rattle.dv_change.specs.DiffLaws.{IsPartAt, at-alone, at-changed, diff-parts, exact-place, positioned-alone, positioned-changed, positioned-filter}
+use Rattle.dv_change.specs.Inner.DiffLaws.{IsPartAt, at-alone, at-changed, diff-parts, exact-place, positioned-alone, positioned-changed, positioned-filter}
 use Rattle.dv_change.specs.Positions.{PosTree, pos_order}
-use Rattle.dv_change.specs.RowLaws.{at-like}
-use Rattle.dv_change.specs.Told.{diff_told, input_rows, told_along}
-use Rattle.dv_change.specs.ToldLaws.{along-diff, told-parts}
-use Rattle.dv_join.specs.Indexed.{has_any}
-use Rattle.dv_join.specs.Placed.{at-looked_up, looked_up_at, looked_up_ordered}
-use Rattle.dv_join.specs.Turning.{first_input, has_foreign, has_local, if_any}
+use Rattle.dv_change.specs.Inner.RowLaws.{at-like}
+use Rattle.dv_change.specs.Inner.Told.{diff_told, input_rows, told_along}
+use Rattle.dv_change.specs.Inner.ToldLaws.{along-diff, told-parts}
+use Rattle.dv_join.specs.Inner.Indexed.{has_any}
+use Rattle.dv_join.specs.Placed.{looked_up_at}
+use Rattle.dv_join.specs.Inner.Placed.{at-looked_up, looked_up_ordered}
+use Rattle.dv_join.specs.Turning.{first_input}
+use Rattle.dv_join.specs.Inner.Turning.{has_foreign, has_local, if_any}
 use Rattle.dv_join.proofs.Indexes.{is_one_of}
 use Rattle.dv_join.proofs.Rows.{at-passing, passing-same}
 use Rattle.dv_join.proofs.Sharing.{not-joined, or-left, or-right, same-joined}

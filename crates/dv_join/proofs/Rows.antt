@@ -8,14 +8,15 @@ use Rattle.std.specs.Map.{keys_of}
 use Rattle.std.specs.Ordering.{is_eq}
 use Rattle.dv_value.specs.Tree.{Field}
 use Rattle.dv_change.specs.declared.change.Change.{Change}
-use Rattle.dv_change.specs.Changes.{IsExactChange, IsPositioned, Positioned, at, forget, position_changed, row_in, with_change}
-use Rattle.dv_change.specs.DiffLaws.{at-changed, at-filter, exact-place, or_else, positioned-changed, positioned-filter}
-use Rattle.dv_change.specs.Ordered.{gone, put}
+use Rattle.dv_change.specs.Changes.{Positioned, at, forget, with_change}
+use Rattle.dv_change.specs.Inner.Changes.{IsExactChange, IsPositioned, position_changed, row_in}
+use Rattle.dv_change.specs.Inner.DiffLaws.{at-changed, at-filter, exact-place, or_else, positioned-changed, positioned-filter}
+use Rattle.dv_change.specs.Inner.Ordered.{gone, put}
 use Rattle.dv_change.specs.Positions.{IsExact, PosTree, pos_order}
-use Rattle.dv_change.specs.RowLaws.{at-gone, at-like, at-put, at_back, past, positioned-gone, positioned-none, positioned-put, positioned-tail, same_rows}
-use Rattle.dv_join.specs.Indexed.{moved_in_index, row_set}
-use Rattle.dv_join.specs.Listed.{with_each_row}
-use Rattle.dv_join.specs.Turning.{if_any}
+use Rattle.dv_change.specs.Inner.RowLaws.{at-gone, at-like, at-put, at_back, past, positioned-gone, positioned-none, positioned-put, positioned-tail, same_rows}
+use Rattle.dv_join.specs.Inner.Indexed.{moved_in_index, row_set}
+use Rattle.dv_join.specs.Inner.Listed.{with_each_row}
+use Rattle.dv_join.specs.Inner.Turning.{if_any}
 
 -- ---- filters
 

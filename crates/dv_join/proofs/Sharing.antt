@@ -8,15 +8,15 @@ use Rattle.std.specs.Ordering.{is_eq}
 use Rattle.dv_value.specs.Tree.{Field, Tree, array, elements_of}
 use Rattle.dv_order.specs.Order.{canon, order}
 use Rattle.dv_order.specs.Key.{KeyTree, key_order, value}
-use Rattle.dv_order.specs.KeyLaws.{key_order_total}
-use Rattle.dv_order.specs.SameOrder.{order_of_canon}
+use Rattle.dv_order.specs.Inner.KeyLaws.{key_order_total}
+use Rattle.dv_order.specs.Inner.SameOrder.{order_of_canon}
 use Rattle.dv_path.specs.LeafKeys.{is_key_of, is_some_key, leaf_values}
 use Rattle.dv_gather.specs.declared.lookup.Lookup.{Lookup}
 use Rattle.dv_gather.specs.Joining.{as_value, is_equal_to_one, is_joined, joined_by, matches}
 use Rattle.dv_gather.specs.Lookups.{joined_row, set_field}
 use Rattle.dv_change.specs.Changes.{Positioned, forget}
-use Rattle.dv_join.specs.Indexed.{has_any}
-use Rattle.dv_join.specs.Turning.{has_foreign, has_local, if_any}
+use Rattle.dv_join.specs.Inner.Indexed.{has_any}
+use Rattle.dv_join.specs.Inner.Turning.{has_foreign, has_local, if_any}
 use Rattle.dv_join.proofs.Indexes.{is_one_of}
 use Rattle.dv_join.proofs.Rows.{forget-filter}
 

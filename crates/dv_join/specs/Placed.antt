@@ -8,33 +8,8 @@ use Rattle.std.specs.Option.{option_map}
 use Rattle.std.specs.Ordering.{is_eq}
 use Rattle.dv_gather.specs.declared.lookup.Lookup.{Lookup}
 use Rattle.dv_gather.specs.Lookups.{joined_row}
-use Rattle.dv_change.specs.Changes.{HaveOneLength, IsPositioned, Positioned, at, forget}
-use Rattle.dv_change.specs.Positions.{IsExact, PosTree, pos_order}
+use Rattle.dv_change.specs.Changes.{Positioned, forget}
 
 -- each row with the documents of another list that it is joined with, where the row was
 abbrev pub looked_up_at : Lookup → Positioned → Positioned → Positioned
 looked_up_at l rows foreign = map (λ e. (e.0, joined_row l (forget foreign) e.1)) rows
-
-module _ (l : Lookup) (foreign : Positioned) where
-  same_places : (rows : Positioned) → keys_of (looked_up_at l rows foreign) ≡ keys_of rows
-  same_places [] = refl
-  same_places (e ∷ rows) = ap (λ ks. e.0 ∷ ks) (same_places rows)
-
-  -- what stands at a position
-  pub at-looked_up : (q : PosTree) (rows : Positioned) → at q (looked_up_at l rows foreign) ≡ option_map (joined_row l (forget foreign)) (at q rows)
-  at-looked_up q [] = refl
-  at-looked_up q (e ∷ rows) = by (is_eq (pos_order q e.0)) (at-looked_up q rows)
-    where
-      by : (b : Bool) → at q (looked_up_at l rows foreign) ≡ option_map (joined_row l (forget foreign)) (at q rows)
-          → cond b (Some (joined_row l (forget foreign) e.1)) (at q (looked_up_at l rows foreign)) ≡ option_map (joined_row l (forget foreign)) (cond b (Some e.1) (at q rows))
-      by true rest = refl
-      by false rest = rest
-
-  pub looked_up_ordered : (rows : Positioned) → IsPositioned rows → IsPositioned (looked_up_at l rows foreign)
-  looked_up_ordered rows are = record {
-    ascending = subst (λ (ks : List PosTree). IsStrictlySortedBy pos_order ks) (sym (same_places rows)) are.ascending;
-    exact = subst (λ (ks : List PosTree). AllByRecursion IsExact ks) (sym (same_places rows)) are.exact;
-  }
-
-  pub looked_up_even : (rows : Positioned) → HaveOneLength rows → HaveOneLength (looked_up_at l rows foreign)
-  looked_up_even rows one = (one.0, subst (λ (ks : List PosTree). AllByRecursion (λ pos. length pos ≡ one.0) ks) (sym (same_places rows)) one.1)

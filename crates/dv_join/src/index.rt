@@ -3,11 +3,12 @@
 ghost use Rattle.std.specs.Prelude.{◌≡◌, ◌&&◌, [], Bool, cond, filter, map, not, IfOk, OnOk};
 ghost use Rattle.std.specs.BTreeSet.{IsUnion, contains, union};
 ghost use Rattle.std.specs.Ordering.{is_eq};
-ghost use Rattle.dv_change.specs.Changes.{IsPositioned, Positioned, forget};
-ghost use Rattle.dv_change.specs.Ordered.{gone};
+ghost use Rattle.dv_change.specs.Changes.{Positioned, forget};
+ghost use Rattle.dv_change.specs.Inner.Changes.{IsPositioned};
+ghost use Rattle.dv_change.specs.Inner.Ordered.{gone};
 ghost use Rattle.dv_gather.specs.Joining.{as_value};
-ghost use Rattle.dv_join.specs.Copied.{Row};
-ghost use Rattle.dv_join.specs.Indexed.{IsJoinIndexOf, has_any, moved_in_index, row_set, under};
+ghost use Rattle.dv_join.specs.Inner.Copied.{Row};
+ghost use Rattle.dv_join.specs.Inner.Indexed.{IsJoinIndexOf, has_any, moved_in_index, row_set, under};
 ghost use Rattle.dv_order.specs.Key.{KeyTree, key_order};
 
 use crate::joining::{values_of, with_all};

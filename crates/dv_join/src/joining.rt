@@ -3,15 +3,16 @@
 ghost use Rattle.std.specs.Prelude.{◌≡◌, map, IfOk};
 ghost use Rattle.std.specs.BTreeSet.{contains};
 ghost use Rattle.std.specs.Option.{option_map, unwrap_or};
-ghost use Rattle.dv_change.specs.Changes.{IsPositioned, Positioned, forget};
-ghost use Rattle.dv_change.specs.Ordered.{put};
+ghost use Rattle.dv_change.specs.Changes.{Positioned, forget};
+ghost use Rattle.dv_change.specs.Inner.Changes.{IsPositioned};
+ghost use Rattle.dv_change.specs.Inner.Ordered.{put};
 ghost use Rattle.dv_gather.specs.Joining.{as_value};
 ghost use Rattle.dv_gather.specs.Lookups.{joined_documents, set_field};
-ghost use Rattle.dv_join.specs.Copied.{DiffersByTarget, Row, made_of};
-ghost use Rattle.dv_join.specs.Indexed.{IsJoinIndexOf};
-ghost use Rattle.dv_join.specs.Listed as listed;
+ghost use Rattle.dv_join.specs.Inner.Copied.{DiffersByTarget, Row, made_of};
+ghost use Rattle.dv_join.specs.Inner.Indexed.{IsJoinIndexOf};
+ghost use Rattle.dv_join.specs.Inner.Listed as listed;
 ghost use Rattle.dv_join.specs.Placed.{looked_up_at};
-ghost use Rattle.dv_join.specs.Turning.{has_foreign, has_local};
+ghost use Rattle.dv_join.specs.Inner.Turning.{has_foreign, has_local};
 ghost use Rattle.dv_order.specs.Key.{KeyTree, key_order};
 
 use crate::index::Index;

@@ -3,11 +3,12 @@
 
 ghost use Rattle.std.specs.Prelude.{◌≡◌, ◌≤◌, length};
 ghost use Rattle.dv_change.specs.declared.change.Change.{Change};
-ghost use Rattle.dv_change.specs.Changes.{IsExactChange, IsPositioned, Positioned, at, forget, position_changed, row_in, with_change};
+ghost use Rattle.dv_change.specs.Changes.{Positioned, at, forget, with_change};
+ghost use Rattle.dv_change.specs.Inner.Changes.{IsExactChange, IsPositioned, position_changed, row_in};
 ghost use Rattle.dv_change.specs.Difference.{diff};
 ghost use Rattle.dv_gather.specs.declared.lookup.Lookup.{Lookup};
 ghost use Rattle.dv_gather.specs.Lookups.{looked_up};
-ghost use Rattle.dv_join.specs.Bounds.{rows_touched};
+ghost use Rattle.dv_join.specs.Inner.Bounds.{rows_touched};
 ghost use Rattle.dv_join.specs.Placed.{looked_up_at};
 
 /// Without positions, the rows with what they are joined with are those of a `$lookup` of the rows.

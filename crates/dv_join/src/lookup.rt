@@ -1,8 +1,9 @@
 //! `$lookup`, kept by changes.
 
 ghost use Rattle.std.specs.Prelude.{◌≡◌, ◌∷◌, [], refl, IfOk};
-ghost use Rattle.dv_join.specs.Placed.{looked_up_even, looked_up_ordered};
-ghost use Rattle.dv_join.specs.Turning.{IsSoundJoin, first_input, join_positioned, lookup_kept, lookup_left, lookup_makes, lookup_others};
+ghost use Rattle.dv_join.specs.Inner.Placed.{looked_up_even, looked_up_ordered};
+ghost use Rattle.dv_join.specs.Turning.{first_input};
+ghost use Rattle.dv_join.specs.Inner.Turning.{IsSoundJoin, join_positioned, lookup_kept, lookup_left, lookup_makes, lookup_others};
 
 use crate::operator::LookupOperator;
 use dv_change::{Change, Input, Keeping, Ticks, Turn};

@@ -3,13 +3,16 @@
 ghost use Rattle.std.specs.Prelude.{◌≡◌, ◌∷◌, [], List, refl, IfOk, OnOk};
 ghost use Rattle.std.specs.BTreeSet.{contains};
 ghost use Rattle.dv_change.specs.declared.change.Change.{Change};
-ghost use Rattle.dv_change.specs.Changes.{IsExactChange, IsPositioned, Positioned, alone, with_change};
+ghost use Rattle.dv_change.specs.Changes.{Positioned, with_change};
+ghost use Rattle.dv_change.specs.Inner.Changes.{IsExactChange, IsPositioned, alone};
 ghost use Rattle.dv_change.specs.Difference.{diff};
-ghost use Rattle.dv_change.specs.Told.{diff_told, told_along, with_old};
-ghost use Rattle.dv_join.specs.Copied.{DiffersByTarget, Row, made_of};
-ghost use Rattle.dv_join.specs.Indexed.{IsJoinIndexOf};
-ghost use Rattle.dv_join.specs.Placed.{looked_up_at, looked_up_even, looked_up_ordered};
-ghost use Rattle.dv_join.specs.Turning.{HoldsJoin, first_input, has_foreign, has_local, if_any, join_positioned};
+ghost use Rattle.dv_change.specs.Inner.Told.{diff_told, told_along, with_old};
+ghost use Rattle.dv_join.specs.Inner.Copied.{DiffersByTarget, Row, made_of};
+ghost use Rattle.dv_join.specs.Inner.Indexed.{IsJoinIndexOf};
+ghost use Rattle.dv_join.specs.Placed.{looked_up_at};
+ghost use Rattle.dv_join.specs.Inner.Placed.{looked_up_even, looked_up_ordered};
+ghost use Rattle.dv_join.specs.Turning.{first_input};
+ghost use Rattle.dv_join.specs.Inner.Turning.{HoldsJoin, has_foreign, has_local, if_any, join_positioned};
 ghost use Rattle.dv_order.specs.Key.{KeyTree, key_order};
 
 use crate::index::Index;

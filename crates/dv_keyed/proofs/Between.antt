@@ -8,14 +8,14 @@ use Rattle.std.specs.declared.ops.Bound.{Bound}
 use Rattle.std.specs.declared.ops.Bound.TheVariants.{Included, Excluded}
 use Rattle.std.proofs.lemmas.Cmp.{alike_right}
 use Rattle.dv_order.specs.Key.{KeyTree, key_order}
-use Rattle.dv_order.specs.KeyLaws.{key_order_total}
+use Rattle.dv_order.specs.Inner.KeyLaws.{key_order_total}
 use Rattle.dv_match.specs.declared.form.Member as memory
 use Rattle.dv_match.specs.declared.form.Condition as held
 use Rattle.dv_match.specs.Filter.{Members, conditions_of, members_of, filters_of}
 use Rattle.dv_match.specs.View.{condition, member}
 use Rattle.dv_keyed.proofs.Ends.{not-greater}
 use Rattle.dv_keyed.proofs.Lists.{both, drop-step}
-use Rattle.dv_keyed.specs.Interval.{is_in_all, is_in_bounds, is_in_each, is_in_member, is_in_filters}
+use Rattle.dv_keyed.specs.Inner.Interval.{is_in_all, is_in_bounds, is_in_each, is_in_member, is_in_filters}
 
 not-so : (b : Bool) → not b ≡ true → b ≡ false
 not-so true e = absurd cc

@@ -3,7 +3,8 @@ use Rattle.std.proofs.Common.{◌≡◌, ◌∙◌, ℕ, zero, suc, ◌+◌, ◌
 use Rattle.std.proofs.Math.Seq.{drop-cons}
 use Rattle.std.specs.Option.{option_map, option_or}
 use Rattle.dv_match.specs.declared.form.Member as memory
-use Rattle.dv_match.specs.Filter.{Condition, Members, member_weight, members_weight, filters_weight, members_of, filters_of}
+use Rattle.dv_match.specs.Filter.{Condition, Members, members_of, filters_of}
+use Rattle.dv_match.specs.Inner.Filter.{member_weight, members_weight, filters_weight}
 use Rattle.dv_match.specs.View.{member}
 use Rattle.dv_keyed.specs.Choice.{first_in, first_in_member, first_in_all}
 

@@ -13,8 +13,8 @@ use Rattle.dv_value.specs.View.{tree}
 use Rattle.dv_value.specs.Tree.{Tree, int32, document, array, no_fields, field, no_elements, element}
 use Rattle.dv_order.specs.Order.{canon, class, order}
 use Rattle.dv_order.specs.Key.{KeyTree, no_element, value, key_class, key_order}
-use Rattle.dv_order.specs.KeyLaws.{key_order_total}
-use Rattle.dv_keyed.specs.Ends.{StartsClass, EndsClass}
+use Rattle.dv_order.specs.Inner.KeyLaws.{key_order_total}
+use Rattle.dv_keyed.specs.Inner.Ends.{StartsClass, EndsClass}
 
 abbrev pub LowerClassesStandFirst : Type 0
 LowerClassesStandFirst = (v w : Tree) → class v < class w → order v w ≡ Less

@@ -3,9 +3,9 @@ use Rattle.std.proofs.Common.{◌≡◌, ◌∙◌, List, refl, ap, sym, Bool, t
 use Rattle.std.specs.Ordering.{is_eq}
 use Rattle.std.proofs.lemmas.Cmp.{alike_right}
 use Rattle.dv_order.specs.Key.{KeyTree, key_order}
-use Rattle.dv_order.specs.KeyLaws.{key_order_total}
-use Rattle.dv_keyed.specs.Keys.{has_key}
-use Rattle.dv_keyed.specs.Ids.{ids_kept, has_first}
+use Rattle.dv_order.specs.Inner.KeyLaws.{key_order_total}
+use Rattle.dv_keyed.specs.Inner.Keys.{has_key}
+use Rattle.dv_keyed.specs.Inner.Ids.{ids_kept, has_first}
 use Rattle.dv_keyed.proofs.Lists.{equal-from}
 
 pub kept-has : (i : KeyTree) (first : Option KeyTree) (ids : List KeyTree) → has_key i (ids_kept first ids) ≡ has_first i first || has_key i ids

@@ -3,8 +3,8 @@ use Rattle.std.proofs.Common.{◌≡◌, ◌∙◌, List, [], ◌∷◌, refl, a
 use Rattle.std.specs.List.{list_any}
 use Rattle.std.specs.Ordering.{is_eq}
 use Rattle.dv_order.specs.Key.{KeyTree, key_order}
-use Rattle.dv_keyed.specs.Keys.{has_key}
-use Rattle.dv_keyed.specs.Pairs.{Pair, has_another_at, has_pair, is_under_another, pairs_without}
+use Rattle.dv_keyed.specs.Inner.Keys.{has_key}
+use Rattle.dv_keyed.specs.Inner.Pairs.{Pair, has_another_at, has_pair, is_under_another, pairs_without}
 use Rattle.dv_keyed.proofs.Entries.{any-and}
 use Rattle.dv_keyed.proofs.Lists.{equal-back}
 use Rattle.dv_keyed.proofs.Noted.{and-true}

@@ -3,8 +3,8 @@ use Rattle.std.proofs.Common.{◌≡◌, List, ap, sym, true, not, ◌&&◌, fil
 use Rattle.std.specs.List.{list_any}
 use Rattle.std.specs.Ordering.{is_eq}
 use Rattle.dv_order.specs.Key.{KeyTree, key_order}
-use Rattle.dv_order.specs.KeyLaws.{key_order_total}
-use Rattle.dv_keyed.specs.Keys.{has_key}
+use Rattle.dv_order.specs.Inner.KeyLaws.{key_order_total}
+use Rattle.dv_keyed.specs.Inner.Keys.{has_key}
 use Rattle.dv_keyed.proofs.Lists.{equal-from}
 use Rattle.dv_keyed.proofs.Several.{any-filter}
 

@@ -10,8 +10,8 @@ use Rattle.dv_path.specs.LeafKeys.{is_leaf_key}
 use Rattle.dv_match.specs.Filter.{Member, all_of, any_of, none_of, at_path, Members, no_members, more_members, Filters, no_filters, more_filters, Condition, in_range, Conditions, no_conditions, more_conditions}
 use Rattle.dv_match.specs.Match.{matches, matches_member, matches_all, meets_all, meets}
 use Rattle.dv_keyed.specs.Choice.{same_path}
-use Rattle.dv_keyed.specs.Interval.{is_in_all, is_in_bounds, is_in_each, is_in_member, is_in_filters}
-use Rattle.dv_keyed.specs.Within.{covers}
+use Rattle.dv_keyed.specs.Inner.Interval.{is_in_all, is_in_bounds, is_in_each, is_in_member, is_in_filters}
+use Rattle.dv_keyed.specs.Inner.Within.{covers}
 use Rattle.dv_keyed.proofs.Lists.{both, equal-from}
 use Rattle.dv_keyed.proofs.Sound.{leaf-key, met-bound, one-path}
 

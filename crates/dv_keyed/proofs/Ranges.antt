@@ -10,9 +10,9 @@ use Rattle.std.proofs.lemmas.Bool.{or_right}
 use Rattle.std.proofs.lemmas.List.Elements.{filter-append}
 use Rattle.std.proofs.lemmas.List.Folds.{list_any-append}
 use Rattle.dv_order.specs.Key.{KeyTree, key_order}
-use Rattle.dv_order.specs.KeyLaws.{key_order_total}
-use Rattle.dv_keyed.specs.Keys.{has_key}
-use Rattle.dv_keyed.specs.Pairs.{Pair, has_pair, has_id, pairs_of}
+use Rattle.dv_order.specs.Inner.KeyLaws.{key_order_total}
+use Rattle.dv_keyed.specs.Inner.Keys.{has_key}
+use Rattle.dv_keyed.specs.Inner.Pairs.{Pair, has_pair, has_id, pairs_of}
 use Rattle.dv_keyed.proofs.Lists.{any-map, equal-from}
 use Rattle.dv_keyed.proofs.Entries.{Entry}
 

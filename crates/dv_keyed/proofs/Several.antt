@@ -3,9 +3,9 @@ use Rattle.std.proofs.Common.{Result, Ok, Err, OnErr, ◌≡◌, ℕ, zero, suc,
 use Rattle.std.specs.List.{list_any}
 use Rattle.std.specs.Ordering.{is_eq}
 use Rattle.dv_order.specs.Key.{KeyTree, key_order}
-use Rattle.dv_order.specs.KeyLaws.{key_order_total}
-use Rattle.dv_keyed.specs.Keys.{has_key}
-use Rattle.dv_keyed.specs.Pairs.{Pair, has_pair}
+use Rattle.dv_order.specs.Inner.KeyLaws.{key_order_total}
+use Rattle.dv_keyed.specs.Inner.Keys.{has_key}
+use Rattle.dv_keyed.specs.Inner.Pairs.{Pair, has_pair}
 use Rattle.dv_keyed.proofs.Lists.{any-map, equal-from}
 
 pub on-err : {T E P : Type 0} (r : Result T E) → P → OnErr r P

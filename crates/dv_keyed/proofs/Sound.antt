@@ -11,7 +11,7 @@ use Rattle.std.proofs.lemmas.Cmp.{tied_itself}
 use Rattle.dv_value.specs.Tree.{Tree, Field}
 use Rattle.dv_order.specs.Order.{canon, class, order}
 use Rattle.dv_order.specs.Key.{KeyTree, value, key_order}
-use Rattle.dv_order.specs.KeyLaws.{key_order_total}
+use Rattle.dv_order.specs.Inner.KeyLaws.{key_order_total}
 use Rattle.dv_candidates.specs.Candidates.{Candidate, leaves, or_null, whole}
 use Rattle.dv_path.specs.LeafKeys.{is_key_of, is_leaf_key, is_some_key, leaf_values}
 use Rattle.dv_match.specs.declared.range.Range.{Range}
@@ -21,7 +21,8 @@ use Rattle.dv_match.specs.Match.{stands, matches, matches_member, matches_all, m
 use Rattle.dv_keyed.specs.Choice.{is_point, is_bound, same_path, first_of, first_in, first_in_member, first_in_all, first_place, chosen}
 use Rattle.dv_keyed.proofs.Ends.{class-canon}
 use Rattle.dv_keyed.proofs.Lists.{both, equal-from}
-use Rattle.dv_keyed.specs.Within.{is_within, has_within, stands_so, covers}
+use Rattle.dv_keyed.specs.Within.{is_within, has_within}
+use Rattle.dv_keyed.specs.Inner.Within.{stands_so, covers}
 
 pub some-same : {X : Type 0} (x y : X) → Some x ≡ Some y → x ≡ y
 some-same x y e = cc

@@ -1,11 +1,5 @@
-pub mod Keys
-pub mod Pairs
-pub mod Ids
 pub mod Index
 pub mod Choice
 pub mod Within
-pub mod View
-pub mod Ends
-pub mod Ahead
-pub mod Interval
-pub mod Examples
+-- what only bodies and proofs need
+pub mod Inner

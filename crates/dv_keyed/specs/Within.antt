@@ -4,12 +4,7 @@ use Rattle.std.specs.List.{list_any}
 use Rattle.std.specs.declared.cmp.Ordering.{Ordering}
 use Rattle.std.specs.Ordering.{is_gt, is_ge, is_lt, is_le}
 use Rattle.dv_value.specs.Tree.{Field}
-use Rattle.dv_order.specs.Order.{canon, class}
-use Rattle.dv_order.specs.Key.{KeyTree, value, key_class, key_order}
 use Rattle.dv_candidates.specs.Candidates.{Candidate, leaves}
-use Rattle.dv_path.specs.LeafKeys.{is_key_of, is_some_key}
-use Rattle.dv_match.specs.declared.range.Range.{Range}
-use Rattle.dv_match.specs.declared.range.Range.TheVariants.{Above, AtLeast, Below, AtMost}
 use Rattle.dv_match.specs.Filter.{Condition, equal, among, in_range}
 use Rattle.dv_match.specs.Match.{is_equal, is_among, is_in_range}
 
@@ -23,17 +18,3 @@ is_within condition c = false
 -- whether a document has a leaf in the bounds
 unfoldable pub has_within : Condition → List (List ℕ) → List Field → Bool
 has_within bounds path d = list_any (is_within bounds) (leaves d path)
-
--- how a key has to stand to a bound
-abbrev pub stands_so : Range → Ordering → Bool
-stands_so Above o = is_gt o
-stands_so AtLeast o = is_ge o
-stands_so Below o = is_lt o
-stands_so AtMost o = is_le o
-
--- whether a key is in the bounds that a condition sets
-abbrev pub covers : Condition → KeyTree → Bool
-covers (equal v) k = is_key_of k v
-covers (among vs) k = is_some_key k vs
-covers (in_range r v) k = key_class k == class v && stands_so r (key_order k (value (canon v)))
-covers condition k = false

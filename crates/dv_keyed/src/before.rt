@@ -8,11 +8,11 @@ ghost use Rattle.dv_order.specs.Key.{KeyTree, key_order, no_element, value as ke
 ghost use Rattle.dv_order.specs.Order.{canon};
 ghost use Rattle.dv_path.specs.Parts.{part};
 ghost use Rattle.dv_path.specs.SortKey as sorting;
-ghost use Rattle.dv_keyed.specs.Ahead as defined;
-ghost use Rattle.dv_keyed.specs.Ahead.{leaf_sorted_by};
-ghost use Rattle.dv_keyed.specs.Interval.{is_between, is_in_all};
-ghost use Rattle.dv_keyed.specs.Keys.{has_key};
-ghost use Rattle.dv_keyed.specs.Pairs.{IsOnlyKey, has_pair};
+ghost use Rattle.dv_keyed.specs.Inner.Ahead as defined;
+ghost use Rattle.dv_keyed.specs.Inner.Ahead.{leaf_sorted_by};
+ghost use Rattle.dv_keyed.specs.Inner.Interval.{is_between, is_in_all};
+ghost use Rattle.dv_keyed.specs.Inner.Keys.{has_key};
+ghost use Rattle.dv_keyed.specs.Inner.Pairs.{IsOnlyKey, has_pair};
 
 use crate::index::Index;
 use crate::interval::Interval;

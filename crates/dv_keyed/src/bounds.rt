@@ -8,8 +8,8 @@ ghost use Rattle.dv_value.specs.View.{tree};
 ghost use Rattle.dv_match.specs.Filter.{in_range};
 ghost use Rattle.dv_order.specs.Key.{KeyTree, key_order, value as key_of_tree};
 ghost use Rattle.dv_order.specs.Order.{canon};
-ghost use Rattle.dv_keyed.specs.Ends.{EndsClass, StartsClass};
-ghost use Rattle.dv_keyed.specs.Within.{covers};
+ghost use Rattle.dv_keyed.specs.Inner.Ends.{EndsClass, StartsClass};
+ghost use Rattle.dv_keyed.specs.Inner.Within.{covers};
 
 use dv_match::Range;
 use dv_order::{Key, key_of, laws};

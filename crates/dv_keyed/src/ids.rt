@@ -6,9 +6,9 @@ ghost use Rattle.std.specs.Option.{option_map};
 ghost use Rattle.std.specs.BTreeSet.{contains};
 ghost use Rattle.std.specs.Ordering.{is_eq};
 ghost use Rattle.dv_order.specs.Key.{KeyTree, key_order};
-ghost use Rattle.dv_keyed.specs.Ids.{has_first, has_in};
-ghost use Rattle.dv_keyed.specs.Ids as defined;
-ghost use Rattle.dv_keyed.specs.Keys.{has_key};
+ghost use Rattle.dv_keyed.specs.Inner.Ids.{has_first, has_in};
+ghost use Rattle.dv_keyed.specs.Inner.Ids as defined;
+ghost use Rattle.dv_keyed.specs.Inner.Keys.{has_key};
 
 use dv_order::Key;
 use dv_value::NoMemory;
@@ -27,8 +27,9 @@ pub(crate) struct Ids {
 impl Model for Ids {
     ghost use Rattle.std.specs.Prelude.{List};
     ghost use Rattle.std.specs.Coded.{coded_list};
-    ghost use Rattle.dv_order.specs.Key.{KeyTree, coded_key};
-    ghost use Rattle.dv_keyed.specs.Ids.{ids_kept};
+    ghost use Rattle.dv_order.specs.Key.{KeyTree};
+    ghost use Rattle.dv_order.specs.Inner.Key.{coded_key};
+    ghost use Rattle.dv_keyed.specs.Inner.Ids.{ids_kept};
 
     ghost Value = { List KeyTree };
 

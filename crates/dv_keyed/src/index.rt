@@ -3,9 +3,9 @@
 ghost use Rattle.std.specs.Prelude.{◌≡◌, ◌&&◌, ◌||◌, true, false, map, not, OnErr, OnOk};
 ghost use Rattle.std.specs.Ordering.{is_eq};
 ghost use Rattle.dv_order.specs.Key.{KeyTree, key_order};
-ghost use Rattle.dv_keyed.specs.Index.{form_of};
-ghost use Rattle.dv_keyed.specs.Keys.{has_key};
-ghost use Rattle.dv_keyed.specs.Pairs.{has_pair};
+ghost use Rattle.dv_keyed.specs.Inner.Index.{form_of};
+ghost use Rattle.dv_keyed.specs.Inner.Keys.{has_key};
+ghost use Rattle.dv_keyed.specs.Inner.Pairs.{has_pair};
 
 use crate::keys::Keys;
 use crate::multi_index::MultiIndex;
@@ -25,7 +25,7 @@ pub struct Index {
 }
 
 impl Model for Index {
-    ghost use Rattle.dv_keyed.specs.Index.{IndexTree, coded_index};
+    ghost use Rattle.dv_keyed.specs.Inner.Index.{IndexTree, coded_index};
 
     ghost Value = { IndexTree };
 

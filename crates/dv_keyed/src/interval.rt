@@ -8,8 +8,8 @@ ghost use Rattle.dv_value.specs.View.{tree};
 ghost use Rattle.dv_match.specs.Filter.{in_range};
 ghost use Rattle.dv_match.specs.View.{condition, member};
 ghost use Rattle.dv_order.specs.Key.{KeyTree, key_order};
-ghost use Rattle.dv_keyed.specs.Interval.{is_between, is_in_all, is_in_bounds, is_in_each, is_in_filters, is_in_member};
-ghost use Rattle.dv_keyed.specs.Within.{covers};
+ghost use Rattle.dv_keyed.specs.Inner.Interval.{is_between, is_in_all, is_in_bounds, is_in_each, is_in_filters, is_in_member};
+ghost use Rattle.dv_keyed.specs.Inner.Within.{covers};
 
 use crate::bounds::ends_within;
 use crate::plan::same_path;
@@ -99,7 +99,7 @@ fn narrow_by_filter(
 }
 
 #[cycle(narrowing)]
-#[tactic(auto, unfolding(crate::specs::Interval::is_in_member))]
+#[tactic(auto, unfolding(crate::specs::Inner::Interval::is_in_member))]
 fn narrow_by_member(
     alloc: Global,
     ends: &mut Interval,

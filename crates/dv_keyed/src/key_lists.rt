@@ -5,7 +5,7 @@ ghost use Rattle.std.specs.List.Sorted.{IsStrictlySortedBy};
 ghost use Rattle.dv_value.specs.View.{tree};
 ghost use Rattle.dv_order.specs.Key.{KeyTree, key_order, value as key_of_tree};
 ghost use Rattle.dv_order.specs.Order.{canon};
-ghost use Rattle.dv_keyed.specs.Keys.{has_key};
+ghost use Rattle.dv_keyed.specs.Inner.Keys.{has_key};
 
 use dv_order::{Key, key_of};
 use dv_value::{NoMemory, Value};

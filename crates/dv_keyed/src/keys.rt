@@ -3,7 +3,7 @@
 ghost use Rattle.std.specs.Prelude.{◌≡◌, not, [], IfOk, filter, length, map};
 ghost use Rattle.dv_order.specs.Key.{KeyTree};
 ghost use Rattle.dv_path.specs.LeafKeys.{is_leaf_key};
-ghost use Rattle.dv_keyed.specs.Keys.{has_key};
+ghost use Rattle.dv_keyed.specs.Inner.Keys.{has_key};
 
 use dv_candidates::Path;
 use dv_order::Key;
@@ -22,7 +22,8 @@ pub struct Keys {
 impl Model for Keys {
     ghost use Rattle.std.specs.Prelude as prelude;
     ghost use Rattle.std.specs.Coded.{coded_list};
-    ghost use Rattle.dv_order.specs.Key.{KeyTree, coded_key};
+    ghost use Rattle.dv_order.specs.Key.{KeyTree};
+    ghost use Rattle.dv_order.specs.Inner.Key.{coded_key};
 
     ghost Value = { prelude.List KeyTree };
 

@@ -11,9 +11,10 @@ ghost use Rattle.dv_order.specs.Order.{canon};
 ghost use Rattle.dv_candidates.specs.Candidates.{Candidate, or_null};
 ghost use Rattle.dv_path.specs.LeafKeys.{is_leaf_key};
 ghost use Rattle.dv_keyed.specs.Choice.{chosen};
-ghost use Rattle.dv_keyed.specs.Examples.{has_key_of};
-ghost use Rattle.dv_keyed.specs.Interval.{is_in_all};
-ghost use Rattle.dv_keyed.specs.Within.{covers, has_within, is_within};
+ghost use Rattle.dv_keyed.specs.Inner.Examples.{has_key_of};
+ghost use Rattle.dv_keyed.specs.Inner.Interval.{is_in_all};
+ghost use Rattle.dv_keyed.specs.Within.{has_within, is_within};
+ghost use Rattle.dv_keyed.specs.Inner.Within.{covers};
 
 /// A filter is answered by an index that is there, and what matches it has a leaf in the bounds: by no index is a document
 /// missed.

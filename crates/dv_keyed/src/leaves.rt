@@ -4,7 +4,7 @@ ghost use Rattle.std.specs.Prelude.{◌≡◌, Some};
 ghost use Rattle.dv_value.specs.View.{tree};
 ghost use Rattle.dv_match.specs.Match as matching;
 ghost use Rattle.dv_candidates.specs.View.{seen};
-ghost use Rattle.dv_keyed.specs.View.{bounds_seen};
+ghost use Rattle.dv_keyed.specs.Inner.View.{bounds_seen};
 ghost use Rattle.dv_keyed.specs.Within.{has_within, is_within};
 
 use crate::plan::Bounds;

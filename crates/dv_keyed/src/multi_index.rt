@@ -5,8 +5,8 @@ ghost use Rattle.std.specs.Ordering.{is_eq};
 ghost use Rattle.std.specs.BTreeMap.Range.{IsLeBy, IsLtBy};
 ghost use Rattle.std.specs.Range.Bound.{IsForward};
 ghost use Rattle.dv_order.specs.Key.{KeyTree, key_order};
-ghost use Rattle.dv_keyed.specs.Keys.{has_key};
-ghost use Rattle.dv_keyed.specs.Pairs.{IsOnlyKey, has_pair, is_under_another};
+ghost use Rattle.dv_keyed.specs.Inner.Keys.{has_key};
+ghost use Rattle.dv_keyed.specs.Inner.Pairs.{IsOnlyKey, has_pair, is_under_another};
 
 use crate::ids::Ids;
 use crate::keys::Keys;
@@ -29,8 +29,8 @@ pub struct MultiIndex {
 impl Model for MultiIndex {
     ghost use Rattle.std.specs.Prelude as prelude;
     ghost use Rattle.std.specs.Coded.{coded_list, coded×};
-    ghost use Rattle.dv_order.specs.Key.{coded_key};
-    ghost use Rattle.dv_keyed.specs.Pairs.{AreNoted, Pair};
+    ghost use Rattle.dv_order.specs.Inner.Key.{coded_key};
+    ghost use Rattle.dv_keyed.specs.Inner.Pairs.{AreNoted, Pair};
 
     ghost Value = { prelude.List Pair };
 

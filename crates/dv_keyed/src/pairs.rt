@@ -9,9 +9,9 @@ ghost use Rattle.std.specs.Ordering.{is_eq};
 ghost use Rattle.std.specs.BTreeMap.Range.{IsLeBy, IsLtBy, range_contains};
 ghost use Rattle.std.specs.Range.Bound.{IsForward};
 ghost use Rattle.dv_order.specs.Key.{KeyTree, key_order};
-ghost use Rattle.dv_keyed.specs.Interval.{is_between};
-ghost use Rattle.dv_keyed.specs.Keys.{has_key};
-ghost use Rattle.dv_keyed.specs.Pairs.{has_another_at, has_id, has_pair, is_under_another};
+ghost use Rattle.dv_keyed.specs.Inner.Interval.{is_between};
+ghost use Rattle.dv_keyed.specs.Inner.Keys.{has_key};
+ghost use Rattle.dv_keyed.specs.Inner.Pairs.{has_another_at, has_id, has_pair, is_under_another};
 
 use crate::ids::Ids;
 use crate::interval::Interval;
@@ -36,8 +36,9 @@ impl Model for Pairs {
     ghost use Rattle.std.specs.Coded.{coded_list, coded×};
     ghost use Rattle.std.specs.List.Sorted.{IsStrictlySortedBy};
     ghost use Rattle.std.specs.Map.{keys_of};
-    ghost use Rattle.dv_order.specs.Key.{coded_key, key_order};
-    ghost use Rattle.dv_keyed.specs.Pairs.{Pair, pairs_of};
+    ghost use Rattle.dv_order.specs.Key.{key_order};
+    ghost use Rattle.dv_order.specs.Inner.Key.{coded_key};
+    ghost use Rattle.dv_keyed.specs.Inner.Pairs.{Pair, pairs_of};
 
     ghost Value = { prelude.List Pair };
 

@@ -5,7 +5,7 @@ ghost use Rattle.std.specs.Option.{option_map};
 ghost use Rattle.dv_match.specs.View.{condition, member};
 ghost use Rattle.dv_keyed.specs.Choice.{chosen, first_place, first_in, first_in_member, first_in_all, first_of};
 ghost use Rattle.dv_keyed.specs.Choice as choices;
-ghost use Rattle.dv_keyed.specs.View.{bounds_seen, plan_seen, has_kind};
+ghost use Rattle.dv_keyed.specs.Inner.View.{bounds_seen, plan_seen, has_kind};
 
 use crate::index::Index;
 use dv_candidates::{Component, Path};

@@ -3,8 +3,8 @@
 ghost use Rattle.std.specs.Prelude.{◌≡◌, ◌++◌, ◌||◌, ◌&&◌, [], not, OnOk};
 ghost use Rattle.std.specs.Ordering.{is_eq};
 ghost use Rattle.dv_order.specs.Key.{KeyTree, key_order};
-ghost use Rattle.dv_keyed.specs.Keys.{has_key};
-ghost use Rattle.dv_keyed.specs.Pairs.{has_pair, is_under_another, pairs_without};
+ghost use Rattle.dv_keyed.specs.Inner.Keys.{has_key};
+ghost use Rattle.dv_keyed.specs.Inner.Pairs.{has_pair, is_under_another, pairs_without};
 
 use crate::index::Index;
 use crate::keys::{Keys, keys_without};

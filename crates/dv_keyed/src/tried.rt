@@ -2,11 +2,11 @@
 
 ghost use Rattle.std.specs.Prelude.{◌≡◌, true, map, IfOk};
 ghost use Rattle.dv_order.specs.Key.{KeyTree};
-ghost use Rattle.dv_keyed.specs.Interval.{is_in_all};
-ghost use Rattle.dv_keyed.specs.Keys.{has_key};
-ghost use Rattle.dv_keyed.specs.Pairs.{IsOnlyKey, has_pair};
-ghost use Rattle.dv_keyed.specs.View.{bounds_seen};
-ghost use Rattle.dv_keyed.specs.Within.{covers};
+ghost use Rattle.dv_keyed.specs.Inner.Interval.{is_in_all};
+ghost use Rattle.dv_keyed.specs.Inner.Keys.{has_key};
+ghost use Rattle.dv_keyed.specs.Inner.Pairs.{IsOnlyKey, has_pair};
+ghost use Rattle.dv_keyed.specs.Inner.View.{bounds_seen};
+ghost use Rattle.dv_keyed.specs.Inner.Within.{covers};
 
 use crate::bounds::ends_within;
 use crate::index::Index;

@@ -5,10 +5,10 @@ ghost use Rattle.std.specs.Ordering.{is_eq};
 ghost use Rattle.dv_value.specs.View.{tree};
 ghost use Rattle.dv_match.specs.Filter.{among, equal, in_range};
 ghost use Rattle.dv_order.specs.Key.{KeyTree, key_order};
-ghost use Rattle.dv_keyed.specs.Pairs.{has_pair};
-ghost use Rattle.dv_keyed.specs.Keys.{has_key};
-ghost use Rattle.dv_keyed.specs.Within.{covers};
-ghost use Rattle.dv_keyed.specs.View.{bounds_seen};
+ghost use Rattle.dv_keyed.specs.Inner.Pairs.{has_pair};
+ghost use Rattle.dv_keyed.specs.Inner.Keys.{has_key};
+ghost use Rattle.dv_keyed.specs.Inner.Within.{covers};
+ghost use Rattle.dv_keyed.specs.Inner.View.{bounds_seen};
 
 use crate::bounds::ends_within;
 use crate::key_lists::{in_order, keys_of_each, lent};

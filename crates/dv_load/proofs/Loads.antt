@@ -5,7 +5,7 @@ use Rattle.dv_value.specs.Spelling.{Fits, Spells}
 use Rattle.dv_value.specs.Tree.{Field}
 use Rattle.dv_core.specs.Load.{IsCodeOf, IsLoaded, loaded}
 use Rattle.dv_core.specs.State.{State}
-use Rattle.dv_files.specs.Fault as faults
+use Rattle.dv_files.specs.Inner.Fault as faults
 use Rattle.dv_files.specs.File.{Begins, Holds, file_read_failed}
 use Rattle.dv_load.specs.Load.{IsWhy, LoadsDocuments, LoadsEach, LoadsFile, load_read_failed}
 use Rattle.dv_streams.specs.Failures.{failures_told}

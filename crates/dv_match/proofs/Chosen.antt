@@ -18,8 +18,8 @@ use Rattle.dv_value.specs.Tree.{Tree}
 use Rattle.dv_value.specs.View.{tree}
 use Rattle.dv_value.specs.declared.value.Value.{Value}
 use Rattle.dv_order.specs.Order.{order}
-use Rattle.dv_order.specs.TotalOrder.{order_total}
-use Rattle.dv_match.specs.Choices.{value_order, Ascend, RespectsEqual, AreChoicesInOrder, IsPlaceOf}
+use Rattle.dv_order.specs.Inner.TotalOrder.{order_total}
+use Rattle.dv_match.specs.Inner.Choices.{value_order, Ascend, RespectsEqual, AreChoicesInOrder, IsPlaceOf}
 use Rattle.dv_match.proofs.Items.{any-map}
 
 abbrev pub stands_before : Value → Value → Bool

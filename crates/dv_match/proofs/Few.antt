@@ -6,7 +6,7 @@ use Rattle.dv_candidates.specs.Candidates.{Candidate, whole, leaves}
 use Rattle.dv_match.specs.Filter.{Members, none_of, no_filters, more_filters, equal, among, in_range, no_conditions, more_conditions}
 use Rattle.dv_match.specs.Match.{is_equal, is_among, is_in_range, matches, matches_member, matches_any, meets, meets_all}
 use Rattle.dv_match.specs.Parsing.{filter_in, conditions_in, operators_in, member_named, operator_named}
-use Rattle.dv_match.specs.Examples.{answer}
+use Rattle.dv_match.specs.Inner.Examples.{answer}
 use Rattle.dv_value.specs.Short.{one, doc, list, int}
 use Rattle.dv_match.specs.declared.range.Range.{Range}
 use Rattle.dv_candidates.specs.Path.{path_of, index_of}

@@ -10,7 +10,8 @@ use Rattle.dv_match.specs.declared.form.Test.TheVariants as kinds
 use Rattle.dv_value.specs.declared.value.Value.{Value}
 use Rattle.dv_value.specs.View.{tree}
 use Rattle.dv_match.proofs.Items.{fields_again}
-use Rattle.dv_match.specs.Filter.{member_weight, members_weight, filters_weight, condition_weight, conditions_weight, Members, members_of, filters_of, conditions_of}
+use Rattle.dv_match.specs.Filter.{Members, members_of, filters_of, conditions_of}
+use Rattle.dv_match.specs.Inner.Filter.{member_weight, members_weight, filters_weight, condition_weight, conditions_weight}
 use Rattle.dv_match.specs.Match.{matches, matches_member, matches_all, matches_any, meets, meets_all, passes}
 use Rattle.dv_match.specs.View.{member, condition, test}
 

@@ -15,11 +15,11 @@ use Rattle.dv_value.specs.Tree.{Tree}
 use Rattle.dv_value.specs.View.{tree}
 use Rattle.dv_value.specs.declared.value.Value.{Value}
 use Rattle.dv_order.specs.Order.{order}
-use Rattle.dv_order.specs.TotalOrder.{order_total}
+use Rattle.dv_order.specs.Inner.TotalOrder.{order_total}
 use Rattle.dv_candidates.specs.Candidates.{Candidate, or_null, with_elements}
-use Rattle.dv_candidates.specs.Fold.{FoldsOver, PassesOne, Takes}
-use Rattle.dv_match.specs.Blocks.{Marked, has, has_equal, no_marks}
-use Rattle.dv_match.specs.Choices.{value_order, Ascend, RespectsEqual, AreChoicesInOrder, is_place, IsPlaceOf}
+use Rattle.dv_candidates.specs.Inner.Fold.{FoldsOver, PassesOne, Takes}
+use Rattle.dv_match.specs.Inner.Blocks.{Marked, has, has_equal, no_marks}
+use Rattle.dv_match.specs.Inner.Choices.{value_order, Ascend, RespectsEqual, AreChoicesInOrder, is_place, IsPlaceOf}
 use Rattle.dv_match.specs.Match.{holds_every, is_equal}
 use Rattle.dv_match.specs.declared.marks.Marks.{Marks}
 use Rattle.dv_match.proofs.Items.{all-map, or-true}

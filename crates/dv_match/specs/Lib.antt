@@ -1,13 +1,8 @@
-pub mod Asked
-pub mod Blocks
-pub mod Choices
-pub mod Examples
 pub mod Straight
 pub mod Fault
 pub mod Filter
-pub mod FilterCode
 pub mod Match
 pub mod Parsing
-pub mod PathFault
 pub mod View
-pub mod ViewFalls
+-- what only bodies and proofs need
+pub mod Inner

@@ -1,8 +1,8 @@
 //! Values that ascend, no two of which compare equal.
 
 ghost use Rattle.dv_value.specs.View.{tree};
-ghost use Rattle.dv_match.specs.Blocks.{IsBlock};
-ghost use Rattle.dv_match.specs.Choices.{Ascend, IsPlaceOf};
+ghost use Rattle.dv_match.specs.Inner.Blocks.{IsBlock};
+ghost use Rattle.dv_match.specs.Inner.Choices.{Ascend, IsPlaceOf};
 
 use dv_order::compare;
 use dv_value::Value;

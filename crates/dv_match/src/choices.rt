@@ -5,7 +5,7 @@ ghost use Rattle.std.specs.List.{list_any};
 ghost use Rattle.std.specs.Ordering.{is_eq};
 ghost use Rattle.dv_value.specs.View.{tree};
 ghost use Rattle.dv_order.specs.Order.{order};
-ghost use Rattle.dv_match.specs.Choices.{AreChoicesInOrder};
+ghost use Rattle.dv_match.specs.Inner.Choices.{AreChoicesInOrder};
 
 use crate::ascending::place_of;
 use dv_order::compare;
@@ -24,8 +24,8 @@ impl Model for Choices {
     ghost use Rattle.std.specs.Prelude as prelude;
     ghost use Rattle.std.specs.Coded.{coded_list};
     ghost use Rattle.dv_value.specs.Tree.{Tree};
-    ghost use Rattle.dv_value.specs.TreeCode.{coded_tree};
-    ghost use Rattle.dv_match.specs.Choices.{AreChoicesInOrder};
+    ghost use Rattle.dv_value.specs.Inner.TreeCode.{coded_tree};
+    ghost use Rattle.dv_match.specs.Inner.Choices.{AreChoicesInOrder};
 
     ghost Value = { prelude.List Tree };
 

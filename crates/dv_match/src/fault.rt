@@ -76,7 +76,7 @@ impl<T: Drop> From<AllocFailed<T>> for FilterFault {
 }
 
 impl From<PathFault> for FilterFault {
-    ghost use Rattle.dv_match.specs.PathFault.{of_path};
+    ghost use Rattle.dv_match.specs.Inner.PathFault.{of_path};
 
     ghost from_gives = { λ fault e. e ≡ of_path fault };
 

@@ -84,8 +84,9 @@ pub struct Conditions {
 
 impl Model for Filter {
     ghost use Rattle.std.specs.Prelude.{map};
-    ghost use Rattle.dv_match.specs.Filter.{Members, members_of, members_weight};
-    ghost use Rattle.dv_match.specs.FilterCode.{coded_members};
+    ghost use Rattle.dv_match.specs.Filter.{Members, members_of};
+    ghost use Rattle.dv_match.specs.Inner.Filter.{members_weight};
+    ghost use Rattle.dv_match.specs.Inner.FilterCode.{coded_members};
 
     ghost Value = { Members };
 
@@ -98,15 +99,16 @@ impl Model for Filter {
     ghost size = { members_weight };
 
     ghost use Rattle.std.proofs.Common.{arith};
-    ghost use Rattle.dv_match.specs.ViewFalls.{members_fall};
+    ghost use Rattle.dv_match.specs.Inner.ViewFalls.{members_fall};
 
     ghost size_decreases = { λ f h. omega (arith, members_fall f.members.items) };
 }
 
 impl Model for Filters {
     ghost use Rattle.dv_match.specs.Filter as form;
-    ghost use Rattle.dv_match.specs.Filter.{filters_of, filters_weight};
-    ghost use Rattle.dv_match.specs.FilterCode.{coded_filters};
+    ghost use Rattle.dv_match.specs.Filter.{filters_of};
+    ghost use Rattle.dv_match.specs.Inner.Filter.{filters_weight};
+    ghost use Rattle.dv_match.specs.Inner.FilterCode.{coded_filters};
 
     ghost Value = { form.Filters };
 
@@ -117,7 +119,7 @@ impl Model for Filters {
     ghost size = { filters_weight };
 
     ghost use Rattle.std.proofs.Common.{arith};
-    ghost use Rattle.dv_match.specs.ViewFalls.{filters_fall};
+    ghost use Rattle.dv_match.specs.Inner.ViewFalls.{filters_fall};
 
     ghost size_decreases = { λ f h. omega (arith, filters_fall f.filters.items) };
 }
@@ -125,8 +127,9 @@ impl Model for Filters {
 impl Model for Conditions {
     ghost use Rattle.std.specs.Prelude.{map};
     ghost use Rattle.dv_match.specs.Filter as form;
-    ghost use Rattle.dv_match.specs.Filter.{conditions_of, conditions_weight};
-    ghost use Rattle.dv_match.specs.FilterCode.{coded_conditions};
+    ghost use Rattle.dv_match.specs.Filter.{conditions_of};
+    ghost use Rattle.dv_match.specs.Inner.Filter.{conditions_weight};
+    ghost use Rattle.dv_match.specs.Inner.FilterCode.{coded_conditions};
 
     ghost Value = { form.Conditions };
 
@@ -139,7 +142,7 @@ impl Model for Conditions {
     ghost size = { conditions_weight };
 
     ghost use Rattle.std.proofs.Common.{arith};
-    ghost use Rattle.dv_match.specs.ViewFalls.{conditions_fall};
+    ghost use Rattle.dv_match.specs.Inner.ViewFalls.{conditions_fall};
 
     ghost size_decreases = { λ c h. omega (arith, conditions_fall c.conditions.items) };
 }

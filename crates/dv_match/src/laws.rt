@@ -5,7 +5,7 @@ ghost use Rattle.dv_value.specs.Tree.{Tree, Field, boolean, document, fields_of,
 ghost use Rattle.dv_match.specs.declared.fault.FilterFault.TheVariants.{BadPath, EmptyList, UnknownOperator};
 ghost use Rattle.dv_match.specs.Parsing.{filter_in};
 ghost use Rattle.dv_candidates.specs.Candidates.{Candidate, whole, leaves};
-ghost use Rattle.dv_match.specs.Examples.{answer};
+ghost use Rattle.dv_match.specs.Inner.Examples.{answer};
 ghost use Rattle.dv_value.specs.Short.{one, doc, list, int};
 ghost use Rattle.dv_match.specs.declared.range.Range.{Range};
 ghost use Rattle.dv_match.specs.Filter.{Members, no_members, more_members, none_of, no_filters, more_filters, Conditions, equal, unequal, among, not_among, unmet, in_range, no_conditions, more_conditions};

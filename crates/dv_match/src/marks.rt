@@ -6,9 +6,9 @@ ghost use Rattle.std.specs.List.{list_all};
 ghost use Rattle.dv_value.specs.View.{tree};
 ghost use Rattle.dv_candidates.specs.Candidates.{leaves, with_elements};
 ghost use Rattle.dv_candidates.specs.View.{seen};
-ghost use Rattle.dv_match.specs.Asked.{parts};
-ghost use Rattle.dv_match.specs.Blocks.{IsBlock, Marked, has, has_equal, no_marks};
-ghost use Rattle.dv_match.specs.Choices.{Ascend};
+ghost use Rattle.dv_match.specs.Inner.Asked.{parts};
+ghost use Rattle.dv_match.specs.Inner.Blocks.{IsBlock, Marked, has, has_equal, no_marks};
+ghost use Rattle.dv_match.specs.Inner.Choices.{Ascend};
 
 use crate::ascending::place_in_block;
 use crate::place::Place;

@@ -4,7 +4,7 @@ ghost use Rattle.std.specs.Prelude.{◌≡◌, is_some};
 ghost use Rattle.std.specs.List.{list_any};
 ghost use Rattle.dv_value.specs.View.{tree};
 ghost use Rattle.dv_candidates.specs.View.{seen};
-ghost use Rattle.dv_match.specs.Asked.{wholes, parts};
+ghost use Rattle.dv_match.specs.Inner.Asked.{wholes, parts};
 ghost use Rattle.dv_match.specs.Match as defined;
 ghost use Rattle.dv_match.specs.View.{member, condition, test};
 

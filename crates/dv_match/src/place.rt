@@ -4,9 +4,9 @@ ghost use Rattle.std.specs.Prelude.{◌≡◌, Bool};
 ghost use Rattle.std.specs.List.{list_any};
 ghost use Rattle.dv_candidates.specs.Candidates.{whole, leaves};
 ghost use Rattle.dv_candidates.specs.Candidates as candidates;
-ghost use Rattle.dv_candidates.specs.Fold.{Answers};
+ghost use Rattle.dv_candidates.specs.Inner.Fold.{Answers};
 ghost use Rattle.dv_candidates.specs.View.{seen};
-ghost use Rattle.dv_match.specs.Asked.{wholes, parts};
+ghost use Rattle.dv_match.specs.Inner.Asked.{wholes, parts};
 
 use dv_candidates::{Candidate, Path, any_leaf, any_whole, any_with_elements, sole_candidate};
 use dv_value::{Document, Value};

@@ -4,11 +4,11 @@ use Rattle.std.specs.Prelude.{codes}
 use Rattle.std.specs.Int.{w32, w64, to_le_bytes}
 use Rattle.std.proofs.lemmas.List.{take_at, drop_at, drop-drop, take-append-le, drop-append-le}
 use Rattle.dv_value.specs.declared.kind.Kind.TheVariants as kinds
-use Rattle.dv_value.specs.Spelled.{elements_spelling-element, elements_spelling-nil}
+use Rattle.dv_value.specs.Inner.Spelled.{elements_spelling-element, elements_spelling-nil}
 use Rattle.dv_value.specs.Spelling.{counted, element_spelling, elements_spelling, fields_spelling, framed, payload, spelling}
 use Rattle.dv_value.specs.Tree.{Field, array, elements_of, int64, string}
 use Rattle.dv_command.specs.Replies.{document_of}
-use Rattle.dv_message.specs.Batches.{batch_spelling, cursor_spelling, id_spelling, row_spelling, rows_spelling}
+use Rattle.dv_message.specs.Inner.Batches.{batch_spelling, cursor_spelling, id_spelling, row_spelling, rows_spelling}
 
 -- ---- parts
 

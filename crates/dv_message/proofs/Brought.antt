@@ -9,10 +9,10 @@ use Rattle.dv_command.specs.declared.command.Command.{Command}
 use Rattle.dv_command.specs.declared.command.Command.TheVariants.{Sections, Invalid}
 use Rattle.dv_command.specs.Asked.{command_name}
 use Rattle.dv_command.specs.Lists.{CommandLists}
-use Rattle.dv_command.specs.Needed.{front_needed, needed, needed_of}
+use Rattle.dv_command.specs.Inner.Needed.{front_needed, needed, needed_of}
 use Rattle.dv_message.specs.Sections.{Section, body, named}
 use Rattle.dv_message.specs.Commands.{fields_in, each_read, Brought, brought_body, brought_list, brought_by, body_among, lists_among, read_in, command_from}
-use Rattle.dv_message.specs.CommandsView.{list_front, needed_read}
+use Rattle.dv_message.specs.Inner.CommandsView.{list_front, needed_read}
 use Rattle.dv_message.proofs.Reading.{read_last, read_stops, reads_last}
 
 body_last : (before : List Field) (brought : List Brought) (fields : List Field) → body_among before (brought ++ brought_body fields ∷ []) ≡ fields

@@ -3,7 +3,7 @@ use Rattle.std.proofs.Common.{◌≡◌, ℕ, ◌+◌, ◌-◌, List, [], ◌∷
 use Rattle.std.specs.Int.{w32, to_le_bytes}
 use Rattle.std.proofs.lemmas.List.{take_at, drop_at, drop-drop, length-append}
 use Rattle.dv_message.specs.Message.{message_spelling}
-use Rattle.dv_message.specs.View.{unmeasured}
+use Rattle.dv_message.specs.Inner.View.{unmeasured}
 
 -- the rest stands behind the header
 pub behind_header : (old header body : List ℕ) (response_to : ℕ) → header ≡ unmeasured response_to (0 ∷ []) → (old ++ header) ++ body ≡ old ++ unmeasured response_to (0 ∷ body)

@@ -7,7 +7,7 @@ use Rattle.dv_value.specs.Tree.{Field}
 use Rattle.dv_bson.specs.Reading.{document_at, fault_of, first_fault}
 use Rattle.dv_value.specs.Results.{◌>>=◌}
 use Rattle.dv_message.specs.Commands.{fields_in, each_read}
-use Rattle.dv_message.specs.CommandsView.{front_read}
+use Rattle.dv_message.specs.Inner.CommandsView.{front_read}
 
 -- what comes of a reader whose results are read on
 pub record Reads {A B : Type 0} (f : A → Result B BsonFault) (x : A) (xs : List A) (all : List B) : Type 0 where

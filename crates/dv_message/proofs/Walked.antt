@@ -1,7 +1,7 @@
 -- Documents that are walked through, as their lengths frame them.
 use Rattle.std.proofs.Common.{◌≡◌, ℕ, zero, suc, ◌<◌, ◌≤◌, List, [], ◌∷◌, ◌++◌, length, Option, Some, None, refl, sym, ap, ◌∙◌, arith}
 use Rattle.dv_message.specs.Sections.{section_frame, section_documents, each_in}
-use Rattle.dv_message.specs.SectionsView.{frames_from, frames_within, frames_in}
+use Rattle.dv_message.specs.Inner.SectionsView.{frames_from, frames_within, frames_in}
 use Rattle.dv_message.proofs.Rows.{Comes, begins, at_end, goes_on, fails, row_nothing, row_nowhere, row_first, onto_some}
 use Rattle.dv_message.proofs.Frames.{frames_advance}
 

@@ -9,7 +9,7 @@ use Rattle.dv_bson.specs.Reading.{cut_at_zero}
 use Rattle.dv_message.specs.Sections.{body, named, sized, is_section, are_sections, row_within, each_in, section_frame, section_at, sections_in}
 use Rattle.dv_message.specs.Message.{stream_front, split_within, split}
 use Rattle.dv_message.proofs.Together.{sections_found, sections_refused}
-use Rattle.dv_message.specs.Examples.{Are, AreNone, empty_document, nothing_under, HeaderExamples, SectionExamples}
+use Rattle.dv_message.specs.Inner.Examples.{Are, AreNone, empty_document, nothing_under, HeaderExamples, SectionExamples}
 
 pub headers : HeaderExamples
 unfolding split split_within stream_front sections_in each_in row_within section_at section_frame

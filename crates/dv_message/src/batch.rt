@@ -4,9 +4,9 @@ ghost use Rattle.std.specs.Prelude.{◌≡◌, ◌+◌, ◌^◌, ◌<◌, ◌≤
 ghost use Rattle.std.specs.Int.{w32, w64, to_le_bytes};
 ghost use Rattle.dv_value.specs.Spelling.{framed, spelling};
 ghost use Rattle.dv_command.specs.Replies.{batch_reply, document_of};
-ghost use Rattle.dv_message.specs.Batches.{batch_spelling, cursor_spelling, id_spelling, row_spelling, rows_spelling};
+ghost use Rattle.dv_message.specs.Inner.Batches.{batch_spelling, cursor_spelling, id_spelling, row_spelling, rows_spelling};
 ghost use Rattle.dv_message.specs.Message.{message_spelling};
-ghost use Rattle.dv_message.specs.View.{unmeasured};
+ghost use Rattle.dv_message.specs.Inner.View.{unmeasured};
 
 use crate::reply::{header, put_length};
 use dv_bson::write_document;

@@ -4,11 +4,11 @@ ghost use Rattle.std.specs.Prelude.{◌≡◌, ◌⊎◌, List, map, Ok};
 ghost use Rattle.dv_value.specs.Tree.{Field};
 ghost use Rattle.dv_command.specs.Asked.{command_name};
 ghost use Rattle.dv_command.specs.Lists.{CommandLists};
-ghost use Rattle.dv_command.specs.ListsView.{list_seen};
-ghost use Rattle.dv_command.specs.Needed.{needed};
+ghost use Rattle.dv_command.specs.Inner.ListsView.{list_seen};
+ghost use Rattle.dv_command.specs.Inner.Needed.{needed};
 ghost use Rattle.dv_message.specs.Commands as brings;
-ghost use Rattle.dv_message.specs.CommandsView.{ReadAs, front_read, list_front, needed_read};
-ghost use Rattle.dv_message.specs.SectionsView.{framed_seen, section_seen};
+ghost use Rattle.dv_message.specs.Inner.CommandsView.{ReadAs, front_read, list_front, needed_read};
+ghost use Rattle.dv_message.specs.Inner.SectionsView.{framed_seen, section_seen};
 
 use crate::framed::Framed;
 use crate::sections::{Section, cut_at_zero};

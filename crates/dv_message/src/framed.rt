@@ -2,7 +2,7 @@
 
 ghost use Rattle.std.specs.Prelude.{◌≡◌, ◌∷◌, [], MatchOption, option_map};
 ghost use Rattle.dv_message.specs.Sections as wire;
-ghost use Rattle.dv_message.specs.SectionsView.{framed_seen};
+ghost use Rattle.dv_message.specs.Inner.SectionsView.{framed_seen};
 
 use crate::sections::number_behind;
 

@@ -2,7 +2,7 @@
 
 ghost use Rattle.std.specs.Prelude.{◌≡◌, ◌<◌, ◌⊎◌, length};
 ghost use Rattle.dv_message.specs.Message as wire;
-ghost use Rattle.dv_message.specs.View.{front_seen};
+ghost use Rattle.dv_message.specs.Inner.View.{front_seen};
 
 use crate::fault::CloseFault;
 use crate::sections::{Section, number_behind, sections_in};

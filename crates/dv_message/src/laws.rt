@@ -3,7 +3,7 @@
 ghost use Rattle.std.specs.Prelude.{◌≡◌, ◌≤◌, ◌<◌, ◌↔◌, ℕ, List, ◌++◌, length};
 ghost use Rattle.dv_value.specs.Spelling.{IsBytes};
 ghost use Rattle.dv_message.specs.Bytes.{IsByteSplit};
-ghost use Rattle.dv_message.specs.Examples as examples;
+ghost use Rattle.dv_message.specs.Inner.Examples as examples;
 ghost use Rattle.dv_message.specs.Message as wire;
 
 /// A stream splits as its front shows: into nothing if that is no message or a fault, and else into the message and what the bytes

@@ -4,7 +4,7 @@ ghost use Rattle.std.specs.Prelude.{◌≡◌, ◌+◌, ◌-◌, ◌^◌, ◌<�
 ghost use Rattle.std.specs.Int.{w32, to_le_bytes};
 ghost use Rattle.dv_value.specs.Spelling.{spelling};
 ghost use Rattle.dv_message.specs.Message.{message_spelling};
-ghost use Rattle.dv_message.specs.View.{unmeasured};
+ghost use Rattle.dv_message.specs.Inner.View.{unmeasured};
 
 use crate::front::OP_MSG;
 use dv_bson::write_document;

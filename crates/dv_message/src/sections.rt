@@ -3,7 +3,7 @@
 ghost use Rattle.std.specs.Prelude.{◌≡◌, ◌==◌, ◌+◌, ◌≤◌, length, map, option_map, position, IfOk};
 ghost use Rattle.dv_bson.specs.Reading as bson;
 ghost use Rattle.dv_message.specs.Sections as wire;
-ghost use Rattle.dv_message.specs.SectionsView.{FoundAs, section_seen};
+ghost use Rattle.dv_message.specs.Inner.SectionsView.{FoundAs, section_seen};
 
 use crate::fault::CloseFault;
 use crate::framed::{Framed, frame_at};

@@ -10,7 +10,7 @@ use Rattle.std.specs.Cmp.{nat_cmp_is}
 use Rattle.std.specs.Cmp.Lexicographic.{slice_cmp}
 use Rattle.dv_value.specs.Tree.{Tree, Field, fields_of, elements_of}
 use Rattle.dv_order.specs.Order.{class, field_order, fields_order, elements_order, order}
-use Rattle.dv_order.specs.TotalOrder.{then_assoc}
+use Rattle.dv_order.specs.Inner.TotalOrder.{then_assoc}
 
 -- the first answer counts where it tells the two apart, and else the second
 first_is : (r o s : Ordering) → ordering_then r o ≡ s → true ≡ is_ne r → r ≡ s

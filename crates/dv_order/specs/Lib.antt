@@ -1,12 +1,9 @@
 pub mod Order
 pub mod Key
-pub mod TotalOrder
-pub mod KeyLaws
 pub mod Source
 pub mod LentKeys
-pub mod SameOrder
 pub mod OwnKeys
 pub mod Same
-pub mod SameLaws
 pub mod Codes
-pub mod CodeLaws
+-- what only bodies and proofs need
+pub mod Inner

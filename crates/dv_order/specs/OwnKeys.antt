@@ -3,16 +3,9 @@ use Rattle.std.specs.Prelude.{◌≡◌, Option}
 use Rattle.std.proofs.Common.{sym, ◌∙◌}
 use Rattle.std.specs.declared.cmp.Ordering.TheVariants.{Equal}
 use Rattle.dv_value.specs.Tree.{Tree}
-use Rattle.dv_order.specs.Key.{KeyTree, key_at, key_order}
-use Rattle.dv_order.specs.SameOrder.{same_key}
+use Rattle.dv_order.specs.Key.{KeyTree, key_at}
 
 -- the key of some value, or the one that no value has
 pub record IsOwn (k : KeyTree) : Type 0 where
   pub of : Option Tree
   pub is : k ≡ key_at of
-
--- such keys that stand beside each other are one
-pub own_keys_are_one : (k l : KeyTree) → IsOwn k → IsOwn l → key_order k l ≡ Equal → k ≡ l
-own_keys_are_one k l own-k own-l e =
-    let beside : key_order (key_at own-k.of) (key_at own-l.of) ≡ Equal = (λ i. key_order (sym own-k.is i) (sym own-l.is i)) ∙ e in
-    own-k.is ∙ same_key own-k.of own-l.of beside ∙ sym own-l.is

@@ -11,7 +11,7 @@ ghost use Rattle.dv_value.specs.View.{tree};
 ghost use Rattle.dv_order.specs.Order.{canon};
 ghost use Rattle.dv_order.specs.Key.{first_value, key_at, key_class, key_order, no_element, value as key_of_tree};
 ghost use Rattle.dv_order.specs.Codes.{key_high, key_low, key_of_code};
-ghost use Rattle.dv_order.specs.KeyLaws.{key_order_total};
+ghost use Rattle.dv_order.specs.Inner.KeyLaws.{key_order_total};
 ghost use Rattle.dv_order.specs.LentKeys.{lent_key};
 ghost use Rattle.dv_order.specs.OwnKeys.{IsOwn};
 
@@ -44,7 +44,8 @@ pub struct Key {
 }
 
 impl Model for Key {
-    ghost use Rattle.dv_order.specs.Key.{KeyTree, coded_key, key_at};
+    ghost use Rattle.dv_order.specs.Key.{KeyTree, key_at};
+    ghost use Rattle.dv_order.specs.Inner.Key.{coded_key};
 
     ghost Value = { KeyTree };
 
@@ -148,7 +149,7 @@ impl Key {
     }
 
     /// Its code. Takes no memory.
-    #[tactic(auto, using(crate::specs::SameOrder::class_of_canon, crate::specs::CodeLaws::high_of_canon, crate::specs::CodeLaws::low_of_canon))]
+    #[tactic(auto, using(crate::specs::Inner::SameOrder::class_of_canon, crate::specs::Inner::CodeLaws::high_of_canon, crate::specs::Inner::CodeLaws::low_of_canon))]
     pub fn code(&self) -> KeyCode
         ensures class { result.class ≡ key_class self.now }
         ensures high { result.high ≡ key_high self.now }
@@ -196,7 +197,7 @@ impl Key {
     }
 
     /// How the key compares to one that is lent. Takes no memory.
-    #[tactic(auto, using(crate::specs::SameOrder::order_of_canon, crate::specs::SameOrder::class_of_canon))]
+    #[tactic(auto, using(crate::specs::Inner::SameOrder::order_of_canon, crate::specs::Inner::SameOrder::class_of_canon))]
     pub fn compare_to(&self, other: &LentKey) -> Ordering
         ensures { result ≡ key_order self.now (lent_key other.now) }
     {
@@ -222,7 +223,7 @@ impl Key {
     }
 
     /// Where the key stands among the classes of values.
-    #[tactic(auto, using(crate::specs::SameOrder::class_of_canon))]
+    #[tactic(auto, using(crate::specs::Inner::SameOrder::class_of_canon))]
     fn class(&self) -> u8
         ensures { result ≡ key_class self.now }
     {
@@ -309,7 +310,7 @@ impl Ord for Key {
 
     ghost matches_eq = { λ x y. refl };
 
-    #[tactic(auto, using(crate::specs::SameOrder::order_of_canon))]
+    #[tactic(auto, using(crate::specs::Inner::SameOrder::order_of_canon))]
     fn cmp(&self, other: &Key) -> Ordering {
         // Most keys are those of integers, and these are known at once.
         if let (Source::Element(Value::Int64(a)), Source::Element(Value::Int64(b))) = (

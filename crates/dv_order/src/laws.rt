@@ -10,50 +10,50 @@ ghost use Rattle.dv_order.specs.Key.{key_at, key_order, no_element, value};
 ghost use Rattle.dv_order.specs.Same.{is_same, same_fields};
 
 /// Any two values compare, and either way round alike.
-#[tactic(auto, using(crate::specs::TotalOrder::order_total))]
+#[tactic(auto, using(crate::specs::Inner::TotalOrder::order_total))]
 pub fn order_is_total()
     ensures { (v w : Tree) → order v w ≡ ordering_reverse (order w v) }
 {}
 
 /// What comes before a value comes before all that come after that value.
-#[tactic(auto, using(crate::specs::TotalOrder::order_total))]
+#[tactic(auto, using(crate::specs::Inner::TotalOrder::order_total))]
 pub fn below_is_transitive()
     ensures { (u v w : Tree) → below u v → below v w → below u w }
 {}
 
 /// Two values are equal in the order exactly if they differ at most in the width of integers.
-#[tactic(auto, using(crate::specs::SameOrder::equal_is_canon))]
+#[tactic(auto, using(crate::specs::Inner::SameOrder::equal_is_canon))]
 pub fn equal_is_same_but_for_widths()
     ensures { (v w : Tree) → (order v w ≡ Equal) ↔ (canon v ≡ canon w) }
 {}
 
 /// Keys are ordered as the values that they are made of.
-#[tactic(auto, using(crate::specs::SameOrder::order_of_canon))]
+#[tactic(auto, using(crate::specs::Inner::SameOrder::order_of_canon))]
 pub fn keys_stand_as_their_values()
     ensures { (v w : Tree) → key_order (value (canon v)) (value (canon w)) ≡ order v w }
 {}
 
 /// Keys that are equal in the order are identical: a key has nothing but what the order sees.
-#[tactic(auto, using(crate::specs::SameOrder::same_key))]
+#[tactic(auto, using(crate::specs::Inner::SameOrder::same_key))]
 pub fn equal_keys_are_one()
     ensures { (v w : Option Tree) → key_order (key_at v) (key_at w) ≡ Equal → key_at v ≡ key_at w }
 {}
 
 /// Values are the same if each part is, and so are documents.
-#[tactic(auto, using(crate::specs::SameLaws::same_values, crate::specs::SameLaws::same_documents))]
+#[tactic(auto, using(crate::specs::Inner::SameLaws::same_values, crate::specs::Inner::SameLaws::same_documents))]
 pub fn sameness_is_equality()
     ensures values { (v w : Tree) → (is_same v w ≡ true) ↔ (v ≡ w) }
     ensures documents { (d e : List Field) → (same_fields (fields_of d) (fields_of e) ≡ true) ↔ (d ≡ e) }
 {}
 
 /// A value of a lower class comes before each one of a higher class.
-#[tactic(auto, using(crate::specs::SameOrder::lower_class))]
+#[tactic(auto, using(crate::specs::Inner::SameOrder::lower_class))]
 pub fn lower_classes_stand_first()
     ensures { (v w : Tree) → class v < class w → below v w }
 {}
 
 /// The key that no value has is not equal to the key of any value.
-#[tactic(auto, using(crate::specs::KeyLaws::no_class))]
+#[tactic(auto, using(crate::specs::Inner::KeyLaws::no_class))]
 pub fn no_element_stands_beside_no_value()
     ensures { (v : Tree) → is_ne (key_order no_element (value v)) ≡ true }
 {}

@@ -23,7 +23,7 @@ pub enum LentKey<'a> {
 
 impl<'a> LentKey<'a> {
     /// How the key compares to another one, in the order of keys. Takes no memory.
-    #[tactic(auto, using(crate::specs::SameOrder::order_of_canon))]
+    #[tactic(auto, using(crate::specs::Inner::SameOrder::order_of_canon))]
     pub fn compare(&self, other: &LentKey) -> Ordering
         ensures { result ≡ key_order (lent_key self.now) (lent_key other.now) }
     {

@@ -6,12 +6,13 @@ use Rattle.dv_value.specs.Names.{value_under}
 use Rattle.dv_value.specs.Removing.{without_each}
 use Rattle.dv_value.specs.View.{tree}
 use Rattle.dv_value.specs.declared.value.Value.{Value}
-use Rattle.dv_path.specs.Apart.{AreApart, IsApartFrom, AreAllApart, remove_each, fields_alone, leading_further}
+use Rattle.dv_path.specs.Apart.{AreApart, IsApartFrom, AreAllApart, remove_each}
+use Rattle.dv_path.specs.Inner.Apart.{fields_alone, leading_further}
 use Rattle.dv_candidates.specs.Candidates.{Candidate}
 use Rattle.std.proofs.lemmas.List.{drop_more}
-use Rattle.dv_path.specs.GroupView.{group}
+use Rattle.dv_path.specs.Inner.GroupView.{group}
 use Rattle.dv_path.specs.declared.grouping.Group as memory
-use Rattle.dv_path.specs.Groups.{Group, begun, ungrouped, AreFilled, AreSome, AreLong, HasGroup, IsGrouping, with_component, begins_with_none, left_of_each, remove_each_element, with_groups, elements_with_groups}
+use Rattle.dv_path.specs.Inner.Groups.{Group, begun, ungrouped, AreFilled, AreSome, AreLong, HasGroup, IsGrouping, with_component, begins_with_none, left_of_each, remove_each_element, with_groups, elements_with_groups}
 use Rattle.dv_candidates.specs.Path.{index_of}
 use Rattle.dv_path.specs.Placing.{with_field}
 use Rattle.dv_path.specs.Removing.{changed_at, remove_field, remove_element, left_behind, remove}

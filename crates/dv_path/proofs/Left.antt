@@ -5,7 +5,7 @@ use Rattle.std.proofs.lemmas.List.{length-map}
 use Rattle.dv_value.specs.declared.value.Value.{Value}
 use Rattle.dv_value.specs.Tree.{Tree, Field, fields_of, elements_of}
 use Rattle.dv_value.specs.View.{tree}
-use Rattle.dv_value.specs.Weight.{field_weighs_less, value_weighs_less}
+use Rattle.dv_value.specs.Inner.Weight.{field_weighs_less, value_weighs_less}
 use Rattle.dv_value.specs.Names.{begins_with_dollar}
 use Rattle.dv_path.specs.Names.{has_dot, is_dotted, are_fields_dotted, are_elements_dotted}
 use Rattle.dv_path.proofs.Items.{drop_at, none_there, slice_get_seen}

@@ -3,7 +3,8 @@ use Rattle.std.proofs.Common.{◌≡◌, ◌∙◌, ap, sym, refl, ℕ, Bool, tr
 use Rattle.std.specs.Bool.{⊤}
 use Rattle.std.specs.List.{filter}
 use Rattle.dv_value.specs.Tree.{Tree, Field}
-use Rattle.dv_path.specs.Apart.{IsApartFrom, AreAllApart, remove_each, is_taken, leads_to_value}
+use Rattle.dv_path.specs.Apart.{IsApartFrom, AreAllApart, remove_each}
+use Rattle.dv_path.specs.Inner.Apart.{is_taken, leads_to_value}
 use Rattle.dv_path.specs.Removing.{remove}
 use Rattle.dv_path.specs.Slots.{Slot, taken, slot}
 use Rattle.dv_path.proofs.Parting.{slot_apart}

@@ -7,7 +7,8 @@ use Rattle.std.proofs.lemmas.Slice.Eq.{bytes_eq-Decides}
 use Rattle.dv_value.specs.Tree.{Field}
 use Rattle.dv_value.specs.Names.{value_under, without}
 use Rattle.dv_value.specs.Removing.{without_each}
-use Rattle.dv_path.specs.Apart.{AreApart, IsApartFrom, AreAllApart, remove_each, fields_alone, leading_further, field_alone, leads_to_value}
+use Rattle.dv_path.specs.Apart.{AreApart, IsApartFrom, AreAllApart, remove_each}
+use Rattle.dv_path.specs.Inner.Apart.{fields_alone, leading_further, field_alone, leads_to_value}
 use Rattle.dv_candidates.specs.Candidates.{Candidate}
 use Rattle.dv_path.specs.Placing.{field_with, with_field}
 use Rattle.dv_path.specs.Removing.{remove_field, left_behind, remove}

@@ -1,11 +1,10 @@
 pub use Rattle.dv_candidates.specs.Path
 pub use Rattle.dv_candidates.specs.Candidates
 pub use Rattle.dv_candidates.specs.View
-pub use Rattle.dv_candidates.specs.Fold
+pub use Rattle.dv_candidates.specs.Inner.Fold
 pub use Rattle.dv_candidates.specs.Ways
 pub mod Names
 pub mod LeafKeys
-pub mod GatheredKeys
 pub mod SortKey
 pub mod SortSpec
 pub mod Parts
@@ -15,5 +14,5 @@ pub mod SlotView
 pub mod Placing
 pub mod Removing
 pub mod Apart
-pub mod Groups
-pub mod GroupView
+-- what only bodies and proofs need
+pub mod Inner

@@ -1,8 +1,8 @@
 //! Paths in groups of those that begin with one component.
 
 ghost use Rattle.std.specs.Prelude.{◌≡◌, ◌++◌, ◌∷◌, [], map, IfOk, OnOk};
-ghost use Rattle.dv_path.specs.GroupView.{group as seen};
-ghost use Rattle.dv_path.specs.Groups.{AreFilled, HasGroup, IsGrouping, ungrouped};
+ghost use Rattle.dv_path.specs.Inner.GroupView.{group as seen};
+ghost use Rattle.dv_path.specs.Inner.Groups.{AreFilled, HasGroup, IsGrouping, ungrouped};
 
 use dv_candidates::Component;
 use dv_value::NoMemory;

@@ -6,9 +6,11 @@ ghost use Rattle.std.specs.Option.{option_map};
 ghost use Rattle.dv_value.specs.Removing.{without_each};
 ghost use Rattle.dv_value.specs.View.{tree};
 ghost use Rattle.dv_path.specs.Apart as apart;
-ghost use Rattle.dv_path.specs.Apart.{AreAllApart, field_alone, fields_alone, leading_further};
-ghost use Rattle.dv_path.specs.GroupView.{group as seen};
-ghost use Rattle.dv_path.specs.Groups.{begins_with_none, left_of_each, remove_each_element};
+ghost use Rattle.dv_path.specs.Inner.Apart as apart_inner;
+ghost use Rattle.dv_path.specs.Apart.{AreAllApart};
+ghost use Rattle.dv_path.specs.Inner.Apart.{field_alone, fields_alone, leading_further};
+ghost use Rattle.dv_path.specs.Inner.GroupView.{group as seen};
+ghost use Rattle.dv_path.specs.Inner.Groups.{begins_with_none, left_of_each, remove_each_element};
 ghost use Rattle.dv_candidates.specs.Path.{index_of};
 ghost use Rattle.dv_path.specs.Removing.{remove_element, remove_field};
 
@@ -39,7 +41,7 @@ fn leading_to_values<'p>(
     document: &Document,
     paths: &[&'p Path],
 ) -> Result<Vec<&'p [Component]>, NoMemory>
-    ensures { IfOk result (λ there. map (λ path. path.now) there.items ≡ filter (apart.leads_to_value document.now) (map (λ path. path.now) paths.now)) }
+    ensures { IfOk result (λ there. map (λ path. path.now) there.items ≡ filter (apart_inner.leads_to_value document.now) (map (λ path. path.now) paths.now)) }
 {
     let mut there = Vec::new(alloc);
     'paths: for path in paths {
@@ -51,7 +53,7 @@ fn leading_to_values<'p>(
 }
 
 fn leads_to_value(document: &Document, path: &Path) -> bool
-    ensures { result ≡ apart.leads_to_value document.now path.now }
+    ensures { result ≡ apart_inner.leads_to_value document.now path.now }
 {
     matches!(slot_at(document, path), Slot::Taken(_))
 }

@@ -7,16 +7,16 @@ use Rattle.std.specs.List.{list_any, FoldsTo}
 use Rattle.std.specs.Ordering.{is_eq}
 use Rattle.dv_value.specs.Tree.{Tree, array, elements_of}
 use Rattle.dv_candidates.specs.Candidates.{Candidate, leaves, or_null, whole}
-use Rattle.dv_candidates.specs.Fold.{FoldsOver, PassesOne, Takes}
+use Rattle.dv_candidates.specs.Inner.Fold.{FoldsOver, PassesOne, Takes}
 use Rattle.dv_order.specs.Order.{order}
-use Rattle.dv_order.specs.TotalOrder.{order_total}
-use Rattle.dv_path.specs.GatheredKeys.{any-flat_map}
+use Rattle.dv_order.specs.Inner.TotalOrder.{order_total}
+use Rattle.dv_path.specs.Inner.GatheredKeys.{any-flat_map}
 use Rattle.dv_path.specs.LeafKeys.{leaf_values}
 use Rattle.dv_match.specs.Match.{is_among, matches, matches_member, meets, meets_all}
 use Rattle.dv_gather.specs.Joining.{as_value, is_equal_to_one, is_joined, joined_by, local_values}
 use Rattle.dv_gather.specs.Lookups.{joined_row, looked_up, set_field}
 use Rattle.dv_gather.specs.declared.lookup.Lookup.{Lookup}
-use Rattle.dv_pipe.specs.Joined.{having_one_of}
+use Rattle.dv_pipe.specs.Inner.Joined.{having_one_of}
 use Rattle.dv_pipe.specs.Sources.{Row}
 
 -- ---- tests of items

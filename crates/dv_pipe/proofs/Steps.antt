@@ -8,7 +8,7 @@ use Rattle.dv_pipe.specs.declared.stage.Stage.{Stage}
 use Rattle.std.specs.List.{flat_map}
 use Rattle.std.proofs.lemmas.Grind.{flat_map-append}
 use Rattle.dv_pipe.specs.declared.step.Step.{Step}
-use Rattle.dv_pipe.specs.Parts.{rows_of_step, passed, ended}
+use Rattle.dv_pipe.specs.Inner.Parts.{rows_of_step, passed, ended}
 use Rattle.dv_pipe.specs.Sources.{Row, rows_referred}
 use Rattle.dv_pipe.specs.Stages.{Lists, through}
 

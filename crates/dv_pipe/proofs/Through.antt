@@ -16,7 +16,7 @@ use Rattle.dv_row.specs.declared.unwind.Unwind as unwinds
 use Rattle.dv_gather.specs.Lookups.{joined_row, looked_up}
 use Rattle.dv_pipe.specs.declared.stage.Stage.{Stage}
 use Rattle.dv_pipe.specs.declared.stage.Stage.TheVariants.{Match, Project, Unwind, Sort, Limit, Group, Lookup}
-use Rattle.dv_pipe.specs.Parts.{wanted}
+use Rattle.dv_pipe.specs.Inner.Parts.{wanted}
 use Rattle.dv_pipe.specs.Sources.{Row}
 use Rattle.dv_pipe.specs.Stages.{Lists, beside, foreign_of, stage, through}
 

@@ -17,11 +17,11 @@ use Rattle.dv_row.specs.Projecting.{projected}
 use Rattle.dv_row.specs.ProjectParsing.{project_in}
 use Rattle.dv_row.specs.Row.{Row}
 use Rattle.dv_row.specs.Unwinding.{unwound}
-use Rattle.dv_row.specs.Valid.{AreValues, IsValid, AreValid, IsSoundProject, fields-valid, valid-fields, either, bound, any-ok, of-ok, each-sound}
-use Rattle.dv_row.specs.ValidRows.{project_in-sound, projected-valid, unwound-valid}
+use Rattle.dv_row.specs.Inner.Valid.{AreValues, IsValid, AreValid, IsSoundProject, fields-valid, valid-fields, either, bound, any-ok, of-ok, each-sound}
+use Rattle.dv_row.specs.Inner.ValidRows.{project_in-sound, projected-valid, unwound-valid}
 use Rattle.dv_gather.specs.GroupParsing.{group_in}
 use Rattle.dv_gather.specs.Lookups.{lookup_in}
-use Rattle.dv_gather.specs.Valid.{IsSoundGroup, IsSoundLookup, group_in-sound, grouped-valid, lookup_in-sound, looked_up-valid}
+use Rattle.dv_gather.specs.Inner.Valid.{IsSoundGroup, IsSoundLookup, group_in-sound, grouped-valid, lookup_in-sound, looked_up-valid}
 use Rattle.dv_sort.specs.Sorting.{stands_before, placed, stable}
 use Rattle.dv_pipe.specs.declared.stage.Stage.{Stage}
 use Rattle.dv_pipe.specs.declared.stage.Stage.TheVariants.{Match, Project, Unwind, Sort, Limit, Group, Lookup}

@@ -1,6 +1,6 @@
-pub mod Joined
 pub mod Laws
-pub mod Parts
 pub mod Sources
 pub mod StageParsing
 pub mod Stages
+-- what only bodies and proofs need
+pub mod Inner

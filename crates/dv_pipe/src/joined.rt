@@ -7,7 +7,7 @@ ghost use Rattle.dv_candidates.specs.View.{seen};
 ghost use Rattle.dv_gather.specs.Joining.{joined_by, local_values};
 ghost use Rattle.dv_gather.specs.Lookups.{looked_up};
 ghost use Rattle.dv_match.specs.Match.{matches};
-ghost use Rattle.dv_pipe.specs.Joined.{having_one_of};
+ghost use Rattle.dv_pipe.specs.Inner.Joined.{having_one_of};
 ghost use Rattle.dv_pipe.specs.Sources.{Row, rows_referred};
 ghost use Rattle.dv_value.specs.Tree.{Tree};
 ghost use Rattle.dv_value.specs.View.{tree};

@@ -3,7 +3,7 @@
 ghost use Rattle.std.specs.Prelude.{◌≡◌, ◌∷◌, ◌⊎◌, ◌<◌, [], List, IfOk, length};
 ghost use Rattle.std.specs.List.{flat_map};
 ghost use Rattle.dv_sort.specs.Sorting.{stable, front};
-ghost use Rattle.dv_pipe.specs.Parts.{passed, wanted as wanted_by, ended, rows_of_part, rows_of_run};
+ghost use Rattle.dv_pipe.specs.Inner.Parts.{passed, wanted as wanted_by, ended, rows_of_part, rows_of_run};
 ghost use Rattle.dv_pipe.specs.Sources.{Row, lists_of, rows_referred};
 ghost use Rattle.dv_pipe.specs.Stages as defined;
 

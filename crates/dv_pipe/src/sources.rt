@@ -26,7 +26,7 @@ pub struct Sources<'a> {
 impl<'a> Model for Sources<'a> {
     ghost use Rattle.std.specs.Prelude.{List, map};
     ghost use Rattle.std.specs.Coded.{coded_list, coded×, coded_ℕ};
-    ghost use Rattle.dv_value.specs.TreeCode.{coded_tree};
+    ghost use Rattle.dv_value.specs.Inner.TreeCode.{coded_tree};
     ghost use Rattle.dv_pipe.specs.Sources as defined;
 
     ghost Value = { List defined.Source };

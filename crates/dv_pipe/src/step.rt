@@ -3,7 +3,7 @@
 ghost use Rattle.std.specs.Prelude.{◌≡◌, ◌++◌, List, OnOk, true};
 ghost use Rattle.std.specs.List.{flat_map};
 ghost use Rattle.dv_sort.specs.Sorting.{front};
-ghost use Rattle.dv_pipe.specs.Parts.{passed, rows_of_work, rows_of_step};
+ghost use Rattle.dv_pipe.specs.Inner.Parts.{passed, rows_of_work, rows_of_step};
 ghost use Rattle.dv_pipe.specs.Sources.{Row};
 
 use dv_gather::Join;

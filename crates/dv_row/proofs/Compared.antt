@@ -5,7 +5,7 @@ use Rattle.std.specs.Cmp.{nat_cmp_is}
 use Rattle.std.specs.Ordering.{ordering_then, nat_cmp, is_ne}
 use Rattle.std.specs.declared.cmp.Ordering.{Ordering}
 use Rattle.std.specs.declared.cmp.Ordering.TheVariants.{Less, Equal, Greater}
-use Rattle.dv_row.specs.Ways.{name_order, way_order}
+use Rattle.dv_row.specs.Inner.Ways.{name_order, way_order}
 
 -- us and vs are what is left of xs and ys after as many names of each, and stand to each other as these do
 pub record IsLeft (xs ys us vs : List (List ℕ)) : Type 0 where

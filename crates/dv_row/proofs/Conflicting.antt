@@ -12,9 +12,9 @@ use Rattle.std.proofs.lemmas.List.Sorted.{sum_by-IsPermutation, length_permutati
 use Rattle.std.proofs.lemmas.List.Sums.{sum_by-cons}
 use Rattle.std.proofs.lemmas.Map.Lookups.{exact_bytes}
 use Rattle.std.proofs.lemmas.Slice.Eq.{bytes_eq-Decides}
-use Rattle.dv_row.specs.Conflicts.{paths_conflict}
+use Rattle.dv_row.specs.Inner.Conflicts.{paths_conflict}
 use Rattle.dv_row.specs.ProjectParsing.{one_begins}
-use Rattle.dv_row.specs.Ways.{name_order, way_order}
+use Rattle.dv_row.specs.Inner.Ways.{name_order, way_order}
 use Rattle.dv_row.proofs.Left.{bytes-eq_symmetric}
 
 abbrev Way : Type 0

@@ -16,14 +16,14 @@ use Rattle.dv_row.specs.declared.fault.PipelineFault.{PipelineFault}
 use Rattle.dv_row.specs.declared.fault.PipelineFault.TheVariants.{Conflict}
 use Rattle.dv_row.specs.declared.project.Project.{Project}
 use Rattle.dv_row.specs.declared.project.Project.TheVariants.{Include, Exclude}
-use Rattle.dv_row.specs.Conflicts.{IsMemberTaken}
+use Rattle.dv_row.specs.Inner.Conflicts.{IsMemberTaken}
 use Rattle.dv_row.specs.ExpressionParsing.{expression_in, switch_in}
 use Rattle.dv_row.specs.Expressions.{Expression, computed_of, with_computed, with_field_behind, value_of}
 use Rattle.dv_value.specs.Results.{◌>>=◌}
 use Rattle.dv_row.specs.Projecting.{row_left, projected}
 use Rattle.dv_row.specs.ProjectParsing.{AskedMembers, conflicts_with_asked, excludes, includes, is_below_id, is_id_path, members_in, nothing_asked, one_begins, project_form, project_in, with_computation, with_excluded, with_id_path, with_included, with_member, with_named, with_path, with_switch}
 use Rattle.dv_row.specs.Row.{Row}
-use Rattle.dv_row.specs.Shown.{begins_with_name, is_alone}
+use Rattle.dv_row.specs.Inner.Shown.{begins_with_name, is_alone}
 use Rattle.dv_row.proofs.Conflicting.{begins-back}
 use Rattle.dv_row.proofs.Left.{bytes-eq_symmetric}
 use Rattle.dv_row.proofs.Members.{begins-name, project-some}

@@ -5,7 +5,7 @@ use Rattle.std.specs.List.{list_all, list_any}
 use Rattle.std.specs.Option.{option_map}
 use Rattle.std.proofs.lemmas.List.Folds.{list_all-append}
 use Rattle.std.proofs.lemmas.Option.{slice_get_read}
-pub use Rattle.dv_row.specs.EachLaws.{drop-here, drop-read, drop-past, drop-found, none-there}
+pub use Rattle.dv_row.specs.Inner.EachLaws.{drop-here, drop-read, drop-past, drop-found, none-there}
 
 pub take-here : {X : Type 0} (xs : List X) (i : ℕ) (x : X) → slice_get xs i ≡ Some x → take (suc i) xs ≡ take i xs ++ x ∷ []
 take-here [] i x e = absurd cc

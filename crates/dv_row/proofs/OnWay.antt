@@ -3,7 +3,7 @@ use Rattle.std.proofs.Common.{◌≡◌, ◌∙◌, ap, sym, refl, List, [], ◌
 use Rattle.dv_value.specs.Names.{value_under}
 use Rattle.dv_value.specs.Tree.{Tree, document, Field, fields_of, list_of_fields}
 use Rattle.dv_candidates.specs.Candidates.{Candidate}
-use Rattle.dv_row.specs.Crossings.{set_inward}
+use Rattle.dv_row.specs.Inner.Crossings.{set_inward}
 use Rattle.dv_row.specs.declared.way.Crossing.{Crossing}
 use Rattle.dv_row.specs.Row.{Row}
 use Rattle.dv_row.specs.Unwinding.{in_document, reached, set_under, changed_under, set_through}

@@ -3,7 +3,7 @@ use Rattle.std.proofs.Common.{◌≡◌, ◌∙◌, ap, ap₂, sym, refl, List, 
 use Rattle.dv_value.specs.View.{tree}
 use Rattle.dv_value.specs.declared.value.Value.{Value}
 use Rattle.dv_candidates.specs.Candidates.{Candidate}
-use Rattle.dv_row.specs.Crossings.{set_on_way}
+use Rattle.dv_row.specs.Inner.Crossings.{set_on_way}
 use Rattle.dv_row.specs.declared.way.Way.{Way}
 use Rattle.dv_row.specs.Row.{Row}
 use Rattle.dv_row.specs.Unwinding.{set_through}

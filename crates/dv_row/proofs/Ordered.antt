@@ -16,7 +16,7 @@ use Rattle.std.proofs.lemmas.List.Sorted.{sorted_far, list_any-IsPermutation}
 use Rattle.std.proofs.lemmas.Map.Lookups.{exact_bytes}
 use Rattle.std.proofs.lemmas.Slice.Eq.{bytes_eq-Decides}
 use Rattle.dv_row.specs.Projecting.{paths_behind, ends}
-use Rattle.dv_row.specs.Ways.{name_order, way_order, way_beside, Ascend, IsInOrder}
+use Rattle.dv_row.specs.Inner.Ways.{name_order, way_order, way_beside, Ascend, IsInOrder}
 
 abbrev Way : Type 0
 Way = List (List ℕ)

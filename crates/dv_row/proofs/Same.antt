@@ -6,7 +6,7 @@ use Rattle.dv_value.specs.Tree.{Tree, document, array, Fields, no_fields, field,
 use Rattle.dv_candidates.specs.Candidates.{Candidate}
 use Rattle.dv_row.specs.Projecting.{paths_behind, ends, if_it, with_left, with_element_left, left_at, left_inside, fields_left, elements_left, row_left}
 use Rattle.dv_row.specs.Row.{Row}
-use Rattle.dv_row.specs.Ways.{AreSame}
+use Rattle.dv_row.specs.Inner.Ways.{AreSame}
 
 abbrev Way : Type 0
 Way = List (List ℕ)

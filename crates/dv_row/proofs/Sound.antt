@@ -11,8 +11,8 @@ use Rattle.dv_row.specs.ProjectParsing.{project_in}
 use Rattle.dv_row.specs.Row.{Row}
 use Rattle.dv_row.specs.Unwinding.{unwound}
 use Rattle.dv_row.specs.declared.unwind.Unwind.{Unwind}
-use Rattle.dv_row.specs.Valid.{IsValid, AreValid, IsSound, IsSoundProject, of-ok, expression_in-sound, value_of-valid}
-use Rattle.dv_row.specs.ValidRows.{project_in-sound, projected-valid, unwound-valid}
+use Rattle.dv_row.specs.Inner.Valid.{IsValid, AreValid, IsSound, IsSoundProject, of-ok, expression_in-sound, value_of-valid}
+use Rattle.dv_row.specs.Inner.ValidRows.{project_in-sound, projected-valid, unwound-valid}
 
 pub value_valid : (plain : Bool) (v : Tree) (e : Expression) (row : Row) → IsValue v → expression_in plain v ≡ Ok e → IsValid row → IfSome (value_of e row) IsValue
 value_valid plain v e row value is valid = value_of-valid e row (of-ok IsSound (expression_in plain v) e is (expression_in-sound plain v value)) valid

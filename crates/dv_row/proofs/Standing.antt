@@ -8,7 +8,7 @@ use Rattle.dv_candidates.specs.Candidates.{Candidate}
 use Rattle.dv_path.specs.Expression.{expression, expr}
 use Rattle.dv_row.specs.Row.{Row}
 use Rattle.dv_row.specs.Unwinding.{in_document, reached}
-use Rattle.dv_row.specs.Valid.{fields_again}
+use Rattle.dv_row.specs.Inner.Valid.{fields_again}
 use Rattle.dv_row.proofs.Items.{drop-read, drop-past}
 use Rattle.dv_row.proofs.Unwound.{list-of-fields_of, reached-none, reached-more}
 

@@ -5,7 +5,7 @@ use Rattle.dv_value.specs.Tree.{Tree, Field}
 use Rattle.dv_candidates.specs.Path.{is_component, path_of}
 use Rattle.dv_row.specs.declared.fault.PipelineFault.{PipelineFault}
 use Rattle.dv_row.specs.declared.fault.PipelineFault.TheVariants.{BadSpec, Conflict, NoMemory}
-use Rattle.dv_row.specs.Conflicts.{paths_conflict, IsMemberTaken}
+use Rattle.dv_row.specs.Inner.Conflicts.{paths_conflict, IsMemberTaken}
 use Rattle.dv_row.specs.Expressions.{Expression}
 use Rattle.dv_path.specs.Names.{has_dot}
 use Rattle.dv_row.specs.ExpressionParsing.{expression_in}

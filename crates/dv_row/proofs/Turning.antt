@@ -2,13 +2,14 @@
 use Rattle.std.proofs.Common.{◌≡◌, ◌∙◌, ap, sym, subst, refl, Bool, true, false, not, ◌&&◌, ◌==◌, List, [], ◌∷◌, ◌++◌, ℕ, zero, suc, ◌+◌, ◌*◌, ◌<◌, ◌≤◌, take, drop, length, Some, None, slice_get, arith, if◌then◌else◌}
 use Rattle.std.specs.List.{list_any}
 use Rattle.dv_value.specs.Names.{AreNamed}
-use Rattle.dv_value.specs.Tree.{Tree, weight, document, Field, fields_of, fields_weight}
+use Rattle.dv_value.specs.Tree.{Tree, document, Field, fields_of}
+use Rattle.dv_value.specs.Inner.Tree.{weight, fields_weight}
 use Rattle.dv_candidates.specs.Candidates.{Candidate}
 use Rattle.dv_row.specs.declared.level.Level.{Level}
 use Rattle.dv_row.specs.Expressions.{with_field_behind}
 use Rattle.dv_row.specs.Projecting.{paths_behind, ends, if_it, left_at, left_of_value, left_inside, fields_left, row_left}
 use Rattle.dv_row.specs.Row.{Row}
-use Rattle.dv_row.specs.Turns.{left_behind, left_at_end, left_around, with_entered, fields_to_go, fields_behind, IsFresh, IsEntered}
+use Rattle.dv_row.specs.Inner.Turns.{left_behind, left_at_end, left_around, with_entered, fields_to_go, fields_behind, IsFresh, IsEntered}
 use Rattle.dv_row.proofs.Items.{drop-found, drop-past}
 use Rattle.dv_row.proofs.Left.{row-left_more, fields-of_list}
 

@@ -4,7 +4,7 @@ use Rattle.dv_value.specs.Tree.{Tree, null}
 use Rattle.dv_path.specs.Expression.{expr}
 use Rattle.dv_candidates.specs.Path.{path_of}
 use Rattle.dv_row.specs.declared.fault.PipelineFault.TheVariants.{BadSpec}
-use Rattle.dv_row.specs.Examples.{shown}
+use Rattle.dv_row.specs.Inner.Examples.{shown}
 use Rattle.dv_value.specs.Short.{int, long, text, doc, list}
 use Rattle.dv_row.specs.ExpressionParsing.{expression_in}
 use Rattle.dv_row.specs.Expressions.{value_of, with_computed}

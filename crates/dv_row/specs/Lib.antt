@@ -1,23 +1,9 @@
-pub mod AskedView
-pub mod Conflicts
-pub mod Crossings
-pub mod EachLaws
-pub mod Examples
 pub mod Expressions
-pub mod ExpressionCode
-pub mod ExpressionFalls
 pub mod ExpressionParsing
-pub mod ExpressionView
-pub mod Fault
 pub mod Parsing
 pub mod Projecting
 pub mod ProjectParsing
 pub mod Row
-pub mod RowValueView
-pub mod Shown
-pub mod Turns
 pub mod Unwinding
-pub mod UnwoundRows
-pub mod Valid
-pub mod ValidRows
-pub mod Ways
+-- what only bodies and proofs need
+pub mod Inner

@@ -4,9 +4,9 @@ ghost use Rattle.std.specs.Prelude.{◌≡◌, ◌∷◌, [], true, false, map, 
 ghost use Rattle.std.specs.List.{list_any};
 ghost use Rattle.dv_value.specs.View.{tree};
 ghost use Rattle.dv_candidates.specs.Path.{path_of};
-ghost use Rattle.dv_row.specs.AskedView.{asked as seen};
-ghost use Rattle.dv_row.specs.Conflicts.{TakesMember, paths_conflict as list_conflicts};
-ghost use Rattle.dv_row.specs.ExpressionView.{expression_seen, named};
+ghost use Rattle.dv_row.specs.Inner.AskedView.{asked as seen};
+ghost use Rattle.dv_row.specs.Inner.Conflicts.{TakesMember, paths_conflict as list_conflicts};
+ghost use Rattle.dv_row.specs.Inner.ExpressionView.{expression_seen, named};
 ghost use Rattle.dv_row.specs.Parsing.{Gives};
 ghost use Rattle.dv_row.specs.ProjectParsing as defined;
 ghost use Rattle.dv_row.specs.declared.fault.PipelineFault.TheVariants.{Conflict};

@@ -1,9 +1,9 @@
 //! Conflicts among paths.
 
 ghost use Rattle.std.specs.Prelude.{◌≡◌};
-ghost use Rattle.dv_row.specs.Conflicts as defined;
+ghost use Rattle.dv_row.specs.Inner.Conflicts as defined;
 ghost use Rattle.dv_row.specs.ProjectParsing.{one_begins as seen_begins};
-ghost use Rattle.dv_row.specs.Ways.{Ascend};
+ghost use Rattle.dv_row.specs.Inner.Ways.{Ascend};
 
 use crate::ways::sort;
 use dv_candidates::{Component, Path};

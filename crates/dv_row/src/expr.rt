@@ -5,8 +5,8 @@ ghost use Rattle.std.specs.Option.{option_map};
 ghost use Rattle.dv_value.specs.Tree.{fields_of};
 ghost use Rattle.dv_value.specs.View.{tree};
 ghost use Rattle.dv_row.specs.Expressions as defined;
-ghost use Rattle.dv_row.specs.ExpressionView.{expression_seen, named};
-ghost use Rattle.dv_row.specs.RowValueView.{row_value};
+ghost use Rattle.dv_row.specs.Inner.ExpressionView.{expression_seen, named};
+ghost use Rattle.dv_row.specs.Inner.RowValueView.{row_value};
 
 use crate::row_value::{RowValue, made, path_value};
 use dv_candidates::Path;
@@ -48,20 +48,20 @@ impl Model for Computed {
     ghost use Rattle.std.specs.Prelude.{map};
     ghost use Rattle.dv_row.specs.Expressions as forms;
     ghost use Rattle.dv_row.specs.Expressions.{computed_of, computed_weight};
-    ghost use Rattle.dv_row.specs.ExpressionCode.{coded_computed};
+    ghost use Rattle.dv_row.specs.Inner.ExpressionCode.{coded_computed};
 
     ghost Value = { forms.Computed };
 
     ghost coded = { coded_computed };
 
-    ghost use Rattle.dv_row.specs.ExpressionView.{named};
+    ghost use Rattle.dv_row.specs.Inner.ExpressionView.{named};
 
     ghost view = { λ c. computed_of (map named c.fields.items) };
 
     ghost size = { computed_weight };
 
     ghost use Rattle.std.proofs.Common.{arith};
-    ghost use Rattle.dv_row.specs.ExpressionFalls.{computed_fall};
+    ghost use Rattle.dv_row.specs.Inner.ExpressionFalls.{computed_fall};
 
     ghost size_decreases = { λ c h. omega (arith, computed_fall c.fields.items) };
 }

@@ -4,7 +4,7 @@ ghost use Rattle.std.specs.Prelude.{◌≡◌, true};
 ghost use Rattle.std.specs.Option.{option_map};
 ghost use Rattle.dv_value.specs.Tree.{string, fields_of};
 ghost use Rattle.dv_value.specs.View.{tree};
-ghost use Rattle.dv_row.specs.ExpressionView.{expression_seen, named};
+ghost use Rattle.dv_row.specs.Inner.ExpressionView.{expression_seen, named};
 ghost use Rattle.dv_row.specs.Parsing.{Gives};
 ghost use Rattle.dv_row.specs.ExpressionParsing as defined;
 

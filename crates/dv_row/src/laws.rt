@@ -10,7 +10,7 @@ ghost use Rattle.dv_value.specs.Tree.{Tree, array, document, null, Elements, no_
 ghost use Rattle.dv_path.specs.Placing.{put};
 ghost use Rattle.dv_path.specs.Removing.{remove};
 ghost use Rattle.dv_row.specs.declared.fault.PipelineFault.TheVariants.{BadSpec};
-ghost use Rattle.dv_row.specs.Examples.{shown};
+ghost use Rattle.dv_row.specs.Inner.Examples.{shown};
 ghost use Rattle.dv_value.specs.Short.{int, long, text, doc, list};
 ghost use Rattle.dv_row.specs.declared.project.Project as projects;
 ghost use Rattle.dv_row.specs.declared.project.Project.TheVariants.{Exclude, Include};
@@ -21,9 +21,9 @@ ghost use Rattle.dv_row.specs.Parsing.{unwind_in, unwinding};
 ghost use Rattle.dv_row.specs.Projecting.{paths_behind, projected};
 ghost use Rattle.dv_row.specs.ProjectParsing.{project_in};
 ghost use Rattle.dv_row.specs.Row.{Row};
-ghost use Rattle.dv_row.specs.Shown.{AreNamesApart, Level, bare_level, begins_with_name, computed_fields, has_parts, is_alone, is_met, is_named, names, way_through, within};
+ghost use Rattle.dv_row.specs.Inner.Shown.{AreNamesApart, Level, bare_level, begins_with_name, computed_fields, has_parts, is_alone, is_met, is_named, names, way_through, within};
 ghost use Rattle.dv_row.specs.Unwinding.{reached, unwound};
-ghost use Rattle.dv_row.specs.Valid.{AreValid, IsValid};
+ghost use Rattle.dv_row.specs.Inner.Valid.{AreValid, IsValid};
 
 /// What is made of a valid row is valid, if the form was read from a valid value.
 #[tactic(auto, using(crate::proofs::Sound::value_valid, crate::proofs::Sound::row_valid, crate::proofs::Sound::unwound_valid))]

@@ -4,7 +4,7 @@ ghost use Rattle.std.specs.Prelude.{◌≡◌, Bool, IfOk, IfSome};
 ghost use Rattle.dv_value.specs.Tree.{document as entered, fields_of};
 ghost use Rattle.dv_value.specs.View.{tree};
 ghost use Rattle.dv_row.specs.Projecting.{left_of_value, left_inside};
-ghost use Rattle.dv_row.specs.Turns.{IsFresh, fields_to_go, fields_behind, left_at_end, left_around};
+ghost use Rattle.dv_row.specs.Inner.Turns.{IsFresh, fields_to_go, fields_behind, left_at_end, left_around};
 
 use crate::expr::{push_field, row_beside};
 use crate::ways::Ways;

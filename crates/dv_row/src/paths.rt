@@ -1,7 +1,7 @@
 //! Lists of paths.
 
 ghost use Rattle.std.specs.Prelude.{◌≡◌, IfOk};
-ghost use Rattle.dv_row.specs.Ways.{AreSame};
+ghost use Rattle.dv_row.specs.Inner.Ways.{AreSame};
 
 use crate::ways::{Ways, sort};
 use dv_candidates::Path;
@@ -18,7 +18,7 @@ pub struct Paths {
 
 impl Model for Paths {
     ghost use Rattle.std.specs.Prelude.{List, ℕ};
-    ghost use Rattle.dv_row.specs.Ways.{IsInOrder};
+    ghost use Rattle.dv_row.specs.Inner.Ways.{IsInOrder};
 
     ghost Value = { List (List (List ℕ)) };
 

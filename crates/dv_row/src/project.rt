@@ -6,7 +6,7 @@ ghost use Rattle.dv_value.specs.Tree.{fields_of, elements_of, list_of_elements};
 ghost use Rattle.dv_value.specs.View.{tree};
 ghost use Rattle.dv_value.specs.Names.{AreNamed};
 ghost use Rattle.dv_row.specs.Projecting as defined;
-ghost use Rattle.dv_row.specs.Turns.{IsTurn};
+ghost use Rattle.dv_row.specs.Inner.Turns.{IsTurn};
 
 use crate::expr::{Computed, push_field};
 use crate::level::{Level, Turn, led_into};

@@ -7,7 +7,7 @@ ghost use Rattle.std.specs.List.{list_all};
 ghost use Rattle.dv_row.specs.Parsing as parsing;
 ghost use Rattle.dv_row.specs.Parsing.{Gives};
 ghost use Rattle.dv_row.specs.Unwinding as defined;
-ghost use Rattle.dv_row.specs.UnwoundRows.{rows_of_origin};
+ghost use Rattle.dv_row.specs.Inner.UnwoundRows.{rows_of_origin};
 
 use crate::fault::PipelineFault;
 use crate::field_path::field_path;

@@ -1,7 +1,7 @@
 //! The rows of an `$unwind`, one by one.
 
 ghost use Rattle.std.specs.Prelude.{◌≡◌, ◌<◌, Some, IfOk, length, slice_get};
-ghost use Rattle.dv_row.specs.UnwoundRows.{rows_of_origin};
+ghost use Rattle.dv_row.specs.Inner.UnwoundRows.{rows_of_origin};
 
 use crate::way::Way;
 use dv_value::{Document, NoMemory, Value};
@@ -29,9 +29,9 @@ pub struct UnwoundRows<'a> {
 impl<'a> Model for UnwoundRows<'a> {
     ghost use Rattle.std.specs.Prelude.{List};
     ghost use Rattle.std.specs.Coded.{coded_list, coded×, coded_ℕ};
-    ghost use Rattle.dv_value.specs.TreeCode.{coded_tree};
+    ghost use Rattle.dv_value.specs.Inner.TreeCode.{coded_tree};
     ghost use Rattle.dv_row.specs.Row.{Row};
-    ghost use Rattle.dv_row.specs.UnwoundRows.{rows_of_origin};
+    ghost use Rattle.dv_row.specs.Inner.UnwoundRows.{rows_of_origin};
 
     ghost Value = { List Row };
 

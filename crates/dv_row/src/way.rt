@@ -6,7 +6,7 @@ ghost use Rattle.dv_candidates.specs.Candidates.{Candidate};
 ghost use Rattle.dv_value.specs.Names.{value_under};
 ghost use Rattle.dv_value.specs.Tree.{document as document_tree, Field, fields_of};
 ghost use Rattle.dv_value.specs.View.{tree};
-ghost use Rattle.dv_row.specs.Crossings.{set_inward, set_on_way};
+ghost use Rattle.dv_row.specs.Inner.Crossings.{set_inward, set_on_way};
 ghost use Rattle.dv_row.specs.Unwinding.{in_document, reached, set_through, set_under};
 
 use dv_candidates::{Component, Path, behind};

@@ -5,7 +5,7 @@ ghost use Rattle.std.specs.List.{list_any};
 ghost use Rattle.std.specs.List.Sorted.{IsPermutation};
 ghost use Rattle.std.specs.Ordering.{is_lt, is_le};
 ghost use Rattle.dv_row.specs.Projecting as defined;
-ghost use Rattle.dv_row.specs.Ways.{Ascend, way_beside as seen_beside, name_order, way_order};
+ghost use Rattle.dv_row.specs.Inner.Ways.{Ascend, way_beside as seen_beside, name_order, way_order};
 
 use dv_candidates::{Component, Path};
 use std::cmp::Ordering;
@@ -21,7 +21,7 @@ pub(crate) struct Ways<'a> {
 
 impl<'a> Model for Ways<'a> {
     ghost use Rattle.std.specs.Prelude.{List, ℕ, map, drop};
-    ghost use Rattle.dv_row.specs.Ways.{Ascend};
+    ghost use Rattle.dv_row.specs.Inner.Ways.{Ascend};
 
     ghost Value = { List (List (List ℕ)) };
 

@@ -6,7 +6,7 @@ use Rattle.std.proofs.lemmas.List.Splits.{slice_split-cons_no, slice_split-cons_
 use Rattle.std.specs.Io.KnownBytes.{Appends}
 use Rattle.std.specs.List.{onto_first, slice_split}
 use Rattle.dv_wire.specs.Schedule.{World}
-use Rattle.dv_scripts.specs.Pieces.{StopsIn, TakesPiece}
+use Rattle.dv_scripts.specs.Inner.Pieces.{StopsIn, TakesPiece}
 use Rattle.dv_scripts.specs.Script.{DoesLine, DoesLines, HasNoLf, IsBad, OpenSessions, is_lf}
 use Rattle.dv_scripts.specs.Stops.{EndsAt}
 use Rattle.dv_words.specs.declared.fault.ScriptFault.{ScriptFault}

@@ -9,7 +9,7 @@ use Rattle.std.specs.List.{slice_split}
 use Rattle.dv_wire.specs.Schedule.{World}
 use Rattle.dv_wire.specs.Service.{AsksFew, most_reads}
 use Rattle.dv_streams.specs.Stream.{MoreBy, once_more}
-use Rattle.dv_scripts.specs.Pieces.{StopsIn, TakesPiece}
+use Rattle.dv_scripts.specs.Inner.Pieces.{StopsIn, TakesPiece}
 use Rattle.dv_scripts.specs.Script.{DoesLine, DoesLines, HasNoLf, Runs, OpenSessions, no_sessions, is_lf, standing_of}
 use Rattle.dv_scripts.specs.Stops.{AsksForScript, DoesWhole, EndsAt, FailsWriting, OfScript, StopsScript, StopsBy, script_read_failed, script_write_failed}
 use Rattle.dv_streams.specs.Failures.{failures_behind, failures_told}

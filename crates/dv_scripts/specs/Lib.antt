@@ -1,5 +1,6 @@
 pub mod Events
 pub mod Output
-pub mod Pieces
 pub mod Script
 pub mod Stops
+-- what only bodies and proofs need
+pub mod Inner

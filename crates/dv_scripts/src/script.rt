@@ -5,7 +5,7 @@ ghost use Rattle.std.specs.Io.KnownBytes.{Appends, Keeps};
 ghost use Rattle.dv_scripts.specs.Script.{DoesOneLine, DoesLine, Finds, HasNoLf, Runs, OpenSessions, no_sessions, open_fault, standing_of};
 ghost use Rattle.dv_scripts.specs.Stops.{AsksForScript, EndsAt, FailsWriting, OfScript, OpensNone, StopsBy, StopsLine, script_read_failed, script_write_failed};
 ghost use Rattle.dv_streams.specs.Failures.{failures_behind, failures_told};
-ghost use Rattle.dv_scripts.specs.Pieces.{StopsIn, TakesPiece};
+ghost use Rattle.dv_scripts.specs.Inner.Pieces.{StopsIn, TakesPiece};
 
 use crate::output::{end_text, fed_text};
 use crate::sessions::{Session, Sessions};

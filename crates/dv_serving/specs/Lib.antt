@@ -1,3 +1,4 @@
-pub mod Faults
 pub mod Listen
 pub mod Serve
+-- what only bodies and proofs need
+pub mod Inner

@@ -2,7 +2,7 @@
 
 ghost use Rattle.std.specs.Prelude.{◌≡◌};
 ghost use Rattle.dv_message.specs.Fault.{close_number};
-ghost use Rattle.dv_serving.specs.Faults.{fault_of_run};
+ghost use Rattle.dv_serving.specs.Inner.Faults.{fault_of_run};
 
 use crate::serve::ServeFault;
 use dv_wire::{CloseFault, HubFault, RunFault};
@@ -28,7 +28,7 @@ pub fn of_run(fault: RunFault) -> DocdFault
 }
 
 impl From<ServeFault> for DocdFault {
-    ghost use Rattle.dv_serving.specs.Faults.{fault_of_serve};
+    ghost use Rattle.dv_serving.specs.Inner.Faults.{fault_of_serve};
 
     ghost from_gives = { λ fault e. e ≡ fault_of_serve fault };
 

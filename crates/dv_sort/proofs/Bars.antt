@@ -10,9 +10,10 @@ use Rattle.dv_value.specs.Tree.{Field}
 use Rattle.dv_order.specs.Key.{KeyTree}
 use Rattle.dv_path.specs.SortSpec.{Part}
 use Rattle.dv_sort.specs.declared.row.Row.{Row}
-use Rattle.dv_sort.specs.Bar.{AreBefore, IsBar, is_behind}
+use Rattle.dv_sort.specs.Inner.Bar.{AreBefore, IsBar, is_behind}
 use Rattle.dv_sort.specs.Front.{with_row, front_of}
-use Rattle.dv_sort.specs.Keys.{row_keys, keys_order, HasKeysOf, AreKeyed, documents}
+use Rattle.dv_sort.specs.Keys.{documents}
+use Rattle.dv_sort.specs.Inner.Keys.{row_keys, keys_order, HasKeysOf, AreKeyed}
 use Rattle.dv_sort.specs.Sorting.{stands_before, placed, ordered, stable}
 use Rattle.dv_sort.proofs.Insertion.{inserts, front-placed, ordered-push, Up, up-ordered}
 use Rattle.dv_sort.proofs.Kept.{front-kept}

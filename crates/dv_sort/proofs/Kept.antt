@@ -9,7 +9,8 @@ use Rattle.dv_path.specs.SortSpec.{Part}
 use Rattle.dv_sort.specs.declared.row.Row.{Row}
 use Rattle.dv_sort.specs.Sorting.{stands_before, stable, front}
 use Rattle.dv_sort.specs.Front.{no_rows, with_row, front_of}
-use Rattle.dv_sort.specs.Keys.{keys_order, keys_before, HasKeysOf, AreKeyed, documents}
+use Rattle.dv_sort.specs.Keys.{documents}
+use Rattle.dv_sort.specs.Inner.Keys.{keys_order, keys_before, HasKeysOf, AreKeyed}
 use Rattle.dv_sort.proofs.Insertion.{only-order, map-ordered, ordered-push, ordered-up, up-ordered, up-take, front-placed}
 use Rattle.dv_sort.proofs.Standing.{before-is, before-ranks, ranks-by-keys}
 

@@ -7,13 +7,13 @@ use Rattle.std.specs.declared.cmp.Ordering.TheVariants.{Less, Equal, Greater}
 use Rattle.std.proofs.lemmas.List.MinMax.{ranks_by}
 use Rattle.dv_value.specs.Tree.{Field}
 use Rattle.dv_order.specs.Key.{KeyTree, no_element}
-use Rattle.dv_order.specs.KeyLaws.{key_order_total}
+use Rattle.dv_order.specs.Inner.KeyLaws.{key_order_total}
 use Rattle.dv_path.specs.declared.direction.Direction.{Direction}
 use Rattle.dv_path.specs.declared.direction.Direction.TheVariants.{Ascending, Descending}
 use Rattle.dv_path.specs.SortKey.{sort_key, stands_first}
 use Rattle.dv_path.specs.SortSpec.{Part}
 use Rattle.dv_sort.specs.Sorting.{stands_before}
-use Rattle.dv_sort.specs.Keys.{row_keys, directed, keys_order}
+use Rattle.dv_sort.specs.Inner.Keys.{row_keys, directed, keys_order}
 
 directed_total : (d : Direction) → IsTotalOrder (directed d)
 directed_total Ascending = key_order_total

@@ -1,4 +1,5 @@
 pub mod Sorting
 pub mod Front
 pub mod Keys
-pub mod Bar
+-- what only bodies and proofs need
+pub mod Inner

@@ -2,7 +2,7 @@
 
 ghost use Rattle.std.specs.Prelude.{◌≡◌, map};
 ghost use Rattle.dv_path.specs.Parts.{part};
-ghost use Rattle.dv_sort.specs.Keys as defined;
+ghost use Rattle.dv_sort.specs.Inner.Keys as defined;
 
 use dv_order::Key;
 use dv_path::{Direction, SortPart};

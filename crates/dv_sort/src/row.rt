@@ -1,8 +1,9 @@
 //! Documents with the keys that they are sorted by.
 
 ghost use Rattle.std.specs.Prelude.{◌≡◌, IfOk, OnErr, OnOk};
-ghost use Rattle.dv_sort.specs.Keys as defined;
-ghost use Rattle.dv_sort.specs.Keys.{AreKeyed, documents};
+ghost use Rattle.dv_sort.specs.Inner.Keys as defined;
+ghost use Rattle.dv_sort.specs.Keys.{documents};
+ghost use Rattle.dv_sort.specs.Inner.Keys.{AreKeyed};
 ghost use Rattle.dv_sort.specs.Sorting.{stable};
 
 use crate::order::order_of;

@@ -2,9 +2,10 @@
 
 ghost use Rattle.std.specs.Prelude.{◌≡◌, ◌≤◌, length, take, slice_get, IfOk, IfSome, OnErr, OnOk};
 ghost use Rattle.std.specs.Option.{option_map};
-ghost use Rattle.dv_sort.specs.Bar.{IsBar, is_behind};
+ghost use Rattle.dv_sort.specs.Inner.Bar.{IsBar, is_behind};
 ghost use Rattle.dv_sort.specs.Front.{no_rows, with_row};
-ghost use Rattle.dv_sort.specs.Keys.{AreKeyed, documents};
+ghost use Rattle.dv_sort.specs.Keys.{documents};
+ghost use Rattle.dv_sort.specs.Inner.Keys.{AreKeyed};
 ghost use Rattle.dv_sort.specs.Sorting.{front, stable};
 
 use crate::order::order_of;
@@ -30,15 +31,17 @@ pub struct Sorter<'a> {
 }
 
 impl<'a> Model for Sorter<'a> {
-    ghost use Rattle.dv_sort.specs.Front.{Front, front_of, coded_front};
+    ghost use Rattle.dv_sort.specs.Front.{Front, front_of};
+    ghost use Rattle.dv_sort.specs.Inner.Front.{coded_front};
 
     ghost Value = { Front };
 
     ghost coded = { coded_front };
 
     ghost use Rattle.std.specs.Prelude.{IfSome};
-    ghost use Rattle.dv_sort.specs.Bar.{IsBar};
-    ghost use Rattle.dv_sort.specs.Keys.{AreKeyed, documents};
+    ghost use Rattle.dv_sort.specs.Inner.Bar.{IsBar};
+    ghost use Rattle.dv_sort.specs.Keys.{documents};
+    ghost use Rattle.dv_sort.specs.Inner.Keys.{AreKeyed};
 
     ghost view = { λ s. front_of s.spec.now s.most (documents s.rows.items) };
 

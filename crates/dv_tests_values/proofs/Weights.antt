@@ -1,9 +1,10 @@
 -- What stands in a document or a list weighs less than it does.
 use Rattle.std.specs.Prelude.{◌≡◌, ℕ, List, Some, map, slice_get, slice_index_or, length}
 use Rattle.std.proofs.Common.{◌≤◌, ◌<◌}
-use Rattle.dv_value.specs.Tree.{Tree, Field, weight, fields_of, fields_weight, elements_of, elements_weight}
+use Rattle.dv_value.specs.Tree.{Tree, Field, fields_of, elements_of}
+use Rattle.dv_value.specs.Inner.Tree.{weight, fields_weight, elements_weight}
 use Rattle.dv_value.specs.View.{tree}
-use Rattle.dv_value.specs.Weight as weights
+use Rattle.dv_value.specs.Inner.Weight as weights
 use Rattle.dv_value.specs.declared.value.Value.{Value}
 
 pub field_falls : (fs : List Field) (place : ℕ) (name : List ℕ) (value : Tree) → Some (name, value) ≡ slice_get fs place → weight value ≤ fields_weight (fields_of fs)

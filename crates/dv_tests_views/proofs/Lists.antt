@@ -3,7 +3,7 @@ use Rattle.std.proofs.Common.{◌≡◌, ℕ, List, [], ◌∷◌, sym, subst}
 use Rattle.std.specs.List.{AllByRecursion}
 use Rattle.std.specs.List.Sorted.{IsStrictlySortedBy}
 use Rattle.dv_pipe.specs.Sources.{Source, lists_of}
-use Rattle.dv_views.specs.Views.{AreInOrder}
+use Rattle.dv_views.specs.Inner.Views.{AreInOrder}
 
 none_in_order : AreInOrder []
 unfolding IsStrictlySortedBy

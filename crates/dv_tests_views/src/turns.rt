@@ -2,7 +2,7 @@
 
 ghost use Rattle.std.specs.List.{AllByRecursion};
 ghost use Rattle.std.specs.Prelude.{◌≡◌, [], IfOk, OnOk};
-ghost use Rattle.dv_change.specs.Linked.{IsLinked, first_left};
+ghost use Rattle.dv_change.specs.Inner.Linked.{IsLinked, first_left};
 
 use dv_change::{
     Chain, Change, Input, Live, Ordered, Part, Pos, Taken, Ticks, Turn, hand_on, take_in,

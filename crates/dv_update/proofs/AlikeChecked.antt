@@ -5,9 +5,9 @@ use Rattle.std.proofs.lemmas.Bool.Decides.{nat_tests}
 use Rattle.dv_value.specs.Spelling.{payload, levels, spelling}
 use Rattle.dv_value.specs.Tree.{Tree, document, Field, fields_of, list_of_fields}
 use Rattle.dv_order.specs.Same.{both_same, is_same}
-use Rattle.dv_order.specs.SameLaws.{same-is}
+use Rattle.dv_order.specs.Inner.SameLaws.{same-is}
 use Rattle.dv_update.specs.Apply.{leading_id, is_id, checked, document_limit, level_limit}
-use Rattle.dv_update.specs.StandIn.{down_to, fields_down_to, Alike, most_levels}
+use Rattle.dv_update.specs.Inner.StandIn.{down_to, fields_down_to, Alike, most_levels}
 use Rattle.dv_update.specs.declared.fault.UpdateFault.{UpdateFault}
 use Rattle.dv_update.specs.declared.fault.UpdateFault.TheVariants.{IdChanged, TooLarge, TooDeep}
 use Rattle.dv_update.proofs.DownTo.{document-marked}

@@ -9,7 +9,7 @@ use Rattle.dv_value.specs.Tree.{Tree, document, array, Fields, no_fields, field,
 use Rattle.dv_value.specs.Names.{value_under}
 use Rattle.dv_candidates.specs.Path.{index_of}
 use Rattle.dv_path.specs.Slots.{Slot, taken, free, blocked, slot_of, element_slot, next_slot, slot_behind}
-use Rattle.dv_update.specs.StandIn.{in_one_piece, down_to, fields_down_to}
+use Rattle.dv_update.specs.Inner.StandIn.{in_one_piece, down_to, fields_down_to}
 use Rattle.dv_update.proofs.DownTo.{Path, below, value-marked, element-there, fields-opened, elements-opened}
 use Rattle.dv_update.proofs.Items.{fields_again, elements_again}
 use Rattle.dv_update.proofs.Lengths.{length-binary}

@@ -9,7 +9,7 @@ use Rattle.dv_path.specs.Slots.{Slot, taken, free, blocked, slot_of, slot_behind
 use Rattle.dv_update.specs.Apply.{told, set_at, increased, appended, left, pull_from, edit_at}
 use Rattle.dv_value.specs.Results.{◌>>=◌}
 use Rattle.dv_update.specs.Removals.{is_removal}
-use Rattle.dv_update.specs.StandIn.{in_one_piece, down_to, fields_down_to, Alike, most_levels, IsShallow, PullsShallow}
+use Rattle.dv_update.specs.Inner.StandIn.{in_one_piece, down_to, fields_down_to, Alike, most_levels, IsShallow, PullsShallow}
 use Rattle.dv_update.specs.Update.{Operation, assign, take_away, increase, append, pull, Pulled}
 use Rattle.dv_update.specs.declared.number.Number.{Number}
 use Rattle.dv_update.specs.declared.fault.UpdateFault.{UpdateFault}

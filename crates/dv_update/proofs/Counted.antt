@@ -11,13 +11,13 @@ use Rattle.dv_path.specs.Placing.{put}
 use Rattle.dv_path.specs.Slots.{Slot, taken, free, blocked, slot_of, element_slot, next_slot, slot_behind, slot}
 use Rattle.dv_candidates.specs.declared.fault.PathFault.{PathFault}
 use Rattle.dv_update.specs.Apply.{Path, told, set_at, increased, appended, pull_from, edit_at, edited}
-use Rattle.dv_update.specs.Collected.{Steps}
-use Rattle.dv_update.specs.Filling.{Fill, fill_of, before, fills, array_of, place_of, least, leads_into_same, least_size}
+use Rattle.dv_update.specs.Inner.Collected.{Steps}
+use Rattle.dv_update.specs.Inner.Filling.{Fill, fill_of, before, fills, array_of, place_of, least, leads_into_same, least_size}
 use Rattle.dv_update.specs.Parsing.{conflicts, has_conflict}
 use Rattle.dv_value.specs.Results.{◌>>=◌}
 use Rattle.dv_update.specs.PathOrder.{path_order, begins}
 use Rattle.dv_update.specs.Removals.{is_removal, other_edits}
-use Rattle.dv_update.specs.StandIn.{new_value}
+use Rattle.dv_update.specs.Inner.StandIn.{new_value}
 use Rattle.dv_update.specs.Update.{Operation, assign, take_away, increase, append, pull, Pulled, Edit}
 use Rattle.dv_update.specs.declared.fault.UpdateFault.{UpdateFault}
 use Rattle.dv_update.proofs.Elements.{array-long}

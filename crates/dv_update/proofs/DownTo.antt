@@ -8,7 +8,7 @@ use Rattle.dv_candidates.specs.Path.{index_of}
 use Rattle.dv_path.specs.Placing.{result_map, with_field, with_element, put_field, put_element, put_behind}
 use Rattle.dv_candidates.specs.declared.fault.PathFault.{PathFault}
 use Rattle.dv_candidates.specs.declared.fault.PathFault.TheVariants.{IndexTooLarge}
-use Rattle.dv_update.specs.StandIn.{down_to, fields_down_to}
+use Rattle.dv_update.specs.Inner.StandIn.{down_to, fields_down_to}
 use Rattle.dv_update.proofs.Items.{fields_again, elements_again}
 
 abbrev pub Path : Type 0

@@ -3,7 +3,7 @@ use Rattle.std.proofs.Common.{◌≡◌, ap, ℕ, zero, suc, ◌+◌, ◌-◌, �
 use Rattle.std.proofs.lemmas.Fmt.{decimal_by_steps}
 use Rattle.dv_value.specs.Spelling.{payload}
 use Rattle.dv_value.specs.Tree.{Tree, array, Elements, elements_of, list_of_elements}
-use Rattle.dv_update.specs.Filling.{elements_least, least}
+use Rattle.dv_update.specs.Inner.Filling.{elements_least, least}
 use Rattle.dv_update.proofs.AlikeDown.{length-array, length-item}
 use Rattle.dv_update.proofs.PutThere.{elements-again}
 use Rattle.dv_update.proofs.Putting.{items}

@@ -13,7 +13,7 @@ use Rattle.dv_update.specs.Apply.{told, set_at, number_tree, increased, appended
 use Rattle.dv_value.specs.Results.{◌>>=◌}
 use Rattle.dv_update.specs.PathOrder.{begins}
 use Rattle.dv_update.specs.Removals.{is_removal}
-use Rattle.dv_update.specs.StandIn.{in_one_piece, down_to, Alike, most_levels, names_length, IsLastWay, parting, IsLast, new_value}
+use Rattle.dv_update.specs.Inner.StandIn.{in_one_piece, down_to, Alike, most_levels, names_length, IsLastWay, parting, IsLast, new_value}
 use Rattle.dv_update.specs.Update.{Operation, assign, take_away, increase, append, pull}
 use Rattle.dv_update.specs.declared.fault.UpdateFault.{UpdateFault}
 use Rattle.dv_update.specs.declared.fault.UpdateFault.TheVariants as faults

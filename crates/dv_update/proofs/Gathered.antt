@@ -4,7 +4,7 @@ use Rattle.dv_value.specs.Tree.{Field}
 use Rattle.dv_update.specs.declared.fault.UpdateFault.{UpdateFault}
 use Rattle.dv_update.specs.declared.fault.UpdateFault.TheVariants.{NoMemory}
 use Rattle.dv_update.specs.declared.operator.Operator.{Operator}
-use Rattle.dv_update.specs.Collected.{behind}
+use Rattle.dv_update.specs.Inner.Collected.{behind}
 use Rattle.dv_update.specs.Parsing.{Gives, operator_named, edit_by, edits_by, edits_under, edits_in}
 use Rattle.dv_value.specs.Results.{◌>>=◌}
 use Rattle.dv_update.specs.Update.{Edit}

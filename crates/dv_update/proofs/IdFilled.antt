@@ -8,11 +8,11 @@ use Rattle.dv_value.specs.Names.{value_under}
 use Rattle.dv_value.specs.Results.{◌>>=◌}
 use Rattle.dv_value.specs.Tree.{Tree, null, Field}
 use Rattle.dv_order.specs.Same.{both_same, is_same}
-use Rattle.dv_order.specs.SameLaws.{and-left, and-right, same-is}
+use Rattle.dv_order.specs.Inner.SameLaws.{and-left, and-right, same-is}
 use Rattle.dv_path.specs.Placing.{put}
 use Rattle.dv_path.specs.Slots.{Slot, taken, free, slot_of, slot_behind, slot}
 use Rattle.dv_update.specs.Apply.{Path, edit_at, edited, is_id, leading_id, checked}
-use Rattle.dv_update.specs.Filling.{Fill, fills_id, leads_into_id, judged}
+use Rattle.dv_update.specs.Inner.Filling.{Fill, fills_id, leads_into_id, judged}
 use Rattle.dv_update.specs.Parsing.{conflicts, has_conflict}
 use Rattle.dv_update.specs.PathOrder.{begins}
 use Rattle.dv_update.specs.Removals.{is_removal, other_edits}

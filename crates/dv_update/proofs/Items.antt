@@ -6,7 +6,7 @@ use Rattle.std.specs.Str.{bytes_eq}
 use Rattle.dv_value.specs.Tree.{no_fields, field, Tree, Field, fields_of, list_of_fields, elements_of, list_of_elements}
 use Rattle.dv_value.specs.View.{tree}
 use Rattle.dv_value.specs.declared.value.Value.{Value}
-use Rattle.dv_update.specs.Collected.{last_begins}
+use Rattle.dv_update.specs.Inner.Collected.{last_begins}
 use Rattle.dv_update.specs.PathOrder.{begins}
 use Rattle.dv_update.specs.Parsing.{each_alone, members}
 use Rattle.dv_update.specs.View.{edit}

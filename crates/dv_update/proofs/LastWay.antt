@@ -14,8 +14,8 @@ use Rattle.dv_path.specs.Placing.{result_map, with_field, with_element, put_fiel
 use Rattle.dv_candidates.specs.declared.fault.PathFault.TheVariants.{IndexTooLarge}
 use Rattle.dv_path.specs.Slots.{taken, free, blocked, slot_of, element_slot, slot_behind, slot}
 use Rattle.dv_update.specs.PathOrder.{component_order}
-use Rattle.dv_update.specs.PathOrderLaws.{component_order_total}
-use Rattle.dv_update.specs.StandIn.{names_length, IsLastWay, parted, parting}
+use Rattle.dv_update.specs.Inner.PathOrderLaws.{component_order_total}
+use Rattle.dv_update.specs.Inner.StandIn.{names_length, IsLastWay, parted, parting}
 use Rattle.dv_update.proofs.AlikeDown.{length-document, length-field}
 use Rattle.dv_update.proofs.DownTo.{Path}
 use Rattle.dv_update.proofs.Items.{fields_again}

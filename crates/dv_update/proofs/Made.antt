@@ -9,7 +9,7 @@ use Rattle.dv_update.specs.Apply.{Path, told, set_at, is_pulled, left}
 use Rattle.dv_order.specs.Same.{is_same}
 use Rattle.dv_update.specs.Update.{Pulled}
 use Rattle.dv_update.proofs.PutThere.{put-again}
-use Rattle.dv_order.specs.SameLaws.{same-is}
+use Rattle.dv_order.specs.Inner.SameLaws.{same-is}
 
 -- to set what stands there changes nothing
 pub set_there : (d : List Field) (path : Path) (w v : Tree) → taken w ≡ slot d path → true ≡ is_same w v → set_at path v d ≡ Ok d

@@ -20,14 +20,14 @@ use Rattle.dv_path.specs.Slots.{Slot, free, blocked, slot_of, element_slot, slot
 use Rattle.dv_candidates.specs.declared.fault.PathFault.{PathFault}
 use Rattle.dv_candidates.specs.declared.fault.PathFault.TheVariants.{NotViable, IndexTooLarge}
 use Rattle.dv_update.specs.Apply.{Path}
-use Rattle.dv_update.specs.Filling.{beyond, beyond_array, beyond_element}
+use Rattle.dv_update.specs.Inner.Filling.{beyond, beyond_array, beyond_element}
 use Rattle.dv_update.specs.PathOrder.{component_order, path_order, begins}
 use Rattle.dv_update.proofs.Items.{fields_again, elements_again}
 use Rattle.dv_update.proofs.Paths.{component-exact}
 use Rattle.dv_update.proofs.Putting.{made-by, may-stand, element-made, places-apart, value-at, value-other, element-at}
 use Rattle.dv_update.proofs.RemovalsLast.{SlotsStay}
 use Rattle.dv_update.proofs.Stepwise.{Before}
-use Rattle.dv_update.specs.PathOrderLaws.{component_order_total}
+use Rattle.dv_update.specs.Inner.PathOrderLaws.{component_order_total}
 
 -- ---- what an edit meets: what stands where its path leads, and why nothing can be put there
 

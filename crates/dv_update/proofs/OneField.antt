@@ -9,11 +9,12 @@ use Rattle.dv_value.specs.Results.{◌>>=◌}
 use Rattle.dv_value.specs.Spelling.{payload, spelling, levels, fields_levels}
 use Rattle.dv_value.specs.Tree.{Tree, document, array, Field, fields_of, Elements, elements_of, list_of_elements}
 use Rattle.dv_order.specs.Same.{both_same, is_same, same_fields}
-use Rattle.dv_order.specs.SameLaws.{same-itself, fields-itself}
+use Rattle.dv_order.specs.Inner.SameLaws.{same-itself, fields-itself}
 use Rattle.dv_path.specs.Placing.{with_field, put}
 use Rattle.dv_path.specs.Slots.{slot, slot_of, taken}
 use Rattle.dv_update.specs.Apply.{set_at, increased, appended, edit_at, checked, is_id, leading_id, document_limit, level_limit}
-use Rattle.dv_update.specs.Outcome.{HasRoom, value_by, applied_under, outcome_seen}
+use Rattle.dv_update.specs.Outcome.{outcome_seen}
+use Rattle.dv_update.specs.Inner.Outcome.{HasRoom, value_by, applied_under}
 use Rattle.dv_update.specs.Update.{Operation, assign, take_away, increase, append, pull}
 use Rattle.dv_update.specs.declared.fault.UpdateFault.{UpdateFault}
 use Rattle.dv_update.specs.declared.fault.UpdateFault.TheVariants.{IdChanged, TooLarge, TooDeep}

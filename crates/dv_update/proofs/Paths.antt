@@ -9,7 +9,7 @@ use Rattle.std.specs.declared.cmp.Ordering.TheVariants.{Less, Equal, Greater}
 use Rattle.std.proofs.lemmas.Map.Lookups.{exact_bytes}
 use Rattle.std.proofs.lemmas.Slice.Eq.{bytes_eq-Decides}
 use Rattle.dv_update.specs.PathOrder.{is_name, number_of, component_order, path_order, begins}
-use Rattle.dv_update.specs.PathOrderLaws.{component_order_total}
+use Rattle.dv_update.specs.Inner.PathOrderLaws.{component_order_total}
 
 abbrev Path : Type 0
 Path = List (List ℕ)

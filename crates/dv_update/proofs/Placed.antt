@@ -10,7 +10,7 @@ use Rattle.std.specs.declared.cmp.Ordering.{Ordering}
 use Rattle.std.specs.declared.cmp.Ordering.TheVariants.{Less, Equal, Greater}
 use Rattle.std.proofs.lemmas.List.Folds.{list_any-append}
 use Rattle.dv_update.specs.PathOrder.{path_order, begins}
-use Rattle.dv_update.specs.Collected.{last_begins}
+use Rattle.dv_update.specs.Inner.Collected.{last_begins}
 use Rattle.dv_update.specs.Parsing.{conflicts, has_conflict, placed, sorted}
 use Rattle.dv_update.specs.Update.{Edit}
 use Rattle.dv_update.specs.View.{entry, operation}

@@ -33,7 +33,7 @@ use Rattle.dv_update.specs.declared.number.Number.{Number}
 use Rattle.dv_update.specs.declared.number.Number.TheVariants.{Int32, Int64}
 use Rattle.dv_update.specs.declared.operator.Operator.{Operator}
 use Rattle.dv_update.specs.declared.operator.Operator.TheVariants.{Set, Unset, Inc, Push, Pull}
-use Rattle.dv_order.specs.SameLaws.{and-left, and-right}
+use Rattle.dv_order.specs.Inner.SameLaws.{and-left, and-right}
 use Rattle.dv_update.proofs.Texts.{IsUtf8-parts}
 use Rattle.dv_update.proofs.Valid.{either, IsName, AreNames, AreValues, AreValid, IsThere, listed-fields, fields-valid, valid-fields, listed-elements, valid-elements, value_under-valid, slot-valid, put-valid, remove-valid, with_id-valid}
 

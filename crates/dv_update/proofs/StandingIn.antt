@@ -11,8 +11,8 @@ use Rattle.dv_update.specs.OtherFaults.{of_path}
 use Rattle.dv_value.specs.Results.{◌>>=◌}
 use Rattle.dv_update.specs.PathOrder.{begins}
 use Rattle.dv_update.specs.Removals.{is_removal}
-use Rattle.dv_update.specs.StandIn.{in_one_piece, Alike, PullsShallow, IsLast, names_length, new_value, parting}
-use Rattle.dv_update.specs.Standing.{Stands, StandsFor, Becomes}
+use Rattle.dv_update.specs.Inner.StandIn.{in_one_piece, Alike, PullsShallow, IsLast, names_length, new_value, parting}
+use Rattle.dv_update.specs.Inner.Standing.{Stands, StandsFor, Becomes}
 use Rattle.dv_update.specs.Update.{Operation}
 use Rattle.dv_update.specs.declared.fault.UpdateFault.{UpdateFault}
 use Rattle.dv_update.specs.declared.fault.UpdateFault.TheVariants.{NoMemory, NotViable}

@@ -4,7 +4,7 @@ use Rattle.std.specs.List.{list_any, AllByRecursion}
 use Rattle.std.specs.declared.cmp.Ordering.TheVariants.{Less}
 use Rattle.dv_update.specs.Parsing.{conflicts, has_conflict}
 use Rattle.dv_update.specs.PathOrder.{path_order, begins}
-use Rattle.dv_update.specs.Collected.{Steps}
+use Rattle.dv_update.specs.Inner.Collected.{Steps}
 use Rattle.dv_update.specs.Update.{Edit}
 use Rattle.dv_update.specs.View.{edit}
 use Rattle.dv_update.specs.declared.form.Edit as memory

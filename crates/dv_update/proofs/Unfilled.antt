@@ -10,12 +10,12 @@ use Rattle.dv_path.specs.Placing.{field_with, with_field, put_behind, put}
 use Rattle.dv_path.specs.Slots.{Slot, taken, free, blocked, slot}
 use Rattle.dv_candidates.specs.declared.fault.PathFault.{PathFault}
 use Rattle.dv_update.specs.Apply.{Path, number_tree, told, set_at, increased, appended, pull_from, edit_at, edited, is_id}
-use Rattle.dv_update.specs.Collected.{Steps}
-use Rattle.dv_update.specs.Filling.{Fill, Made, beyond, leads_into_id, SameId, IsUnfilled}
+use Rattle.dv_update.specs.Inner.Collected.{Steps}
+use Rattle.dv_update.specs.Inner.Filling.{Fill, Made, beyond, leads_into_id, SameId, IsUnfilled}
 use Rattle.dv_update.specs.OtherFaults.{of_path}
 use Rattle.dv_value.specs.Results.{◌>>=◌}
 use Rattle.dv_update.specs.Removals.{is_removal, other_edits}
-use Rattle.dv_update.specs.StandIn.{new_value}
+use Rattle.dv_update.specs.Inner.StandIn.{new_value}
 use Rattle.dv_update.specs.Update.{Operation, assign, take_away, increase, append, pull, Pulled, Edit}
 use Rattle.dv_update.specs.declared.fault.UpdateFault.{UpdateFault}
 use Rattle.dv_update.proofs.Filled.{Fills}

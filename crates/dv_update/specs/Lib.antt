@@ -1,18 +1,12 @@
 pub mod Apply
-pub mod Collected
-pub mod Examples
 pub mod Fault
 pub mod OtherFaults
 pub mod Outcome
 pub mod Parsing
 pub mod PathOrder
-pub mod PathOrderLaws
-pub mod StandIn
-pub mod Standing
 pub mod Update
-pub mod UpdateCode
 pub mod UpdateView
 pub mod View
 pub mod Removals
-pub mod Filling
-pub mod FillView
+-- what only bodies and proofs need
+pub mod Inner

@@ -2,15 +2,10 @@
 use Rattle.std.specs.Prelude.{◌≡◌, ℕ, ◌+◌, ◌≤◌, Bool, true, false, List, [], ◌∷◌, length, Option, Some, None, Result, Ok, Err, codes, if◌then◌else◌}
 use Rattle.std.specs.Str.{bytes_eq}
 use Rattle.dv_value.specs.FieldChange.{with_field_changed}
-use Rattle.dv_value.specs.Results.{◌>>=◌}
-use Rattle.dv_value.specs.Spelling.{levels, payload, spelling}
-use Rattle.dv_value.specs.Tree.{Tree, document, Field, fields_of}
-use Rattle.dv_path.specs.Slots.{Slot}
-use Rattle.dv_update.specs.Apply.{Path, checked, edit_at, increased}
+use Rattle.dv_value.specs.Tree.{document, Field, fields_of}
+use Rattle.dv_update.specs.Apply.{Path}
 use Rattle.dv_order.specs.Same.{same_fields}
-use Rattle.dv_update.specs.Update.{Operation, assign, increase, Edit, Update, operators, replacement}
-use Rattle.dv_update.specs.declared.fault.UpdateFault.{UpdateFault}
-use Rattle.dv_update.specs.declared.fault.UpdateFault.TheVariants.{NotViable}
+use Rattle.dv_update.specs.Update.{Operation, Edit, Update, operators, replacement}
 use Rattle.dv_update.specs.declared.outcome.Outcome.{Outcome}
 use Rattle.dv_update.specs.declared.outcome.Outcome.TheVariants as told
 
@@ -54,19 +49,3 @@ is_field outcome = false
 -- a document is told to stay where it is spelled as it was
 abbrev pub stays_so : List ℕ → List Field → Outcome → Bool
 stays_so name d outcome = same_fields (fields_of d) (fields_of (outcome_seen name d outcome))
-
--- what an edit under a name makes of a document, or the first refusal
-abbrev pub applied_under : List ℕ → Operation → List Field → Result (List Field) UpdateFault
-applied_under name o d = edit_at (name ∷ []) o d >>= checked d
-
--- the value that comes where this stands, by an operator that doesn't look into documents and arrays
-abbrev pub value_by : Operation → Slot → Result Tree UpdateFault
-value_by (assign v) s = Ok v
-value_by (increase n) s = increased n s
-value_by o s = Err NotViable
-
--- the document stays within the limits with a value more, and so many bytes and levels around it
-pub record HasRoom (d : List Field) (around above : ℕ) (v : Tree) : Type 0 where
-  pub size : length (spelling d) + (length (payload v) + around) ≤ 16777216
-  pub inside : levels v + above ≤ 100
-  pub depth : levels (document (fields_of d)) ≤ 100

@@ -8,7 +8,7 @@ ghost use Rattle.dv_value.specs.View.{tree};
 ghost use Rattle.dv_update.specs.Apply as defined;
 ghost use Rattle.dv_update.specs.Parsing.{Gives};
 ghost use Rattle.dv_order.specs.Same.{both_same};
-ghost use Rattle.dv_update.specs.Standing.{Likewise};
+ghost use Rattle.dv_update.specs.Inner.Standing.{Likewise};
 ghost use Rattle.dv_update.specs.UpdateView.{update};
 ghost use Rattle.dv_update.specs.declared.fault.UpdateFault.TheVariants.{NoMemory as wanting};
 

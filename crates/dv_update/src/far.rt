@@ -3,7 +3,7 @@
 ghost use Rattle.std.specs.Prelude.{◌≡◌, ◌≤◌, true, drop, length, IfOk, IfSome};
 ghost use Rattle.std.specs.Option.{option_map};
 ghost use Rattle.dv_update.specs.PathOrder.{begins as begins_with};
-ghost use Rattle.dv_update.specs.StandIn as defined;
+ghost use Rattle.dv_update.specs.Inner.StandIn as defined;
 
 use crate::form::Edit;
 use crate::order::{begins, compare_components};

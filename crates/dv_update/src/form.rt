@@ -62,7 +62,7 @@ impl Model for Edits {
     ghost use Rattle.std.specs.Prelude as prelude;
     ghost use Rattle.std.specs.Prelude.{map};
     ghost use Rattle.dv_update.specs.Update as form;
-    ghost use Rattle.dv_update.specs.UpdateCode.{coded_edits};
+    ghost use Rattle.dv_update.specs.Inner.UpdateCode.{coded_edits};
 
     ghost Value = { prelude.List form.Edit };
 

@@ -7,7 +7,7 @@ ghost use Rattle.dv_value.specs.Spelling.{AreFields, Fits, levels, spelling};
 ghost use Rattle.dv_value.specs.Tree.{Tree, Field, document, fields_of, null};
 ghost use Rattle.dv_path.specs.Slots.{slot, taken};
 ghost use Rattle.dv_update.specs.Apply.{Path, applied, changed, edited, leading_id, set_at};
-ghost use Rattle.dv_update.specs.Examples.{one_edit, outcome, start, with_a};
+ghost use Rattle.dv_update.specs.Inner.Examples.{one_edit, outcome, start, with_a};
 ghost use Rattle.dv_value.specs.Short.{doc, int, list, long};
 ghost use Rattle.dv_update.specs.Parsing.{conflicts, has_conflict, in_order, update_of};
 ghost use Rattle.dv_update.specs.PathOrder.{path_order};

@@ -9,6 +9,7 @@ ghost use Rattle.dv_order.specs.Same.{both_same};
 ghost use Rattle.dv_path.specs.Slots.{slot_of};
 ghost use Rattle.dv_path.specs.SlotView.{slot_seen};
 ghost use Rattle.dv_update.specs.Outcome as defined;
+ghost use Rattle.dv_update.specs.Inner.Outcome as defined_inner;
 ghost use Rattle.dv_update.specs.Update.{append, assign};
 ghost use Rattle.dv_update.specs.View.{operation};
 
@@ -44,7 +45,7 @@ impl Operation {
         name: &str,
     ) -> Result<Option<Outcome>, NoMemory>
         requires { bytes_eq name.now (codes "_id") ≡ false }
-        ensures applied { IfOk result (λ found. IfSome found (λ outcome. defined.applied_under name.now (operation self.now) document.now ≡ Ok (defined.outcome_seen name.now document.now outcome))) }
+        ensures applied { IfOk result (λ found. IfSome found (λ outcome. defined_inner.applied_under name.now (operation self.now) document.now ≡ Ok (defined.outcome_seen name.now document.now outcome))) }
         ensures same { IfOk result (λ found. IfSome found (λ outcome. defined.stays outcome ≡ defined.stays_so name.now document.now outcome)) }
     {
         if let Operation::Push(values) = self {
@@ -59,7 +60,7 @@ impl Operation {
     /// The value that comes where this one stands, or none, if the operator is refused by neither and looks into no document
     /// or array. Fails where memory is wanting.
     fn value_for(&self, there: Option<&Value>) -> Result<Option<Value>, NoMemory>
-        ensures { IfOk result (λ found. IfSome found (λ value. defined.value_by (operation self.now) (slot_of (option_map (λ there. tree there.now) there.entry)) ≡ Ok (tree value))) }
+        ensures { IfOk result (λ found. IfSome found (λ value. defined_inner.value_by (operation self.now) (slot_of (option_map (λ there. tree there.now) there.entry)) ≡ Ok (tree value))) }
     {
         match self {
             Operation::Set(value) => Ok(Some(value.try_clone()?)),
@@ -85,7 +86,7 @@ fn slot_holding<'a>(there: Option<&'a Value>) -> Slot<'a>
 /// What `$set` of the value makes under the name, if the document surely has room for it.
 fn set_under(document: &Document, name: &str, value: Value) -> Option<Outcome>
     requires { bytes_eq name.now (codes "_id") ≡ false }
-    ensures applied { IfSome result (λ outcome. defined.applied_under name.now (assign (tree value)) document.now ≡ Ok (defined.outcome_seen name.now document.now outcome)) }
+    ensures applied { IfSome result (λ outcome. defined_inner.applied_under name.now (assign (tree value)) document.now ≡ Ok (defined.outcome_seen name.now document.now outcome)) }
     ensures same { IfSome result (λ outcome. defined.stays outcome ≡ defined.stays_so name.now document.now outcome) }
 {
     laws::what_a_field_adds();
@@ -112,7 +113,7 @@ fn stands_under(document: &Document, name: &str, value: &Value) -> bool
 /// Fails where memory is wanting.
 fn pushed_under(document: &Document, name: &str, values: &List) -> Result<Option<Outcome>, NoMemory>
     requires { bytes_eq name.now (codes "_id") ≡ false }
-    ensures applied { IfOk result (λ found. IfSome found (λ outcome. defined.applied_under name.now (append values.now) document.now ≡ Ok (defined.outcome_seen name.now document.now outcome))) }
+    ensures applied { IfOk result (λ found. IfSome found (λ outcome. defined_inner.applied_under name.now (append values.now) document.now ≡ Ok (defined.outcome_seen name.now document.now outcome))) }
     ensures same { IfOk result (λ found. IfSome found (λ outcome. defined.stays outcome ≡ defined.stays_so name.now document.now outcome)) }
 {
     laws::what_a_field_adds();

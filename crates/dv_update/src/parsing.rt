@@ -8,7 +8,7 @@ ghost use Rattle.dv_value.specs.View.{tree};
 ghost use Rattle.dv_match.specs.Parsing as filters;
 ghost use Rattle.dv_path.specs.Names as names;
 ghost use Rattle.dv_candidates.specs.Path.{path_of};
-ghost use Rattle.dv_update.specs.Collected.{behind};
+ghost use Rattle.dv_update.specs.Inner.Collected.{behind};
 ghost use Rattle.dv_update.specs.Parsing as defined;
 ghost use Rattle.dv_update.specs.Parsing.{Gives};
 ghost use Rattle.dv_update.specs.UpdateView.{update};

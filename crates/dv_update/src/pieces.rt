@@ -6,7 +6,7 @@ ghost use Rattle.dv_value.specs.Names.{has_name, has_zero};
 ghost use Rattle.dv_value.specs.Spelling.{levels, payload, spelling};
 ghost use Rattle.dv_value.specs.Tree.{binary};
 ghost use Rattle.dv_value.specs.View.{tree};
-ghost use Rattle.dv_update.specs.StandIn as defined;
+ghost use Rattle.dv_update.specs.Inner.StandIn as defined;
 
 use dv_candidates::Component;
 use dv_value::{Bytes, Document, NoMemory, Value, laws};

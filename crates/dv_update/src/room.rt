@@ -2,7 +2,7 @@
 
 ghost use Rattle.std.specs.Prelude.{◌≤◌, IsTrue};
 ghost use Rattle.dv_value.specs.View.{tree};
-ghost use Rattle.dv_update.specs.Outcome.{HasRoom};
+ghost use Rattle.dv_update.specs.Inner.Outcome.{HasRoom};
 
 use crate::apply::MAX_DOCUMENT_LEN;
 use dv_value::{Document, MAX_LEVELS, Value, fits, size, value_size, value_within};

@@ -14,8 +14,8 @@ ghost use Rattle.dv_update.specs.Apply as defined;
 ghost use Rattle.dv_update.specs.Parsing.{Gives, has_conflict};
 ghost use Rattle.dv_update.specs.PathOrder.{begins as begins_with};
 ghost use Rattle.dv_update.specs.Removals as last_of;
-ghost use Rattle.dv_update.specs.StandIn.{Alike, PullsShallow, names_length, new_value};
-ghost use Rattle.dv_update.specs.Standing.{Becomes, Likewise, Stands, StandsFor};
+ghost use Rattle.dv_update.specs.Inner.StandIn.{Alike, PullsShallow, names_length, new_value};
+ghost use Rattle.dv_update.specs.Inner.Standing.{Becomes, Likewise, Stands, StandsFor};
 ghost use Rattle.dv_update.specs.View.{edit as seen, operation};
 
 use crate::edits::{edited, removals};

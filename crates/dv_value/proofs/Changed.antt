@@ -10,7 +10,7 @@ use Rattle.std.proofs.Math.ListN.{get_or-map}
 use Rattle.dv_value.specs.declared.value.Value.{Value}
 use Rattle.dv_value.specs.Tree.{Tree, Field}
 use Rattle.dv_value.specs.Names.{bare, AreNamed, place_under, value_under, with_value_under, without, has_name}
-use Rattle.dv_value.specs.Put.{with_value_at}
+use Rattle.dv_value.specs.Inner.Put.{with_value_at}
 use Rattle.dv_value.specs.View.{tree}
 use Rattle.dv_value.proofs.Named.{place_within, value_there, is_some-place}
 use Rattle.dv_value.proofs.Zipped.{zip-take}

@@ -7,7 +7,7 @@ use Rattle.dv_value.specs.Tree.{Field, fields_of}
 use Rattle.dv_value.specs.Names.{AreNamed, has_name}
 use Rattle.dv_value.specs.Spelling.{payload, spelling, fields_spelling, fields_levels, IsValue, AreFields}
 use Rattle.dv_value.proofs.Named.{has_name-append, bytes_eq-symmetric}
-use Rattle.dv_value.specs.Spelled.{length-document}
+use Rattle.dv_value.specs.Inner.Spelled.{length-document}
 use Rattle.dv_value.proofs.Rest.{list_of_fields-fields_of, fields_length-field}
 
 -- ---- lengths

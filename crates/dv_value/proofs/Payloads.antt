@@ -2,7 +2,7 @@
 use Rattle.std.proofs.Common.{◌≡◌, ℕ, ◌+◌, List, length}
 use Rattle.dv_value.specs.Tree.{string, binary}
 use Rattle.dv_value.specs.Spelling.{payload}
-use Rattle.dv_value.specs.Spelled.{length-counted, length-tagged}
+use Rattle.dv_value.specs.Inner.Spelled.{length-counted, length-tagged}
 
 pub binary_length : (subtype : ℕ) (bytes : List ℕ) → length (payload (binary subtype bytes)) ≡ length bytes + 5
 unfolding payload

@@ -8,7 +8,7 @@ use Rattle.std.specs.List.{position_from}
 use Rattle.std.specs.Str.{bytes_eq}
 use Rattle.dv_value.specs.Tree.{Field}
 use Rattle.dv_value.specs.Names.{bare, has_name, AreNamed}
-use Rattle.dv_value.specs.Places.{Places, IsNameIndexOf}
+use Rattle.dv_value.specs.Inner.Places.{Places, IsNameIndexOf}
 use Rattle.dv_value.proofs.ByText.{get-insert}
 use Rattle.dv_value.proofs.Named.{bytes_eq-symmetric, named_apart}
 

@@ -6,7 +6,7 @@ use Rattle.std.proofs.lemmas.List.{map-set}
 use Rattle.dv_value.specs.declared.value.Value.{Value}
 use Rattle.dv_value.specs.FieldChange.{with_found_pushed, with_value_pushed}
 use Rattle.dv_value.specs.Names.{place_under, value_under, with_value_under, has_name}
-use Rattle.dv_value.specs.Put.{with_value_behind}
+use Rattle.dv_value.specs.Inner.Put.{with_value_behind}
 use Rattle.dv_value.specs.Tree.{Tree, array, Field, elements_of, list_of_elements}
 use Rattle.dv_value.specs.View.{tree}
 use Rattle.dv_value.proofs.Changed.{put_missing, value_found, zip-put}

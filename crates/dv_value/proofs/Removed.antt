@@ -6,8 +6,9 @@ use Rattle.std.proofs.lemmas.List.{take_more, map-append}
 use Rattle.std.proofs.lemmas.List.Folds.{list_any-append}
 use Rattle.std.proofs.lemmas.Slice.Eq.{bytes_eq-Decides}
 use Rattle.dv_value.specs.Names.{AreNamed, has_name, has_zero, without}
-use Rattle.dv_value.specs.Places.{Places}
-use Rattle.dv_value.specs.Removing.{without_each, is_name_of, HasEach}
+use Rattle.dv_value.specs.Inner.Places.{Places}
+use Rattle.dv_value.specs.Removing.{without_each}
+use Rattle.dv_value.specs.Inner.Removing.{is_name_of, HasEach}
 use Rattle.dv_value.specs.Tree.{Field}
 use Rattle.dv_value.proofs.ByText.{get-insert}
 use Rattle.dv_value.proofs.Changed.{without_missing}

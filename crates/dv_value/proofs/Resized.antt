@@ -6,8 +6,8 @@ use Rattle.std.proofs.lemmas.List.Elements.{All-append, All-cons, All-nil}
 use Rattle.dv_value.specs.FieldChange.{with_value_pushed}
 use Rattle.dv_value.specs.Measure.{IsMeasure}
 use Rattle.dv_value.specs.Names.{has_name, has_zero, place_under, value_under}
-use Rattle.dv_value.specs.Put.{with_value_at}
-use Rattle.dv_value.specs.Spelled.{length-array, elements_spelling-nil}
+use Rattle.dv_value.specs.Inner.Put.{with_value_at}
+use Rattle.dv_value.specs.Inner.Spelled.{length-array, elements_spelling-nil}
 use Rattle.dv_value.specs.Spelling.{payload, spelling, elements_spelling, levels, fields_levels, elements_levels, IsValue, AreFields, AreElements}
 use Rattle.dv_value.specs.Tree.{Tree, array, Field, fields_of, elements_of}
 use Rattle.dv_value.proofs.Changed.{found_behind, with_value_at-found}

@@ -4,7 +4,7 @@ use Rattle.std.specs.List.{slice_get}
 use Rattle.std.specs.Str.{IsUtf8}
 use Rattle.dv_value.specs.Tree.{Tree, Field, fields_of, list_of_fields, elements_of}
 use Rattle.dv_value.specs.Names.{AreNamed}
-use Rattle.dv_value.specs.Spelled.{fields_spelling-field, elements_spelling-element, length-element_spelling}
+use Rattle.dv_value.specs.Inner.Spelled.{fields_spelling-field, elements_spelling-element, length-element_spelling}
 use Rattle.dv_value.specs.Spelling.{payload, fields_spelling, elements_spelling, levels, fields_levels, elements_levels, IsValue, AreFields, AreElements}
 use Rattle.dv_value.proofs.Items.{drop_item}
 

@@ -2,7 +2,7 @@
 use Rattle.std.proofs.Common.{◌≡◌, ℕ, suc, ◌+◌, ◌*◌, ◌≤◌, length, decimal, length-append, refl, arith}
 use Rattle.dv_value.specs.Tree.{Tree, document, array, Fields, no_fields, field, Elements, no_elements, element}
 use Rattle.dv_value.specs.Spelling.{payload, fields_spelling, elements_spelling, levels, fields_levels, elements_levels}
-use Rattle.dv_value.specs.Spelled.{length-document, length-array, length-element_spelling}
+use Rattle.dv_value.specs.Inner.Spelled.{length-document, length-array, length-element_spelling}
 
 field_bytes : (name : _) (v : Tree) (fs : Fields) → length (fields_spelling (field name v fs)) ≡ length (payload v) + length name + 2 + length (fields_spelling fs)
 unfolding fields_spelling

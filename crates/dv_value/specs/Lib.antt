@@ -1,18 +1,13 @@
 pub mod Tree
-pub mod TreeCode
 pub mod View
-pub mod ViewFalls
-pub mod Kept
 pub mod Names
-pub mod Places
 pub mod Spelling
-pub mod Spelled
 pub mod Fault
-pub mod Weight
-pub mod Put
 pub mod Measure
 pub mod Removing
 pub mod FieldChange
 pub mod Results
 pub mod Short
 pub mod Widths
+-- what only bodies and proofs need
+pub mod Inner

@@ -17,7 +17,7 @@ pub(crate) struct NameIndex {
 impl Model for NameIndex {
     ghost use Rattle.std.specs.Coded.{coded_list, coded_ℕ};
     ghost use Rattle.std.specs.FinMap as finite;
-    ghost use Rattle.dv_value.specs.Places.{Places, places_of};
+    ghost use Rattle.dv_value.specs.Inner.Places.{Places, places_of};
 
     ghost Value = { Places };
 

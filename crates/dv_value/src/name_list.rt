@@ -3,7 +3,7 @@
 ghost use Rattle.std.specs.Prelude.{◌≡◌, ◌↔◌, ◌≤◌, ◌<◌, [], ◌∷◌, ◌++◌, Some, false, length, take, map, IsTrue, OnOk, OnErr, IfOk, IfSome, slice_get, remove};
 ghost use Rattle.std.specs.Option.{option_map};
 ghost use Rattle.dv_value.specs.Names.{bare, AreNamed, place_under, has_name, has_zero};
-ghost use Rattle.dv_value.specs.Places.{IsNameIndexOf};
+ghost use Rattle.dv_value.specs.Inner.Places.{IsNameIndexOf};
 
 use crate::NoMemory;
 use crate::name::Name;
@@ -29,7 +29,7 @@ pub struct Names {
 impl Model for Names {
     ghost use Rattle.std.specs.Prelude.{List, ℕ, map, IfSome};
     ghost use Rattle.dv_value.specs.Names.{bare, AreNamed};
-    ghost use Rattle.dv_value.specs.Places.{IsNameIndexOf};
+    ghost use Rattle.dv_value.specs.Inner.Places.{IsNameIndexOf};
 
     ghost Value = { List (List ℕ) };
 

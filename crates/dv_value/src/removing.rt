@@ -1,7 +1,8 @@
 //! Documents without some of their fields.
 
 ghost use Rattle.std.specs.Prelude.{◌≡◌, map, IfOk};
-ghost use Rattle.dv_value.specs.Removing.{HasEach, without_each};
+ghost use Rattle.dv_value.specs.Removing.{without_each};
+ghost use Rattle.dv_value.specs.Inner.Removing.{HasEach};
 
 use crate::NoMemory;
 use crate::name_index::NameIndex;

@@ -112,8 +112,9 @@ impl Model for Fields {
     ghost use Rattle.std.specs.Prelude.{ℕ, ◌*◌, ◌≤◌, map, length};
     ghost use Rattle.std.specs.List.{zip};
     ghost use Rattle.std.specs.Coded.{coded_list, coded×, coded_ℕ};
-    ghost use Rattle.dv_value.specs.Tree.{Field, fields_of, fields_weight};
-    ghost use Rattle.dv_value.specs.TreeCode.{coded_tree};
+    ghost use Rattle.dv_value.specs.Tree.{Field, fields_of};
+    ghost use Rattle.dv_value.specs.Inner.Tree.{fields_weight};
+    ghost use Rattle.dv_value.specs.Inner.TreeCode.{coded_tree};
 
     ghost Value = { prelude.List Field };
 
@@ -128,7 +129,7 @@ impl Model for Fields {
     ghost size = { λ fs. 3 * fields_weight (fields_of fs) };
 
     ghost use Rattle.std.proofs.Common.{arith};
-    ghost use Rattle.dv_value.specs.ViewFalls.{fields_fall};
+    ghost use Rattle.dv_value.specs.Inner.ViewFalls.{fields_fall};
 
     ghost size_decreases = { λ f h. omega (arith, fields_fall f.names.value f.values.items h) };
 }
@@ -137,8 +138,9 @@ impl Model for Measured {
     ghost use Rattle.std.specs.Prelude as prelude;
     ghost use Rattle.std.specs.Prelude.{ℕ, suc, ◌*◌, IfSome};
     ghost use Rattle.std.specs.Coded.{coded_list, coded×, coded_ℕ};
-    ghost use Rattle.dv_value.specs.Tree.{Field, fields_of, fields_weight};
-    ghost use Rattle.dv_value.specs.TreeCode.{coded_tree};
+    ghost use Rattle.dv_value.specs.Tree.{Field, fields_of};
+    ghost use Rattle.dv_value.specs.Inner.Tree.{fields_weight};
+    ghost use Rattle.dv_value.specs.Inner.TreeCode.{coded_tree};
     ghost use Rattle.dv_value.specs.Measure.{IsMeasure};
 
     ghost Value = { prelude.List Field };
@@ -166,8 +168,9 @@ impl Model for Document {
     ghost use Rattle.std.specs.Prelude as prelude;
     ghost use Rattle.std.specs.Prelude.{ℕ, suc, ◌*◌};
     ghost use Rattle.std.specs.Coded.{coded_list, coded×, coded_ℕ};
-    ghost use Rattle.dv_value.specs.Tree.{Field, fields_of, fields_weight};
-    ghost use Rattle.dv_value.specs.TreeCode.{coded_tree};
+    ghost use Rattle.dv_value.specs.Tree.{Field, fields_of};
+    ghost use Rattle.dv_value.specs.Inner.Tree.{fields_weight};
+    ghost use Rattle.dv_value.specs.Inner.TreeCode.{coded_tree};
 
     ghost Value = { prelude.List Field };
 
@@ -188,8 +191,9 @@ impl Model for List {
     ghost use Rattle.std.specs.Prelude as prelude;
     ghost use Rattle.std.specs.Prelude.{◌*◌, map};
     ghost use Rattle.std.specs.Coded.{coded_list};
-    ghost use Rattle.dv_value.specs.Tree.{Tree, elements_of, elements_weight};
-    ghost use Rattle.dv_value.specs.TreeCode.{coded_tree};
+    ghost use Rattle.dv_value.specs.Tree.{Tree, elements_of};
+    ghost use Rattle.dv_value.specs.Inner.Tree.{elements_weight};
+    ghost use Rattle.dv_value.specs.Inner.TreeCode.{coded_tree};
 
     ghost Value = { prelude.List Tree };
 
@@ -202,7 +206,7 @@ impl Model for List {
     ghost size = { λ vs. 3 * elements_weight (elements_of vs) };
 
     ghost use Rattle.std.proofs.Common.{arith};
-    ghost use Rattle.dv_value.specs.ViewFalls.{values_fall};
+    ghost use Rattle.dv_value.specs.Inner.ViewFalls.{values_fall};
 
     ghost size_decreases = { λ l h. omega (arith, values_fall l.values.items) };
 }

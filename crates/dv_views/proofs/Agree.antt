@@ -4,13 +4,15 @@ use Rattle.std.specs.Prelude.{⊤}
 use Rattle.std.specs.Bool.{if◌then◌else◌}
 use Rattle.std.specs.List.{AllByRecursion}
 use Rattle.std.specs.Str.{bytes_eq}
-use Rattle.dv_change.specs.Changes.{HaveOneLength, IsPositioned, Positioned, forget}
+use Rattle.dv_change.specs.Changes.{Positioned, forget}
+use Rattle.dv_change.specs.Inner.Changes.{HaveOneLength, IsPositioned}
 use Rattle.dv_pipe.specs.Sources.{Row}
 use Rattle.dv_pipe.specs.Stages.{Lists, evaluated}
 use Rattle.dv_pipe.specs.declared.stage.Stage.{Stage}
 use Rattle.dv_views.specs.Forms.{is_name_among, names_read, outs_of, places_over, rows_over, with_places, with_rows}
 use Rattle.dv_views.specs.Placed.{ListPlaces, lookups_of, list_places}
-use Rattle.dv_views.specs.Views.{AreKept, AreOverLive, AreRight, AreRightOver, IsRight, ViewMark, live, stale, View, Views, distance, distances_of, view_form, no_distance, reads, taken_from, with_distance}
+use Rattle.dv_views.specs.Views.{ViewMark, live, stale, View, taken_from}
+use Rattle.dv_views.specs.Inner.Views.{AreKept, AreOverLive, AreRight, AreRightOver, IsRight, Views, distance, distances_of, view_form, no_distance, reads, with_distance}
 use Rattle.dv_views.proofs.Made.{forgotten}
 use Rattle.dv_views.proofs.Right.{itself, or-left, read_among}
 use Rattle.dv_views.proofs.Scratch.{even_outs, one_length}

@@ -8,20 +8,22 @@ use Rattle.std.specs.Str.{bytes_eq}
 use Rattle.std.specs.String.{string_bytes}
 use Rattle.std.proofs.lemmas.Slice.Eq.{bytes_eq-Decides}
 use Rattle.dv_change.specs.declared.live.Live.{Live}
-use Rattle.dv_change.specs.Changes.{IsPositioned, Positioned}
+use Rattle.dv_change.specs.Changes.{Positioned}
+use Rattle.dv_change.specs.Inner.Changes.{IsPositioned}
 use Rattle.dv_pipe.specs.Sources.{Row}
 use Rattle.dv_pipe.specs.Stages.{Lists, evaluated}
 use Rattle.dv_views.specs.declared.turner.Turner.{Turner}
-use Rattle.dv_views.specs.Based.{IsBasedOn}
-use Rattle.dv_views.specs.Body.{Body}
-use Rattle.dv_views.specs.ById.{AreAtIds, at_ids_through}
+use Rattle.dv_views.specs.Inner.Based.{IsBasedOn}
+use Rattle.dv_views.specs.Inner.Body.{Body}
+use Rattle.dv_views.specs.Inner.ById.{AreAtIds, at_ids_through}
 use Rattle.dv_views.specs.Flow.{outs_made}
 use Rattle.dv_views.specs.Forms.{ViewForm, outs_of, places_over, rows_over, with_places, with_rows}
-use Rattle.dv_views.specs.Keeping.{IsSoundLive, kept_seen}
-use Rattle.dv_views.specs.Older.{Entries, is_called, place_of_name, views, views_before}
+use Rattle.dv_views.specs.Inner.Keeping.{IsSoundLive, kept_seen}
+use Rattle.dv_views.specs.Inner.Older.{Entries, is_called, place_of_name, views, views_before}
 use Rattle.dv_views.specs.Placed.{ListPlaces, lookups_of}
-use Rattle.dv_views.specs.Seen.{entry_view}
-use Rattle.dv_views.specs.Views.{AreKept, AreNamedApart, AreRightOver, View, ViewMark, live, taken_from, view_form}
+use Rattle.dv_views.specs.Inner.Seen.{entry_view}
+use Rattle.dv_views.specs.Views.{View, ViewMark, live, taken_from}
+use Rattle.dv_views.specs.Inner.Views.{AreKept, AreNamedApart, AreRightOver, view_form}
 use Rattle.dv_views.proofs.Before.{no_view_before, place_within}
 use Rattle.dv_views.proofs.Building.{live_outs}
 use Rattle.dv_views.proofs.ById.{through_at_ids}

@@ -10,12 +10,13 @@ use Rattle.std.specs.String.{string_bytes}
 use Rattle.std.proofs.lemmas.Bool.{le-ltb, ltb-false, ltb-true, lt-ltb}
 use Rattle.std.proofs.lemmas.Iterator.Adapters.{position_from-zero}
 use Rattle.std.proofs.lemmas.Slice.Eq.{bytes_eq-Decides}
-use Rattle.dv_views.specs.Body.{Body}
+use Rattle.dv_views.specs.Inner.Body.{Body}
 use Rattle.dv_change.specs.declared.change.Change.{Change}
 use Rattle.dv_views.specs.Flow.{Told, told_at, flow_with_told}
-use Rattle.dv_views.specs.Older.{Entries, is_called, place_of_name, told_before, told_else, told_found, told_named, told_over, views, views_before}
-use Rattle.dv_views.specs.Seen.{view_seen}
-use Rattle.dv_views.specs.Views.{AreNamedApart, View, view_under}
+use Rattle.dv_views.specs.Inner.Older.{Entries, is_called, place_of_name, told_before, told_else, told_found, told_named, told_over, views, views_before}
+use Rattle.dv_views.specs.Inner.Seen.{view_seen}
+use Rattle.dv_views.specs.Views.{View}
+use Rattle.dv_views.specs.Inner.Views.{AreNamedApart, view_under}
 use Rattle.dv_views.proofs.Right.{either-way}
 
 -- ---- places of names

@@ -11,14 +11,16 @@ use Rattle.dv_coll.specs.Collection.{HasId}
 use Rattle.dv_pipe.specs.Sources.{Row}
 use Rattle.dv_pipe.specs.Stages.{Lists, evaluated}
 use Rattle.dv_pipe.specs.declared.stage.Stage.{Stage}
-use Rattle.dv_views.specs.Changed.{AreMade, AreMadeInTurn, IsMade, documents_changed, with_changed}
-use Rattle.dv_views.specs.Counted.{AreCounted, HasCountedShare}
+use Rattle.dv_views.specs.Changed.{documents_changed, with_changed}
+use Rattle.dv_views.specs.Inner.Changed.{AreMade, AreMadeInTurn, IsMade}
+use Rattle.dv_views.specs.Inner.Counted.{AreCounted, HasCountedShare}
 use Rattle.dv_views.specs.Flow.{Arrival, Flow, Share, Told, all_together, arrivals, arriving, arriving_at_lists, handed_by, is_reached, nothing, shares, shares_of, taken_after, shares_together, told_at, flow_told, flow_with_told, work_by, work_of}
 use Rattle.dv_views.specs.Forms.{ViewForm, is_name_among, names_read, with_places, with_rows}
 use Rattle.dv_views.specs.Placed.{ListPlaces, lookups_of, list_places, positioned}
-use Rattle.dv_views.specs.Seen.{IsWellKept}
-use Rattle.dv_views.specs.Turned.{AreTakenBy, HaveTaken, IsTakenBy, IsTurned, Telling, kept_after, kept_behind}
-use Rattle.dv_views.specs.Views.{AreKept, AreOverLive, AreRight, AreRightOver, IsRight, Kept, ViewMark, live, stale, View, Views, distance, view_form, is_stale, no_distance, taken_from, mark_ticks, with_distance}
+use Rattle.dv_views.specs.Inner.Seen.{IsWellKept}
+use Rattle.dv_views.specs.Inner.Turned.{AreTakenBy, HaveTaken, IsTakenBy, IsTurned, Telling, kept_after, kept_behind}
+use Rattle.dv_views.specs.Views.{Kept, ViewMark, live, stale, View, taken_from}
+use Rattle.dv_views.specs.Inner.Views.{AreKept, AreOverLive, AreRight, AreRightOver, IsRight, Views, distance, view_form, is_stale, no_distance, mark_ticks, with_distance}
 use Rattle.dv_views.proofs.Agree.{Agrees, FromScratch}
 use Rattle.dv_views.proofs.Made.{forgotten}
 use Rattle.dv_views.proofs.Right.{UnreadDoesNotMatter, itself, neither, or-left, or-right}

@@ -15,21 +15,23 @@ use Rattle.dv_order.specs.OwnKeys.{IsOwn}
 use Rattle.dv_coll.specs.Collection.{IsAscending, id_key}
 use Rattle.dv_change.specs.declared.input.Input.TheVariants.{Left}
 use Rattle.dv_change.specs.declared.live.Live.{Live}
-use Rattle.dv_change.specs.Changes.{IsPositioned, forget}
+use Rattle.dv_change.specs.Changes.{forget}
+use Rattle.dv_change.specs.Inner.Changes.{IsPositioned}
 use Rattle.dv_change.specs.Positions.{IsExact, pos_order}
 use Rattle.dv_pipe.specs.Sources.{Row, Source, lists_of, rows_under}
 use Rattle.dv_pipe.specs.Stages.{Lists, evaluated}
 use Rattle.dv_pipe.specs.declared.stage.Stage.{Stage}
 use Rattle.dv_views.specs.declared.turner.Turner.{Turner}
-use Rattle.dv_views.specs.Filled.{lists_in_turn, rows_filled}
+use Rattle.dv_views.specs.Inner.Filled.{lists_in_turn, rows_filled}
 use Rattle.dv_views.specs.Flow.{outs_made}
 use Rattle.dv_views.specs.Forms.{is_name_among, names_read}
-use Rattle.dv_views.specs.Ground.{IsBuilt, IsLive, IsLiveView, IsPlacedUnder, outs_below, outs_of_mark, outs_of_view}
-use Rattle.dv_views.specs.Keeping.{IsSoundLive, kept_seen, left_of, lists_of_all, named_of}
+use Rattle.dv_views.specs.Inner.Ground.{IsBuilt, IsLive, IsLiveView, IsPlacedUnder, outs_below, outs_of_mark, outs_of_view}
+use Rattle.dv_views.specs.Inner.Keeping.{IsSoundLive, kept_seen, left_of, lists_of_all, named_of}
 use Rattle.dv_views.specs.Placed.{lookups_of, own_position, positioned}
-use Rattle.dv_views.specs.Turned.{turned_rows}
-use Rattle.dv_views.specs.Turning.{empty_lists}
-use Rattle.dv_views.specs.Views.{AreInOrder, ViewMark, Taken, View, Views, live, taken_from, view_under}
+use Rattle.dv_views.specs.Inner.Turned.{turned_rows}
+use Rattle.dv_views.specs.Inner.Turning.{empty_lists}
+use Rattle.dv_views.specs.Views.{ViewMark, Taken, View, live, taken_from}
+use Rattle.dv_views.specs.Inner.Views.{AreInOrder, Views, view_under}
 use Rattle.dv_views.proofs.Filling.{all_filled, source_filled}
 use Rattle.dv_views.proofs.Made.{one_part}
 use Rattle.dv_views.proofs.Rolling.{lookups_count, rows_are_made}

@@ -16,7 +16,7 @@ use Rattle.dv_row.specs.declared.project.Project as projects
 use Rattle.dv_row.specs.declared.project.Project.TheVariants.{Include, Exclude}
 use Rattle.dv_row.specs.Expressions.{Computed, nothing, computed, value_of, with_computed, with_field_behind}
 use Rattle.dv_row.specs.Projecting.{ends, fields_left, if_it, left_at, left_inside, paths_behind, projected, row_left, with_left}
-use Rattle.dv_row.specs.Shown.{begins_with_name, is_alone}
+use Rattle.dv_row.specs.Inner.Shown.{begins_with_name, is_alone}
 use Rattle.dv_gather.specs.declared.lookup.Lookup.{Lookup}
 use Rattle.dv_gather.specs.Grouping.{Accumulation, Grouping, field_over, group_row, key_of_group, keyed, with_accumulated}
 use Rattle.dv_gather.specs.Groups.{groups_of}
@@ -28,7 +28,7 @@ use Rattle.std.specs.List.{AllByRecursion}
 use Rattle.dv_pipe.specs.declared.stage.Stage.{Stage}
 use Rattle.dv_pipe.specs.declared.stage.Stage.TheVariants as stages
 use Rattle.dv_pipe.specs.Sources.{Row}
-use Rattle.dv_views.specs.ById.{AreAtIds, IsAtId, at_ids_behind, at_ids_through, shows_id}
+use Rattle.dv_views.specs.Inner.ById.{AreAtIds, IsAtId, at_ids_behind, at_ids_through, shows_id}
 use Rattle.dv_views.specs.Placed.{forms, lists_in, own_position, positioned, stage_at}
 
 both : (a b : Bool) → a && b ≡ true → (a ≡ true) × (b ≡ true)

@@ -8,10 +8,11 @@ use Rattle.std.specs.Str.{bytes_eq}
 use Rattle.std.specs.String.{string_bytes, string_eq}
 use Rattle.std.specs.declared.string.String.{String}
 use Rattle.dv_pipe.specs.Stages.{is_read}
-use Rattle.dv_views.specs.Body.{Body}
-use Rattle.dv_views.specs.Older.{Entries, is_called, views}
-use Rattle.dv_views.specs.Seen.{view_seen, entry_view}
-use Rattle.dv_views.specs.Views.{AreNamedApart, View, is_view_named, has_view, is_stale, reads_name, view_under, views_without}
+use Rattle.dv_views.specs.Inner.Body.{Body}
+use Rattle.dv_views.specs.Inner.Older.{Entries, is_called, views}
+use Rattle.dv_views.specs.Inner.Seen.{view_seen, entry_view}
+use Rattle.dv_views.specs.Views.{View}
+use Rattle.dv_views.specs.Inner.Views.{AreNamedApart, is_view_named, has_view, is_stale, reads_name, view_under, views_without}
 
 there-met : (b : Bool) (w : Body) (s : Option Body) (r : Bool) → r ≡ is_some s → b || r ≡ is_some (cond b (Some w) s)
 there-met true w s r rest = refl

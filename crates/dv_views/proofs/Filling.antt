@@ -10,14 +10,15 @@ use Rattle.dv_value.specs.Tree.{Field}
 use Rattle.dv_change.specs.declared.change.Change.{Change}
 use Rattle.dv_change.specs.declared.change.Change.TheVariants.{Put}
 use Rattle.dv_change.specs.declared.input.Input.TheVariants.{Left, Named}
-use Rattle.dv_change.specs.Changes.{IsPositioned, Positioned, with_change, with_changes}
+use Rattle.dv_change.specs.Changes.{Positioned, with_change, with_changes}
+use Rattle.dv_change.specs.Inner.Changes.{IsPositioned}
 use Rattle.dv_change.specs.Inputs.{input_changed_at}
-use Rattle.dv_change.specs.PositionLaws.{pos_order_total}
+use Rattle.dv_change.specs.Inner.PositionLaws.{pos_order_total}
 use Rattle.dv_change.specs.Positions.{PosTree, pos_order}
-use Rattle.dv_views.specs.Filled.{lists_in_turn, puts_of, rows_filled}
+use Rattle.dv_views.specs.Inner.Filled.{lists_in_turn, puts_of, rows_filled}
 use Rattle.dv_views.specs.Flow.{taken_after}
 use Rattle.dv_views.specs.Placed.{ListPlaces}
-use Rattle.dv_views.specs.Turning.{empty_lists}
+use Rattle.dv_views.specs.Inner.Turning.{empty_lists}
 use Rattle.dv_views.specs.Views.{Taken}
 
 -- ---- one list among others

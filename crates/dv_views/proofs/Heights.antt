@@ -16,11 +16,11 @@ use Rattle.dv_pipe.specs.Stages.{is_read}
 use Rattle.dv_pipe.specs.declared.stage.Stage.{Stage}
 use Rattle.dv_views.specs.declared.fault.ViewFault.{ViewFault}
 use Rattle.dv_views.specs.declared.fault.ViewFault.TheVariants.{Exists, LimitReached, ReadByView}
-use Rattle.dv_views.specs.Body.{Body}
+use Rattle.dv_views.specs.Inner.Body.{Body}
 use Rattle.dv_views.specs.Forms.{AreFounded, IsClosed, ViewForm, fault_of_new, height_over, heights, is_name_among, is_read_by, most_height, most_views, names_read, needed, with_height}
-use Rattle.dv_views.specs.Older.{Entries, views}
-use Rattle.dv_views.specs.Seen.{HaveHeights, entry_view}
-use Rattle.dv_views.specs.Views.{Views, view_form, has_view, reads_name}
+use Rattle.dv_views.specs.Inner.Older.{Entries, views}
+use Rattle.dv_views.specs.Inner.Seen.{HaveHeights, entry_view}
+use Rattle.dv_views.specs.Inner.Views.{Views, view_form, has_view, reads_name}
 use Rattle.dv_views.proofs.Needed.{closed}
 use Rattle.dv_views.proofs.Right.{either-way, itself, neither, or-left, or-right, read_among}
 

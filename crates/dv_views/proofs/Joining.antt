@@ -4,16 +4,17 @@ use Rattle.std.specs.Bool.{if◌then◌else◌}
 use Rattle.std.specs.List.{AllByRecursion}
 use Rattle.std.specs.Str.{bytes_eq}
 use Rattle.std.proofs.lemmas.Slice.Eq.{bytes_eq-Decides}
-use Rattle.dv_change.specs.Changes.{IsPositioned}
+use Rattle.dv_change.specs.Inner.Changes.{IsPositioned}
 use Rattle.dv_pipe.specs.Stages.{Lists, evaluated}
 use Rattle.dv_pipe.specs.declared.stage.Stage.{Stage}
 use Rattle.dv_views.specs.Forms.{ViewForm, is_name_among, names_read, places_over, rows_over, with_places, with_rows}
-use Rattle.dv_views.specs.Ground.{IsBuilt, IsLive, IsLiveView, outs_below, outs_of_mark, outs_of_view}
-use Rattle.dv_views.specs.Made.{AreAlike}
+use Rattle.dv_views.specs.Inner.Ground.{IsBuilt, IsLive, IsLiveView, outs_below, outs_of_mark, outs_of_view}
+use Rattle.dv_views.specs.Inner.Made.{AreAlike}
 use Rattle.dv_views.specs.Placed.{ListPlaces, list_places, positioned}
-use Rattle.dv_views.specs.Seen.{IsWellKept}
-use Rattle.dv_views.specs.Turned.{turned_rows}
-use Rattle.dv_views.specs.Views.{AreKept, AreNamedApart, AreOverLive, AreRight, AreRightOver, IsJustMade, IsRight, ViewMark, Taken, View, Views, distance, distances_of, view_form, is_stale, live, no_distance, reads, stale, taken_from, view_under, with_distance}
+use Rattle.dv_views.specs.Inner.Seen.{IsWellKept}
+use Rattle.dv_views.specs.Inner.Turned.{turned_rows}
+use Rattle.dv_views.specs.Views.{ViewMark, Taken, View, live, stale, taken_from}
+use Rattle.dv_views.specs.Inner.Views.{AreKept, AreNamedApart, AreOverLive, AreRight, AreRightOver, IsJustMade, IsRight, Views, distance, distances_of, view_form, is_stale, no_distance, reads, view_under, with_distance}
 use Rattle.dv_views.proofs.Agree.{FromScratch, TakesInOrder, agree}
 use Rattle.dv_views.proofs.Right.{UnreadDoesNotMatter, itself, or-left, read_among, same_taken}
 use Rattle.dv_views.proofs.Shown.{IsShownAt, distance_at, distance_named, no_view, shown_at}

@@ -11,15 +11,16 @@ use Rattle.dv_coll.specs.Collection.{HasId}
 use Rattle.dv_pipe.specs.Sources.{Row}
 use Rattle.dv_pipe.specs.Stages.{Lists}
 use Rattle.dv_pipe.specs.declared.stage.Stage.{Stage}
-use Rattle.dv_views.specs.Changed.{documents_changed, gone_each, with_changed}
-use Rattle.dv_views.specs.Counted.{AreCounted}
+use Rattle.dv_views.specs.Changed.{documents_changed, with_changed}
+use Rattle.dv_views.specs.Inner.Changed.{gone_each}
+use Rattle.dv_views.specs.Inner.Counted.{AreCounted}
 use Rattle.dv_views.specs.Flow.{Share, is_reached, told_at}
 use Rattle.dv_views.specs.Forms.{names_read}
-use Rattle.dv_views.specs.Older.{Entries, told_else, told_found, told_named}
+use Rattle.dv_views.specs.Inner.Older.{Entries, told_else, told_found, told_named}
 use Rattle.dv_views.specs.Placed.{own_position}
-use Rattle.dv_views.specs.Seen.{IsWellKept}
-use Rattle.dv_views.specs.Turned.{HaveTaken}
-use Rattle.dv_views.specs.Views.{AreOverLive, AreRight, Views, view_form, no_distance, reads_name}
+use Rattle.dv_views.specs.Inner.Seen.{IsWellKept}
+use Rattle.dv_views.specs.Inner.Turned.{HaveTaken}
+use Rattle.dv_views.specs.Inner.Views.{AreOverLive, AreRight, Views, view_form, no_distance, reads_name}
 use Rattle.dv_views.proofs.Agree.{FromScratch}
 use Rattle.dv_views.proofs.Behind.{HaveFollowed, counted_none, follow_more}
 use Rattle.dv_views.proofs.Heights.{read_forms}

@@ -9,16 +9,17 @@ use Rattle.indexmap.specs.IndexMap.{set_value_at}
 use Rattle.dv_change.specs.declared.change.Change.{Change}
 use Rattle.dv_change.specs.declared.live.Live.{Live}
 use Rattle.dv_views.specs.declared.turner.Turner.{Turner}
-use Rattle.dv_views.specs.Body.{Body}
+use Rattle.dv_views.specs.Inner.Body.{Body}
 use Rattle.dv_views.specs.Flow.{Told, arrivals, is_reached, outs_made, told_at, flow_with_told}
 use Rattle.dv_views.specs.Forms.{names_read}
-use Rattle.dv_views.specs.Ground.{IsLive, IsLiveView}
-use Rattle.dv_views.specs.Keeping.{Turns, kept_seen}
-use Rattle.dv_views.specs.Older.{Entries, told_before, told_else, told_found, told_named, told_over, views, views_before}
-use Rattle.dv_views.specs.Passing.{IsTakenAt}
-use Rattle.dv_views.specs.Seen.{IsWellKept, view_seen, entry_view, telling}
-use Rattle.dv_views.specs.Turned.{AreTakenBy, HaveTaken, IsTakenBy}
-use Rattle.dv_views.specs.Views.{AreNamedApart, ViewMark, View, Views, distance, distances_of, live, no_distance, stale, view_under, with_distance}
+use Rattle.dv_views.specs.Inner.Ground.{IsLive, IsLiveView}
+use Rattle.dv_views.specs.Inner.Keeping.{Turns, kept_seen}
+use Rattle.dv_views.specs.Inner.Older.{Entries, told_before, told_else, told_found, told_named, told_over, views, views_before}
+use Rattle.dv_views.specs.Inner.Passing.{IsTakenAt}
+use Rattle.dv_views.specs.Inner.Seen.{IsWellKept, view_seen, entry_view, telling}
+use Rattle.dv_views.specs.Inner.Turned.{AreTakenBy, HaveTaken, IsTakenBy}
+use Rattle.dv_views.specs.Views.{ViewMark, View, live, stale}
+use Rattle.dv_views.specs.Inner.Views.{AreNamedApart, Views, distance, distances_of, no_distance, view_under, with_distance}
 use Rattle.dv_pipe.specs.declared.stage.Stage.{Stage}
 use Rattle.dv_views.proofs.Before.{found_is_before}
 use Rattle.dv_views.proofs.Joining.{each_among}

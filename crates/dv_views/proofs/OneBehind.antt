@@ -7,15 +7,17 @@ use Rattle.std.proofs.lemmas.List.Sums.{fold-append}
 use Rattle.std.proofs.lemmas.Slice.Eq.{bytes_eq-Decides}
 use Rattle.dv_change.specs.declared.change.Change.{Change}
 use Rattle.dv_change.specs.declared.input.Input.TheVariants.{Left, Named}
-use Rattle.dv_change.specs.Changes.{IsPositioned, Positioned, with_change, with_changes}
+use Rattle.dv_change.specs.Changes.{Positioned, with_change, with_changes}
+use Rattle.dv_change.specs.Inner.Changes.{IsPositioned}
 use Rattle.dv_pipe.specs.Stages.{Lists, evaluated, is_read}
 use Rattle.dv_pipe.specs.declared.stage.Stage.{Stage}
 use Rattle.dv_views.specs.Flow.{Arrival, Told, arrivals, arriving, arriving_at_lists, handed_by, is_reached, nothing, outs_made, taken_after, flow_with_told}
 use Rattle.dv_views.specs.Forms.{AreFounded, ViewForm, is_name_among, names_read, outs_of, with_places, with_rows}
 use Rattle.dv_views.specs.Placed.{ListPlaces, lookups_of}
-use Rattle.dv_views.specs.Seen.{IsWellKept}
-use Rattle.dv_views.specs.Turned.{AreTakenBy, HaveTaken, IsTakenBy, IsTurned, Telling, kept_after, kept_behind, turned_rows}
-use Rattle.dv_views.specs.Views.{AreKept, AreNamedApart, AreOverLive, IsRight, Kept, ViewMark, Taken, live, stale, View, Views, distance, view_form, is_stale, no_distance, reads, taken_from, with_distance}
+use Rattle.dv_views.specs.Inner.Seen.{IsWellKept}
+use Rattle.dv_views.specs.Inner.Turned.{AreTakenBy, HaveTaken, IsTakenBy, IsTurned, Telling, kept_after, kept_behind, turned_rows}
+use Rattle.dv_views.specs.Views.{Kept, ViewMark, Taken, live, stale, View, taken_from}
+use Rattle.dv_views.specs.Inner.Views.{AreKept, AreNamedApart, AreOverLive, IsRight, Views, distance, view_form, is_stale, no_distance, reads, with_distance}
 use Rattle.dv_views.proofs.Agree.{Agrees, FromScratch, TakesInOrder, agree_over}
 use Rattle.dv_views.proofs.Filling.{changed_mid, longer}
 use Rattle.dv_views.proofs.Right.{UnreadDoesNotMatter, itself, neither, or-left, or-right, read_among, same_outs, same_taken}

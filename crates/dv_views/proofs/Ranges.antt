@@ -17,9 +17,9 @@ use Rattle.dv_change.specs.declared.position.Part.TheVariants.{Up}
 use Rattle.dv_change.specs.Changes.{Positioned, forget}
 use Rattle.dv_change.specs.Positions.{PosTree, pos_order}
 use Rattle.dv_coll.specs.Collection.{HasId, IsAscending, IsNoArray, id_key}
-use Rattle.dv_coll.specs.Walk.{walked}
+use Rattle.dv_coll.specs.Inner.Walk.{walked}
 use Rattle.dv_pipe.specs.Sources.{Row}
-use Rattle.dv_views.specs.ById.{AreAtIds, BeginsWithId}
+use Rattle.dv_views.specs.Inner.ById.{AreAtIds, BeginsWithId}
 use Rattle.dv_views.specs.Placed.{own_position}
 use Rattle.dv_views.proofs.Made.{one_part}
 

@@ -13,14 +13,15 @@ use Rattle.std.specs.Map.{values_of}
 use Rattle.indexmap.specs.IndexMap.{set_value_at}
 use Rattle.dv_views.specs.declared.fault.ViewFault.{ViewFault}
 use Rattle.dv_views.specs.declared.fault.ViewFault.TheVariants.{Exists, LimitReached, ReadByView}
-use Rattle.dv_views.specs.Body.{Body}
-use Rattle.dv_views.specs.Older.{Entries, views, views_before}
+use Rattle.dv_views.specs.Inner.Body.{Body}
+use Rattle.dv_views.specs.Inner.Older.{Entries, views, views_before}
 use Rattle.dv_views.specs.Forms.{AreFounded, IsClosed, ViewForm, fault_of_new, height_over, heights, is_name_among, is_read_by, most_height, most_views, names_read, with_places, with_rows}
-use Rattle.dv_views.specs.Ground.{IsBuilt}
-use Rattle.dv_views.specs.Made.{AreAlike, IsAdded, IsNoStale, IsRefreshedAt}
+use Rattle.dv_views.specs.Inner.Ground.{IsBuilt}
+use Rattle.dv_views.specs.Inner.Made.{AreAlike, IsAdded, IsNoStale, IsRefreshedAt}
 use Rattle.dv_views.specs.Placed.{ListPlaces, list_places}
-use Rattle.dv_views.specs.Seen.{IsSoundRegistry, IsWellKept, view_seen, entry_view}
-use Rattle.dv_views.specs.Views.{AreInOrder, AreNamedApart, AreOverLive, ArePartlyRefreshed, AreRight, AreRightOver, IsJustMade, IsMadeAnew, IsPartlyRefreshed, IsRefusedFor, ViewMark, View, Views, view_form, has_view, is_stale, no_distance, view_under, with_distance}
+use Rattle.dv_views.specs.Inner.Seen.{IsSoundRegistry, IsWellKept, view_seen, entry_view}
+use Rattle.dv_views.specs.Views.{ViewMark, View}
+use Rattle.dv_views.specs.Inner.Views.{AreInOrder, AreNamedApart, AreOverLive, ArePartlyRefreshed, AreRight, AreRightOver, IsJustMade, IsMadeAnew, IsPartlyRefreshed, IsRefusedFor, Views, view_form, has_view, is_stale, no_distance, view_under, with_distance}
 use Rattle.dv_views.proofs.Agree.{FromScratch}
 use Rattle.dv_views.proofs.Joining.{Replaces, each_among, fresh_built, over_append, over_built, over_set, right_built, right_set, set_view, well_built}
 use Rattle.dv_views.proofs.Right.{UnreadDoesNotMatter, neither, read_among, right_append}

@@ -9,9 +9,10 @@ use Rattle.std.specs.String.{string_bytes}
 use Rattle.std.proofs.lemmas.Slice.Eq.{bytes_eq-Decides}
 use Rattle.dv_pipe.specs.Stages.{is_read}
 use Rattle.dv_views.specs.Forms.{AreFounded, ViewForm, height_over, heights, is_name_among, names_read, with_height}
-use Rattle.dv_views.specs.Older.{Entries, is_called, views}
-use Rattle.dv_views.specs.Seen.{HaveHeights}
-use Rattle.dv_views.specs.Views.{AreNamedApart, AreOverLive, View, Views, distance, view_form, reads, reads_name, with_distance, views_without}
+use Rattle.dv_views.specs.Inner.Older.{Entries, is_called, views}
+use Rattle.dv_views.specs.Inner.Seen.{HaveHeights}
+use Rattle.dv_views.specs.Views.{View}
+use Rattle.dv_views.specs.Inner.Views.{AreNamedApart, AreOverLive, Views, distance, view_form, reads, reads_name, with_distance, views_without}
 use Rattle.dv_views.proofs.Entries.{AreOthers, others}
 use Rattle.dv_views.proofs.Heights.{forms_of}
 use Rattle.dv_views.proofs.Right.{either-way, neither, read_among}

@@ -11,7 +11,8 @@ use Rattle.dv_pipe.specs.Stages.{Lists, evaluated, is_source_named, is_read, loo
 use Rattle.dv_pipe.specs.declared.stage.Stage.{Stage}
 use Rattle.dv_views.specs.Forms.{ViewForm, is_name_among, names_read, outs_of, places_over, rows_over, with_places, with_rows}
 use Rattle.dv_views.specs.Placed.{ListPlaces, forms, lookups_of, list_places, positioned, names_with}
-use Rattle.dv_views.specs.Views.{AreKept, AreRight, AreRightOver, IsRight, ViewMark, Taken, live, stale, View, Views, view_form, reads, reads_name, taken_from, views_without}
+use Rattle.dv_views.specs.Views.{ViewMark, Taken, live, stale, View, taken_from}
+use Rattle.dv_views.specs.Inner.Views.{AreKept, AreRight, AreRightOver, IsRight, Views, view_form, reads, reads_name, views_without}
 
 -- what dv_pipe's law says of pipelines
 abbrev pub UnreadDoesNotMatter : Type 0

@@ -9,22 +9,24 @@ use Rattle.dv_change.specs.declared.change.Change.{Change}
 use Rattle.dv_change.specs.declared.input.Input.{Input}
 use Rattle.dv_change.specs.declared.input.Input.TheVariants.{Left, Named}
 use Rattle.dv_change.specs.declared.live.Live.{Live}
-use Rattle.dv_change.specs.Changes.{IsExactChange, IsPositioned, Positioned, forget, with_changes}
-use Rattle.dv_change.specs.DiffLaws.{with_changes-both}
+use Rattle.dv_change.specs.Changes.{Positioned, forget, with_changes}
+use Rattle.dv_change.specs.Inner.Changes.{IsExactChange, IsPositioned}
+use Rattle.dv_change.specs.Inner.DiffLaws.{with_changes-both}
 use Rattle.dv_change.specs.Inputs.{HasInput, input_changed_at, left_after, others_after}
-use Rattle.dv_change.specs.Linked.{HasTaken, IsLinked, first_left, forms_of}
+use Rattle.dv_change.specs.Inner.Linked.{HasTaken, IsLinked, first_left, forms_of}
 use Rattle.dv_change.specs.Raised.{raised}
-use Rattle.dv_change.specs.Work.{Form, HasAny, forms_after, forms_named, named_in, pass_in, through_forms, work_in}
+use Rattle.dv_change.specs.Work.{Form, pass_in, through_forms, work_in}
+use Rattle.dv_change.specs.Inner.Work.{HasAny, forms_after, forms_named, named_in}
 use Rattle.dv_pipe.specs.declared.stage.Stage.{Stage}
 use Rattle.dv_pipe.specs.Sources.{Row}
 use Rattle.dv_pipe.specs.Stages.{beside, from_of}
 use Rattle.dv_views.specs.declared.turner.Turner.{Turner}
 use Rattle.dv_views.specs.Flow.{Arrival, arriving, arriving_at_lists, handed_by, outs_made, taken_after, work_of}
-use Rattle.dv_views.specs.Keeping.{IsSoundLive, Turns, kept_seen, left_of, lists_of_all, named_of}
-use Rattle.dv_views.specs.Turned.{kept_after, kept_behind, turned_rows}
+use Rattle.dv_views.specs.Inner.Keeping.{IsSoundLive, Turns, kept_seen, left_of, lists_of_all, named_of}
+use Rattle.dv_views.specs.Inner.Turned.{kept_after, kept_behind, turned_rows}
 use Rattle.dv_views.specs.Views.{Kept}
 use Rattle.dv_views.specs.Placed.{forms, listed_under, lists_in, lookups_of, stage_at, names_with}
-use Rattle.dv_views.specs.Turning.{AreFresh, IsFreshTurner, IsSoundTurner, empty_lists, turner_left, turner_makes, turner_others}
+use Rattle.dv_views.specs.Inner.Turning.{AreFresh, IsFreshTurner, IsSoundTurner, empty_lists, turner_left, turner_makes, turner_others}
 
 abbrev forms_in : List Turner → List Form
 forms_in ts = forms_of turner_left turner_others turner_makes IsSoundTurner ts

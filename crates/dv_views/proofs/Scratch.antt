@@ -6,21 +6,23 @@ use Rattle.std.specs.Str.{bytes_eq}
 use Rattle.std.specs.List.{AllByRecursion, flat_map}
 use Rattle.std.specs.Map.{keys_of}
 use Rattle.std.specs.Option.{option_map}
-use Rattle.dv_change.specs.Changes.{HaveOneLength, IsPositioned, Positioned, forget}
+use Rattle.dv_change.specs.Changes.{Positioned, forget}
+use Rattle.dv_change.specs.Inner.Changes.{HaveOneLength, IsPositioned}
 use Rattle.dv_change.specs.Positions.{PosTree}
 use Rattle.dv_change.specs.Work as work
-use Rattle.dv_flow.specs.Limiting.{limit_even, limit_ordered}
-use Rattle.dv_flow.specs.Matching.{match_even, match_ordered}
+use Rattle.dv_flow.specs.Inner.Limiting.{limit_even, limit_ordered}
+use Rattle.dv_flow.specs.Inner.Matching.{match_even, match_ordered}
 use Rattle.dv_flow.specs.Placed.{front_at, matched_at, shown_at, sorted_at, unwound_at}
-use Rattle.dv_flow.specs.Projecting.{project_even, project_ordered}
-use Rattle.dv_flow.specs.Sorting.{sort_even, sort_ordered}
-use Rattle.dv_flow.specs.Unwinding.{unwind_even, unwind_ordered}
+use Rattle.dv_flow.specs.Inner.Projecting.{project_even, project_ordered}
+use Rattle.dv_flow.specs.Inner.Sorting.{sort_even, sort_ordered}
+use Rattle.dv_flow.specs.Inner.Unwinding.{unwind_even, unwind_ordered}
 use Rattle.dv_gather.specs.declared.lookup.Lookup as lookups
 use Rattle.dv_gather.specs.Grouping.{Grouping, grouped}
 use Rattle.dv_gather.specs.Lookups.{looked_up}
-use Rattle.dv_group.specs.Grouped.{group_even, group_ordered}
+use Rattle.dv_group.specs.Inner.Grouped.{group_even, group_ordered}
 use Rattle.dv_group.specs.Placed.{grouped_at}
-use Rattle.dv_join.specs.Placed.{looked_up_at, looked_up_even, looked_up_ordered}
+use Rattle.dv_join.specs.Placed.{looked_up_at}
+use Rattle.dv_join.specs.Inner.Placed.{looked_up_even, looked_up_ordered}
 use Rattle.dv_join.specs.Turning.{first_input}
 use Rattle.dv_match.specs.Filter.{Members}
 use Rattle.dv_match.specs.Match.{matches}

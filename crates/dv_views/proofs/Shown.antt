@@ -13,7 +13,8 @@ use Rattle.dv_pipe.specs.declared.stage.Stage.{Stage}
 use Rattle.dv_views.specs.Flow.{outs_made}
 use Rattle.dv_views.specs.Forms.{ViewForm, outs_of, places_over, rows_over, with_places, with_rows}
 use Rattle.dv_views.specs.Placed.{ListPlaces, list_places}
-use Rattle.dv_views.specs.Views.{AreKept, AreNamedApart, AreRight, AreRightOver, ViewMark, live, stale, View, Views, distance, distances_of, view_form, is_view_named, kept_rows, no_distance, rows_shown, taken_from, view_under, with_distance}
+use Rattle.dv_views.specs.Views.{ViewMark, live, stale, View, taken_from}
+use Rattle.dv_views.specs.Inner.Views.{AreKept, AreNamedApart, AreRight, AreRightOver, Views, distance, distances_of, view_form, is_view_named, kept_rows, no_distance, rows_shown, view_under, with_distance}
 use Rattle.dv_views.proofs.Right.{neither}
 
 -- ---- what later views leave

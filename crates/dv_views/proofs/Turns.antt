@@ -15,7 +15,8 @@ use Rattle.dv_change.specs.declared.position.Part.TheVariants.{Up}
 use Rattle.dv_change.specs.Changes.{Positioned, with_change, with_changes}
 use Rattle.dv_change.specs.Positions.{PosTree, pos_order}
 use Rattle.dv_pipe.specs.Sources.{Row}
-use Rattle.dv_views.specs.Changed.{AreMade, AreMadeInTurn, IsMade, documents_changed}
+use Rattle.dv_views.specs.Changed.{documents_changed}
+use Rattle.dv_views.specs.Inner.Changed.{AreMade, AreMadeInTurn, IsMade}
 use Rattle.dv_views.specs.Placed.{own_position, positioned}
 use Rattle.dv_views.proofs.Made.{forgotten, one_part}
 

@@ -4,9 +4,9 @@ use Rattle.std.specs.List.{AllByRecursion}
 use Rattle.std.specs.Map.{remove_entry, set_value}
 use Rattle.std.specs.declared.string.String.{String}
 use Rattle.indexmap.specs.IndexMap.{set_value_at}
-use Rattle.dv_views.specs.Seen.{IsWellKept}
-use Rattle.dv_views.specs.Body.{Body}
-use Rattle.dv_views.specs.Older.{Entries, views}
+use Rattle.dv_views.specs.Inner.Seen.{IsWellKept}
+use Rattle.dv_views.specs.Inner.Body.{Body}
+use Rattle.dv_views.specs.Inner.Older.{Entries, views}
 
 module _ {Y : Type 0} where
   abbrev pub AreWellKept : Entries Y → Type 0

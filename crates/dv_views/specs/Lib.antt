@@ -1,24 +1,7 @@
 pub mod Placed
 pub mod Forms
-pub mod ById
 pub mod Views
 pub mod Changed
 pub mod Flow
-pub mod Counted
-pub mod Made
-pub mod Examples
-pub mod Fault
-pub mod Code
--- words that only bodies need
-pub mod Body
-pub mod Turning
-pub mod Turned
-pub mod Older
-pub mod Ground
-pub mod Passing
-pub mod Filled
-pub mod Keeping
-pub mod Seen
-pub mod Based
-pub mod MarkView
-pub mod Inside
+-- what only bodies and proofs need
+pub mod Inner

@@ -9,10 +9,11 @@ ghost use Rattle.std.specs.Range.Bound.{IsForward, bound_map};
 ghost use Rattle.dv_value.specs.Tree.{array, binary, no_elements};
 ghost use Rattle.dv_order.specs.Key.{key_order, value};
 ghost use Rattle.dv_coll.specs.Collection.{HasId, IsAscending, id_key};
-ghost use Rattle.dv_coll.specs.Walk.{walked};
+ghost use Rattle.dv_coll.specs.Inner.Walk.{walked};
 ghost use Rattle.dv_change.specs.declared.position.Part.TheVariants.{Up};
-ghost use Rattle.dv_change.specs.Changes.{IsPositioned, forget};
-ghost use Rattle.dv_views.specs.ById.{AreAtIds, AreById};
+ghost use Rattle.dv_change.specs.Changes.{forget};
+ghost use Rattle.dv_change.specs.Inner.Changes.{IsPositioned};
+ghost use Rattle.dv_views.specs.Inner.ById.{AreAtIds, AreById};
 
 use crate::places::place_of;
 use crate::turner::Turner;
@@ -36,8 +37,9 @@ pub struct Standing<'a> {
 impl<'a> Model for Standing<'a> {
     ghost use Rattle.std.specs.Prelude as prelude;
     ghost use Rattle.std.specs.Coded.{coded×};
-    ghost use Rattle.dv_change.specs.Changes.{IsPositioned, Positioned};
-    ghost use Rattle.dv_views.specs.Code.{coded_name, coded_positioned};
+    ghost use Rattle.dv_change.specs.Changes.{Positioned};
+    ghost use Rattle.dv_change.specs.Inner.Changes.{IsPositioned};
+    ghost use Rattle.dv_views.specs.Inner.Code.{coded_name, coded_positioned};
 
     ghost Value = { prelude.List prelude.ℕ × Positioned };
 
@@ -88,8 +90,8 @@ impl<'a> Model for RowsById<'a> {
     ghost use Rattle.std.specs.Prelude.{List};
     ghost use Rattle.dv_change.specs.Changes.{forget};
     ghost use Rattle.dv_pipe.specs.Sources.{Row};
-    ghost use Rattle.dv_views.specs.ById.{AreById};
-    ghost use Rattle.dv_views.specs.Code.{coded_view_rows};
+    ghost use Rattle.dv_views.specs.Inner.ById.{AreById};
+    ghost use Rattle.dv_views.specs.Inner.Code.{coded_view_rows};
 
     ghost Value = { List Row };
 
@@ -196,9 +198,9 @@ pub struct RowsBetween<'a> {
 impl<'a> Model for RowsBetween<'a> {
     ghost use Rattle.std.specs.Prelude.{List};
     ghost use Rattle.std.specs.Map.{values_of};
-    ghost use Rattle.dv_coll.specs.Walk.{walked};
+    ghost use Rattle.dv_coll.specs.Inner.Walk.{walked};
     ghost use Rattle.dv_pipe.specs.Sources.{Row};
-    ghost use Rattle.dv_views.specs.Code.{coded_view_rows};
+    ghost use Rattle.dv_views.specs.Inner.Code.{coded_view_rows};
 
     ghost Value = { List Row };
 

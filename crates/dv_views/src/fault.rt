@@ -21,7 +21,7 @@ pub enum ViewFault {
 }
 
 impl ViewFault {
-    ghost use Rattle.dv_views.specs.Fault.{view_fault_number};
+    ghost use Rattle.dv_views.specs.Inner.Fault.{view_fault_number};
 
     /// The fault's number.
     pub fn number(&self) -> u8
@@ -38,7 +38,7 @@ impl ViewFault {
 
 impl fmt::Display for ViewFault {
     ghost use Rattle.std.specs.Prelude.{Some};
-    ghost use Rattle.dv_views.specs.Fault.{view_fault_text};
+    ghost use Rattle.dv_views.specs.Inner.Fault.{view_fault_text};
 
     ghost output = { λ f. Some (view_fault_text f) };
 

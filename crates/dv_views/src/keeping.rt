@@ -2,10 +2,11 @@
 
 ghost use Rattle.std.specs.Prelude.{◌≡◌, ◌∷◌, [], length, map, IfOk};
 ghost use Rattle.std.specs.Option.{option_map};
-ghost use Rattle.dv_change.specs.Changes.{IsPositioned, with_changes};
+ghost use Rattle.dv_change.specs.Changes.{with_changes};
+ghost use Rattle.dv_change.specs.Inner.Changes.{IsPositioned};
 ghost use Rattle.dv_change.specs.Inputs.{HasInput};
 ghost use Rattle.dv_views.specs.Flow.{arriving};
-ghost use Rattle.dv_views.specs.Keeping.{IsSoundLive, Turns, kept_seen};
+ghost use Rattle.dv_views.specs.Inner.Keeping.{IsSoundLive, Turns, kept_seen};
 
 use crate::turner::Turner;
 use dv_change::{Change, Input, Live};

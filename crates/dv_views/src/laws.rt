@@ -7,18 +7,20 @@ ghost use Rattle.dv_coll.specs.Collection.{HasId, IsAscending, found, id_key, in
 ghost use Rattle.dv_change.specs.declared.position.Part.TheVariants.{Up};
 ghost use Rattle.dv_change.specs.declared.change.Change.{Change};
 ghost use Rattle.dv_change.specs.declared.change.Change.TheVariants.{Put, Gone};
-ghost use Rattle.dv_change.specs.Changes.{HaveOneLength, IsPositioned, forget};
+ghost use Rattle.dv_change.specs.Changes.{forget};
+ghost use Rattle.dv_change.specs.Inner.Changes.{HaveOneLength, IsPositioned};
 ghost use Rattle.dv_order.specs.Key.{KeyTree};
 ghost use Rattle.dv_pipe.specs.Sources.{Row};
 ghost use Rattle.dv_pipe.specs.Stages.{Lists, evaluated};
 ghost use Rattle.dv_pipe.specs.declared.stage.Stage.{Stage};
-ghost use Rattle.dv_views.specs.Changed.{AreMade, AreMadeInTurn, documents_changed};
-ghost use Rattle.dv_views.specs.Fault.{view_fault_number};
-ghost use Rattle.dv_views.specs.Examples.{over_lists, seven_views};
+ghost use Rattle.dv_views.specs.Changed.{documents_changed};
+ghost use Rattle.dv_views.specs.Inner.Changed.{AreMade, AreMadeInTurn};
+ghost use Rattle.dv_views.specs.Inner.Fault.{view_fault_number};
+ghost use Rattle.dv_views.specs.Inner.Examples.{over_lists, seven_views};
 ghost use Rattle.dv_views.specs.Flow.{nothing, shares};
 ghost use Rattle.dv_views.specs.Forms.{ViewForm, fault_of_new, height_over, heights, is_name_among, is_read_by, names_read, needed, outs_of, rows_over};
 ghost use Rattle.dv_views.specs.Placed.{ListPlaces, own_position};
-ghost use Rattle.dv_views.specs.Views.{AreNamedApart, AreRight, Views, view_form, reads_name, rows_shown, views_without};
+ghost use Rattle.dv_views.specs.Inner.Views.{AreNamedApart, AreRight, Views, view_form, reads_name, rows_shown, views_without};
 ghost use Rattle.dv_views.specs.declared.fault.ViewFault.TheVariants.{Exists, LimitReached, NoMemory, ReadByView};
 
 /// A document that is put at its own position replaces the one that has an equal `_id`, if there is one, and else it comes in its

@@ -2,20 +2,21 @@
 
 ghost use Rattle.std.specs.Prelude.{◌≡◌, false, length, IfOk};
 ghost use Rattle.std.specs.List.{AllByRecursion};
-ghost use Rattle.dv_change.specs.Changes.{IsPositioned};
+ghost use Rattle.dv_change.specs.Inner.Changes.{IsPositioned};
 ghost use Rattle.dv_change.specs.Inputs.{HasInput};
 ghost use Rattle.dv_coll.specs.Collection.{HasId};
 ghost use Rattle.dv_pipe.specs.Sources.{lists_of, rows_referred};
-ghost use Rattle.dv_views.specs.Filled.{lists_in_turn, puts_of, taken_behind};
+ghost use Rattle.dv_views.specs.Inner.Filled.{lists_in_turn, puts_of, taken_behind};
 ghost use Rattle.dv_views.specs.Flow.{taken_after};
 ghost use Rattle.dv_views.specs.Forms.{names_read};
-ghost use Rattle.dv_views.specs.Ground.{IsBuilt, IsLive, IsPlacedUnder, outs_below, outs_of_mark};
-ghost use Rattle.dv_views.specs.Keeping.{IsSoundLive, kept_seen, lists_of_all};
-ghost use Rattle.dv_views.specs.Made.{IsNoStale};
-ghost use Rattle.dv_views.specs.Older.{views_before};
+ghost use Rattle.dv_views.specs.Inner.Ground.{IsBuilt, IsLive, IsPlacedUnder, outs_below, outs_of_mark};
+ghost use Rattle.dv_views.specs.Inner.Keeping.{IsSoundLive, kept_seen, lists_of_all};
+ghost use Rattle.dv_views.specs.Inner.Made.{IsNoStale};
+ghost use Rattle.dv_views.specs.Inner.Older.{views_before};
 ghost use Rattle.dv_views.specs.Placed as defined;
 ghost use Rattle.dv_views.specs.Placed.{positioned};
-ghost use Rattle.dv_views.specs.Views.{AreInOrder, is_stale, live, view_under};
+ghost use Rattle.dv_views.specs.Views.{live};
+ghost use Rattle.dv_views.specs.Inner.Views.{AreInOrder, is_stale, view_under};
 
 use crate::keeping::{filled_left, taken_in};
 use crate::older::older;

@@ -2,9 +2,9 @@
 
 ghost use Rattle.std.specs.Prelude.{◌≡◌, map, take};
 ghost use Rattle.std.specs.Option.{option_map};
-ghost use Rattle.dv_views.specs.Older.{place_of_name, told_named};
-ghost use Rattle.dv_views.specs.Seen.{view_seen, entry_view};
-ghost use Rattle.dv_views.specs.Views.{view_under};
+ghost use Rattle.dv_views.specs.Inner.Older.{place_of_name, told_named};
+ghost use Rattle.dv_views.specs.Inner.Seen.{view_seen, entry_view};
+ghost use Rattle.dv_views.specs.Inner.Views.{view_under};
 
 use crate::view::View;
 use indexmap::IndexMap;

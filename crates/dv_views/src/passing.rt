@@ -4,18 +4,18 @@ ghost use Rattle.std.specs.Prelude.{◌≡◌, ◌<◌, [], length, map, slice_g
 ghost use Rattle.std.specs.List.{AllByRecursion, list_any};
 ghost use Rattle.std.specs.Map.{values_of};
 ghost use Rattle.std.specs.Option.{option_map};
-ghost use Rattle.dv_views.specs.Body.{Body};
+ghost use Rattle.dv_views.specs.Inner.Body.{Body};
 ghost use Rattle.dv_views.specs.Flow as flow;
 ghost use Rattle.dv_views.specs.Flow.{arrivals, arriving_at_lists};
 ghost use Rattle.dv_views.specs.Forms.{names_read};
-ghost use Rattle.dv_views.specs.Ground.{IsLiveView};
-ghost use Rattle.dv_views.specs.Keeping.{IsSoundLive, Turns, kept_seen, lists_of_all};
-ghost use Rattle.dv_views.specs.Older.{told_found, views_before};
-ghost use Rattle.dv_views.specs.Passing.{IsLostAt, IsTakenAt};
+ghost use Rattle.dv_views.specs.Inner.Ground.{IsLiveView};
+ghost use Rattle.dv_views.specs.Inner.Keeping.{IsSoundLive, Turns, kept_seen, lists_of_all};
+ghost use Rattle.dv_views.specs.Inner.Older.{told_found, views_before};
+ghost use Rattle.dv_views.specs.Inner.Passing.{IsLostAt, IsTakenAt};
 ghost use Rattle.dv_views.specs.Placed as defined;
 ghost use Rattle.dv_views.specs.declared.passing.Left.TheVariants.{NoMemory};
-ghost use Rattle.dv_views.specs.Seen.{entry_view};
-ghost use Rattle.dv_views.specs.Views.{AreNamedApart, view_under};
+ghost use Rattle.dv_views.specs.Inner.Seen.{entry_view};
+ghost use Rattle.dv_views.specs.Inner.Views.{AreNamedApart, view_under};
 
 use crate::keeping::taken_in_told;
 use crate::older::older;

@@ -5,15 +5,16 @@ ghost use Rattle.std.specs.List.{AllByRecursion, list_any};
 ghost use Rattle.std.specs.Option.{option_copied, option_map};
 ghost use Rattle.dv_pipe.specs.Sources.{lists_of};
 ghost use Rattle.dv_pipe.specs.Stages.{Lists, is_read};
-ghost use Rattle.dv_views.specs.Changed.{AreMade, with_changed};
-ghost use Rattle.dv_views.specs.Counted.{AreCounted};
+ghost use Rattle.dv_views.specs.Changed.{with_changed};
+ghost use Rattle.dv_views.specs.Inner.Changed.{AreMade};
+ghost use Rattle.dv_views.specs.Inner.Counted.{AreCounted};
 ghost use Rattle.dv_views.specs.Flow.{shares, told_at};
 ghost use Rattle.dv_views.specs.Forms as forms;
 ghost use Rattle.dv_views.specs.Forms.{is_name_among, names_read};
-ghost use Rattle.dv_views.specs.Made.{AreAlike, IsAdded, IsCreated, IsNoStale, IsRefreshedAt};
-ghost use Rattle.dv_views.specs.Seen.{IsSoundRegistry, view_seen};
-ghost use Rattle.dv_views.specs.Turned.{HaveTaken};
-ghost use Rattle.dv_views.specs.Views.{AreInOrder, AreNamedApart, ArePartlyRefreshed, AreRefreshed, AreRight, IsRefusedFor, view_form, has_view, is_stale, reads_name, mark_rows, rows_shown, state_of_mark, mark_ticks, view_under, views_without};
+ghost use Rattle.dv_views.specs.Inner.Made.{AreAlike, IsAdded, IsCreated, IsNoStale, IsRefreshedAt};
+ghost use Rattle.dv_views.specs.Inner.Seen.{IsSoundRegistry, view_seen};
+ghost use Rattle.dv_views.specs.Inner.Turned.{HaveTaken};
+ghost use Rattle.dv_views.specs.Inner.Views.{AreInOrder, AreNamedApart, ArePartlyRefreshed, AreRefreshed, AreRight, IsRefusedFor, view_form, has_view, is_stale, reads_name, mark_rows, rows_shown, state_of_mark, mark_ticks, view_under, views_without};
 
 mod by_id;
 mod gone;
@@ -49,14 +50,14 @@ pub struct Registry {
 
 impl Model for Registry {
     ghost use Rattle.std.specs.Prelude.{map};
-    ghost use Rattle.dv_views.specs.Code.{coded_views};
-    ghost use Rattle.dv_views.specs.Views.{Views};
+    ghost use Rattle.dv_views.specs.Inner.Code.{coded_views};
+    ghost use Rattle.dv_views.specs.Inner.Views.{Views};
 
     ghost Value = { Views };
 
     ghost coded = { coded_views };
 
-    ghost use Rattle.dv_views.specs.Seen.{AreSoundEntries, entry_view};
+    ghost use Rattle.dv_views.specs.Inner.Seen.{AreSoundEntries, entry_view};
 
     ghost view = { λ r. map entry_view r.views.entries };
 

@@ -19,7 +19,7 @@ pub struct Rows<'a> {
 impl<'a> Model for Rows<'a> {
     ghost use Rattle.std.specs.Prelude.{List};
     ghost use Rattle.dv_pipe.specs.Sources.{Row};
-    ghost use Rattle.dv_views.specs.Code.{coded_view_rows};
+    ghost use Rattle.dv_views.specs.Inner.Code.{coded_view_rows};
 
     ghost Value = { List Row };
 

@@ -2,11 +2,11 @@
 
 ghost use Rattle.std.specs.Prelude.{◌≡◌, ◌<◌, codes, length, map, IfSome};
 ghost use Rattle.std.specs.List.{list_any};
-ghost use Rattle.dv_row.specs.Shown.{begins_with_name, is_alone};
-ghost use Rattle.dv_views.specs.Based.{IsBasedOn};
-ghost use Rattle.dv_views.specs.ById as defined;
-ghost use Rattle.dv_views.specs.Seen.{entry_view};
-ghost use Rattle.dv_views.specs.Views.{AreNamedApart};
+ghost use Rattle.dv_row.specs.Inner.Shown.{begins_with_name, is_alone};
+ghost use Rattle.dv_views.specs.Inner.Based.{IsBasedOn};
+ghost use Rattle.dv_views.specs.Inner.ById as defined;
+ghost use Rattle.dv_views.specs.Inner.Seen.{entry_view};
+ghost use Rattle.dv_views.specs.Inner.Views.{AreNamedApart};
 
 use crate::older::place_before;
 use crate::view::View;

@@ -1,7 +1,7 @@
 //! Stages that are kept by changes.
 
 ghost use Rattle.std.specs.Prelude.{IfOk};
-ghost use Rattle.dv_views.specs.Turning.{AreFresh, IsFreshTurner, IsSoundTurner, turner_empty, turner_even, turner_left, turner_makes, turner_ordered, turner_others, turner_positioned};
+ghost use Rattle.dv_views.specs.Inner.Turning.{AreFresh, IsFreshTurner, IsSoundTurner, turner_empty, turner_even, turner_left, turner_makes, turner_ordered, turner_others, turner_positioned};
 
 use dv_change::{Change, Input, Ticks, Turn};
 use dv_flow::{LimitTurn, MatchTurn, ProjectTurn, SimpleTurn, SortTurn, UnwindTurn};

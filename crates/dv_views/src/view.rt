@@ -3,9 +3,10 @@
 ghost use Rattle.std.specs.Prelude.{◌≡◌, ◌≢◌, [], Some, None, List, IfErr, IfOk, IfSome, false, is_none, true};
 ghost use Rattle.std.specs.Option.{option_map};
 ghost use Rattle.dv_pipe.specs.Stages.{is_read};
-ghost use Rattle.dv_views.specs.Keeping.{IsSoundLive, kept_seen};
+ghost use Rattle.dv_views.specs.Inner.Keeping.{IsSoundLive, kept_seen};
 ghost use Rattle.dv_views.specs.Placed as defined;
-ghost use Rattle.dv_views.specs.Views.{is_stale, kept_rows, live, mark_rows, stale, state_of_mark, mark_ticks};
+ghost use Rattle.dv_views.specs.Views.{live, stale};
+ghost use Rattle.dv_views.specs.Inner.Views.{is_stale, kept_rows, mark_rows, state_of_mark, mark_ticks};
 
 use crate::rows::Rows;
 use crate::state::ViewState;
@@ -50,14 +51,14 @@ impl fmt::Debug for Mark {
 }
 
 impl Model for View {
-    ghost use Rattle.dv_views.specs.Body.{Body};
-    ghost use Rattle.dv_views.specs.Code.{coded_body};
+    ghost use Rattle.dv_views.specs.Inner.Body.{Body};
+    ghost use Rattle.dv_views.specs.Inner.Code.{coded_body};
 
     ghost Value = { Body };
 
     ghost coded = { coded_body };
 
-    ghost use Rattle.dv_views.specs.Inside.{AreListsRead, body_seen};
+    ghost use Rattle.dv_views.specs.Inner.Inside.{AreListsRead, body_seen};
 
     ghost view = { body_seen };
 

@@ -5,7 +5,7 @@ use Rattle.std.proofs.lemmas.List.{length-append}
 use Rattle.std.proofs.lemmas.List.Folds.{concat-append}
 use Rattle.dv_wire.specs.declared.session.Counts.{Counts}
 use Rattle.dv_wire.specs.Service.{reply_count}
-use Rattle.dv_wire.specs.View.{Counted}
+use Rattle.dv_wire.specs.Inner.View.{Counted}
 
 -- bytes behind others
 pub answered_more : (old mid new : List ℕ) (one two : List (List ℕ)) → mid ≡ old ++ concat one → new ≡ mid ++ concat two → new ≡ old ++ concat (one ++ two)

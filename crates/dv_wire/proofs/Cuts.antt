@@ -13,7 +13,7 @@ use Rattle.dv_core.specs.State.{State}
 use Rattle.dv_core.specs.Step.{MemoryStep}
 use Rattle.dv_message.specs.Message.{Message, Conversation, reading, closed, Split, split, continuation}
 use Rattle.dv_wire.specs.Schedule.{Run, in_front, silence, CarriesOutMessages, TakesSplit, takes_all, takes_some, Hears, fed_of, World, conversation_of, with_conversation, world_behind, plain_run, bytes_of, Feeds, FeedsAll, stream_of}
-use Rattle.dv_wire.specs.View.{GoesOn}
+use Rattle.dv_wire.specs.Inner.View.{GoesOn}
 use Rattle.dv_wire.proofs.Runs.{in_front-silence, carries_then, carries_to, carries_cases, carries_all, carries_shut, stops_so, Divides}
 use Rattle.dv_wire.proofs.Fronts.{GoOn}
 use Rattle.dv_wire.proofs.Replies.{IsAllowed, allows_any, plain_carries}

@@ -7,7 +7,7 @@ use Rattle.dv_message.specs.declared.front.Front as code
 use Rattle.dv_message.specs.declared.front.Front.TheVariants.{Closing}
 use Rattle.dv_message.specs.Bytes.{IsByteSplit}
 use Rattle.dv_message.specs.Message.{Message, StreamFront, unfinished, closing, whole, stream_front, reading, closed, split_behind, split_from, split, continuation}
-use Rattle.dv_message.specs.View.{front_seen}
+use Rattle.dv_message.specs.Inner.View.{front_seen}
 
 -- a stream splits as its front shows
 abbrev pub SplitByFronts : Type 0

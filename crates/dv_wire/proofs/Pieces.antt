@@ -9,7 +9,7 @@ use Rattle.dv_message.specs.Message.{Conversation, reading, closed, shown_length
 use Rattle.dv_wire.specs.declared.hub.Fed.{Fed}
 use Rattle.dv_wire.specs.declared.session.Counts.{Counts}
 use Rattle.dv_wire.specs.Schedule.{World, Comes, conversation_of, whole_front, in_front, world_behind}
-use Rattle.dv_wire.specs.View.{AnswersAll, Came, Counted, Writes}
+use Rattle.dv_wire.specs.Inner.View.{AnswersAll, Came, Counted, Writes}
 use Rattle.dv_wire.proofs.Counting.{Counted-append, Counted-none}
 use Rattle.dv_wire.proofs.Cuts.{hears_joined, world_twice}
 use Rattle.dv_wire.proofs.Fronts.{GoOn}

@@ -8,7 +8,7 @@ use Rattle.dv_wire.specs.declared.session.Counts.{Counts}
 use Rattle.dv_message.specs.Message.{reading}
 use Rattle.dv_wire.specs.Schedule.{Run, World, Opens, conversation_of, end, unfinished_in}
 use Rattle.dv_wire.specs.Service.{ComesTo, Serves, closing_of, done_of, reply_count}
-use Rattle.dv_wire.specs.View.{Talks, TalksTo}
+use Rattle.dv_wire.specs.Inner.View.{Talks, TalksTo}
 use Rattle.dv_wire.proofs.Worlds.{conversation_of-with}
 
 done_is : (messages replies unfinished : ℕ) (closing : Option CloseFault) (run : Run) → messages ≡ length run.answers → replies ≡ reply_count run.answers → closing ≡ closing_of run.conversation

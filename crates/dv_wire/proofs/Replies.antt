@@ -20,7 +20,7 @@ use Rattle.dv_core.specs.Step.{Answer, Cut, MemoryStep, TellsOfWant, answer_to, 
 use Rattle.dv_wire.specs.Schedule.{Run, in_front, silence, unanswered, bytes_to, CarriesOutMessages, CarriesOutBy, SessionSteps, plain_messages}
 use Rattle.dv_message.specs.Commands.{command_of}
 use Rattle.dv_wire.specs.declared.session.Counts.{Counts}
-use Rattle.dv_wire.specs.View.{Answered, Counted, GoesOn}
+use Rattle.dv_wire.specs.Inner.View.{Answered, Counted, GoesOn}
 use Rattle.dv_wire.proofs.Runs.{follows_shut, follows_on, follows_cases}
 
 -- a message has bytes

@@ -6,7 +6,7 @@ use Rattle.dv_message.specs.declared.fault.CloseFault.TheVariants.{NoMemory}
 use Rattle.dv_core.specs.State.{State}
 use Rattle.dv_message.specs.Message.{Message, Conversation, reading, closed}
 use Rattle.dv_wire.specs.Schedule.{Run, in_front, silence, unanswered, bytes_to, Follows, CarriesOutMessages}
-use Rattle.dv_wire.specs.View.{GoesOn}
+use Rattle.dv_wire.specs.Inner.View.{GoesOn}
 
 pub in_front_twice : (one two : List (List ℕ)) (run : Run) → in_front (one ++ two) run ≡ in_front one (in_front two run)
 in_front_twice one two run = ap (λ (all : List (List ℕ)). record { answers = all; state = run.state; conversation = run.conversation }) (append_assoc one two run.answers)

@@ -9,7 +9,7 @@ use Rattle.dv_message.specs.Message.{Message, unfinished, closing, whole, stream
 use Rattle.std.specs.List.{concat}
 use Rattle.dv_wire.specs.Schedule.{Run, in_front, CarriesOutMessages, TakesSplit, takes_all, takes_some}
 use Rattle.dv_wire.specs.declared.session.Counts.{Counts}
-use Rattle.dv_wire.specs.View.{Answered, Counted, GoesOn, Carries}
+use Rattle.dv_wire.specs.Inner.View.{Answered, Counted, GoesOn, Carries}
 use Rattle.dv_wire.proofs.Fronts.{FollowMessages, SplitByFronts, split_unfinished, split_closing, split_whole}
 use Rattle.dv_wire.proofs.Counting.{answered_more, Counted-append, Counted-none}
 use Rattle.dv_wire.proofs.Runs.{carries_then, carries_to, carries_cases}

@@ -16,7 +16,7 @@ use Rattle.dv_message.specs.Message.{Message, Conversation, reading, closed, Spl
 use Rattle.dv_wire.specs.Schedule.{Run, World, in_front, silence, bytes_of, bytes_to, CarriesOutMessages, TakesSplit, takes_all, takes_some, Hears, Comes, conversation_of, fed_of, world_behind}
 use Rattle.dv_wire.specs.Service.{closing_of, reply_count}
 use Rattle.dv_wire.specs.declared.fault.RunFault.TheVariants.{Read, Write, TooManyReads}
-use Rattle.dv_wire.specs.View.{Counted, Talks, TalksTo, closing_fed}
+use Rattle.dv_wire.specs.Inner.View.{Counted, Talks, TalksTo, closing_fed}
 use Rattle.dv_wire.proofs.Counting.{reply_count-append, reply_count-le}
 use Rattle.dv_wire.proofs.Runs.{follows_cases}
 use Rattle.dv_wire.proofs.Fronts.{AreFew, GoOn}

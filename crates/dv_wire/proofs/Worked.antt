@@ -22,8 +22,8 @@ use Rattle.dv_message.specs.Message.{Message, Conversation, reading, stream_fron
 use Rattle.dv_message.specs.Commands.{brought_body, body_among, lists_among, command_from, command_of}
 use Rattle.dv_wire.specs.Schedule.{reply_bytes, in_front, silence, plain_behind, plain_messages, plain_run}
 use Rattle.dv_wire.proofs.Replies.{unmarked}
-use Rattle.dv_message.specs.Examples.{asks, empty_document}
-use Rattle.dv_wire.specs.Examples.{ping_document, ping_fields, ok, ping_message, pong, SessionExamples, WantOverBytes}
+use Rattle.dv_message.specs.Inner.Examples.{asks, empty_document}
+use Rattle.dv_wire.specs.Inner.Examples.{ping_document, ping_fields, ok, ping_message, pong, SessionExamples, WantOverBytes}
 
 -- ---- a ping, from its bytes
 

@@ -8,7 +8,7 @@ pub mod Service
 pub mod Hosted
 pub mod Sound
 pub mod Fault
-pub mod Examples
 -- words that only bodies need
 pub mod View
-pub mod WorldCode
+-- what only bodies and proofs need
+pub mod Inner

@@ -51,7 +51,7 @@ pub struct Hub {
 impl Model for Hub {
     ghost use Rattle.std.specs.Prelude.{map};
     ghost use Rattle.dv_wire.specs.Schedule.{World};
-    ghost use Rattle.dv_wire.specs.WorldCode.{coded_world};
+    ghost use Rattle.dv_wire.specs.Inner.WorldCode.{coded_world};
 
     ghost Value = { World };
 
@@ -71,7 +71,7 @@ impl Hub {
     ghost use Rattle.dv_core.specs.Step.{end_session};
     ghost use Rattle.dv_wire.specs.Schedule.{world_of, conversation_of, Opens, Comes, Feeds, Appends, unfinished_in, whole_front, end as end_of};
     ghost use Rattle.dv_message.specs.Message.{reading};
-    ghost use Rattle.dv_wire.specs.View.{Answered};
+    ghost use Rattle.dv_wire.specs.Inner.View.{Answered};
     ghost use Rattle.dv_wire.specs.Playing.{Happens, Plays};
     ghost use Rattle.dv_wire.specs.declared.events.Said as heard;
 

@@ -6,7 +6,7 @@ ghost use Rattle.dv_value.specs.Spelling.{IsBytes};
 ghost use Rattle.dv_core.specs.Sound.{IsSound};
 ghost use Rattle.dv_core.specs.State.{State, standing};
 ghost use Rattle.dv_core.specs.Step.{step};
-ghost use Rattle.dv_wire.specs.Examples as examples;
+ghost use Rattle.dv_wire.specs.Inner.Examples as examples;
 ghost use Rattle.dv_host.specs.Schedule.{Step, HappensBy, PlaysBy as PlaysBySteps, answers as answers_of};
 ghost use Rattle.dv_wire.specs.Hosted.{OpensAs, FeedsAs, EndsAs, events_of};
 ghost use Rattle.dv_wire.specs.Sound.{IsNumbered, IsSoundWorld};

@@ -17,7 +17,7 @@ pub(crate) enum Body {
 }
 
 impl Body {
-    ghost use Rattle.dv_wire.specs.View.{body_seen};
+    ghost use Rattle.dv_wire.specs.Inner.View.{body_seen};
 
     /// Appends a message with this body as the reply to a request. Where memory is wanting nothing is appended.
     pub(crate) fn append(&self, request_id: u32, out: &mut Vec<u8>) -> Result<(), NoMemory>

@@ -5,7 +5,7 @@ ghost use Rattle.dv_message.specs.Message.{reading};
 ghost use Rattle.dv_wire.specs.Schedule.{conversation_of};
 ghost use Rattle.dv_wire.specs.Service.{AsksInRun, ComesTo, failures_read_in, failures_written_in};
 ghost use Rattle.dv_streams.specs.Stream.{once_more};
-ghost use Rattle.dv_wire.specs.View.{AnswersRead, Came, Counted, TalksTo, Writes, closing_fed};
+ghost use Rattle.dv_wire.specs.Inner.View.{AnswersRead, Came, Counted, TalksTo, Writes, closing_fed};
 
 use crate::fault::RunFault;
 use crate::hub::{Fed, Hub, SessionId};

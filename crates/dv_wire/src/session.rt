@@ -2,14 +2,14 @@
 
 ghost use Rattle.std.specs.Prelude.{◌≡◌, ◌≤◌, ◌⊎◌, ◌∷◌, ◌++◌, IfOk, OnErr, OnOk, length, drop, vec_len};
 ghost use Rattle.dv_value.specs.Spelling.{spelling};
-ghost use Rattle.dv_command.specs.Needed.{needed};
+ghost use Rattle.dv_command.specs.Inner.Needed.{needed};
 ghost use Rattle.dv_message.specs.Commands.{command_of};
 ghost use Rattle.dv_wire.specs.Schedule.{TakesSplit, bytes_to};
 ghost use Rattle.dv_core.specs.Step.{MemoryStep};
 ghost use Rattle.dv_core.specs.Told.{outcome_told};
 ghost use Rattle.dv_message.specs.Message.{message_spelling, split, stream_front};
-ghost use Rattle.dv_message.specs.View.{front_seen, message_seen};
-ghost use Rattle.dv_wire.specs.View.{kept_or_closed, left_or_closed, body_seen, bytes_seen, Answered, Carries};
+ghost use Rattle.dv_message.specs.Inner.View.{front_seen, message_seen};
+ghost use Rattle.dv_wire.specs.Inner.View.{kept_or_closed, left_or_closed, body_seen, bytes_seen, Answered, Carries};
 
 use crate::hub::Fed;
 use crate::reply::Body;
@@ -98,7 +98,8 @@ pub(crate) struct Session {
 
 impl Session {
     ghost use Rattle.dv_wire.specs.Schedule.{Hears, fed_of};
-    ghost use Rattle.dv_wire.specs.View.{conversation_seen, Answered};
+    ghost use Rattle.dv_wire.specs.View.{conversation_seen};
+    ghost use Rattle.dv_wire.specs.Inner.View.{Answered};
 
     /// Takes the next piece of the session's bytes. A closed session takes none.
     pub(crate) fn hear(

@@ -2,7 +2,7 @@
 use Rattle.std.proofs.Common.{◌≡◌, ◌≢◌, ℕ, ◌<◌, ◌≤◌, ◌⊎◌, inl, inr, List, ◌∷◌, ◌++◌, length, codes, decimal, Result, Ok, Err, refl, sym, ap, ◌∙◌, subst}
 use Rattle.std.specs.Prelude.{◌↔◌, IfOk}
 use Rattle.dv_words.specs.Line.{HasForm, IsHexOf, IsLine, IsSkipped}
-use Rattle.dv_words.specs.Reading.{Decodes}
+use Rattle.dv_words.specs.Inner.Reading.{Decodes}
 use Rattle.dv_words.specs.declared.said.Line.{Line}
 use Rattle.dv_words.specs.declared.said.Line.TheVariants.{Skip, Bytes, End}
 use Rattle.dv_words.specs.declared.said.LineFault.{LineFault}

@@ -13,7 +13,7 @@ use Rattle.std.specs.Prelude.{IfSome, Result, Ok, Err}
 use Rattle.std.specs.Result.{result_ok}
 use Rattle.std.specs.Str.Parse.{AllDigits, digits_value, ParsesUnsigned}
 use Rattle.dv_words.specs.Line.{IsSkipped}
-use Rattle.dv_words.specs.Reading.{IsPlain, is_space}
+use Rattle.dv_words.specs.Inner.Reading.{IsPlain, is_space}
 
 own : IsNumeralModel (AllDigits 10) (digits_value 10)
 own = numerals_by_value _ tells_digits

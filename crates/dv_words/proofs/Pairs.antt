@@ -7,7 +7,7 @@ use Rattle.std.specs.List.{AllPass}
 use Rattle.hex.specs.Hex.{decode_of, is_hex_digit}
 use Rattle.hex.proofs.HexLemmas.{decode_of-digits, decode_of-ok, decode_of-same}
 use Rattle.dv_words.specs.Line.{HexPair, written, hex_digits, IsHexOf}
-use Rattle.dv_words.specs.Reading.{IsPairs, BeginsWithPair, BeginsWithSpaces, is_space}
+use Rattle.dv_words.specs.Inner.Reading.{IsPairs, BeginsWithPair, BeginsWithSpaces, is_space}
 
 abbrev digit_holds : ℕ → Type 0
 digit_holds c = is_hex_digit c ≡ true

@@ -1,4 +1,3 @@
-pub mod Faults
 pub mod Line
-pub mod Reading
-pub mod Words
+-- what only bodies and proofs need
+pub mod Inner

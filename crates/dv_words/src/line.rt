@@ -4,7 +4,7 @@ ghost use Rattle.std.specs.Prelude.{◌≡◌, ◌≢◌, ◌<◌, ◌↔◌, �
 ghost use Rattle.std.specs.Fmt.{decimal};
 ghost use Rattle.hex.specs.Hex.{is_hex_digit};
 ghost use Rattle.dv_words.specs.Line.{IsLine, IsSkipped};
-ghost use Rattle.dv_words.specs.Reading.{BeginsWithPair, BeginsWithSpaces, Decodes, IsPairs, IsPlain, is_space};
+ghost use Rattle.dv_words.specs.Inner.Reading.{BeginsWithPair, BeginsWithSpaces, Decodes, IsPairs, IsPlain, is_space};
 
 use crate::said::{Line, LineFault};
 use dv_value::Bytes;

@@ -1,7 +1,7 @@
 //! The program's words.
 
 ghost use Rattle.std.specs.Prelude.{◌≡◌, Err, Some, None, IfOk, string_bytes};
-ghost use Rattle.dv_words.specs.Words.{load_in};
+ghost use Rattle.dv_words.specs.Inner.Words.{load_in};
 
 use crate::fault::DocdFault;
 use clap::{Arg, ArgAction, ArgMatches, Command, value_parser};

@@ -1,9 +1,9 @@
 //! Deleting documents under a namespace: all that a deletion is for, or as many as memory suffices for.
 
 ghost use Rattle.std.specs.Prelude.{◌≡◌, false};
-ghost use Rattle.dv_command.specs.View.{deletion_seen};
+ghost use Rattle.dv_command.specs.Inner.View.{deletion_seen};
 ghost use Rattle.dv_catalog.specs.Effects.{delete_chosen};
-ghost use Rattle.dv_catalog.specs.Parts.{Cuts, Makes, StandBehind};
+ghost use Rattle.dv_catalog.specs.Inner.Parts.{Cuts, Makes, StandBehind};
 ghost use Rattle.dv_catalog.specs.State.{is_view};
 
 use crate::catalog::Catalog;

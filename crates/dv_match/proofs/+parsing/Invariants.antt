@@ -1,5 +1,6 @@
 use Rattle.std.proofs.Common.{◌≡◌, ◌+◌, ◌-◌, ◌*◌, length, map, drop}
-use Rattle.dv_value.specs.Tree.{weight, fields_of, fields_weight, elements_of, elements_weight}
+use Rattle.dv_value.specs.Tree.{fields_of, elements_of}
+use Rattle.dv_value.specs.Inner.Tree.{weight, fields_weight, elements_weight}
 use Rattle.dv_value.specs.View.{tree}
 use Rattle.dv_match.specs.View.{member, condition}
 use Rattle.dv_match.proofs.Collected.{collected, after, member_of_field, condition_of_field, filter_of_value}

@@ -2,10 +2,10 @@ use Rattle.std.proofs.Common.{◌≡◌, ◌∙◌, ◌≤◌, ◌++◌, ◌∷�
 use Rattle.std.proofs.lemmas.List.{map-append}
 use Rattle.dv_value.specs.Tree.{Field}
 use Rattle.dv_value.specs.View.{tree}
-use Rattle.dv_value.specs.Weight.{field_weighs_less}
+use Rattle.dv_value.specs.Inner.Weight.{field_weighs_less}
 use Rattle.dv_row.specs.Expressions.{Expression}
-use Rattle.dv_row.specs.ExpressionView.{named}
-use Rattle.dv_row.specs.EachLaws.{IsParsedTo, parsed-next, parsed-refused, parsed-all, gives-fault}
+use Rattle.dv_row.specs.Inner.ExpressionView.{named}
+use Rattle.dv_row.specs.Inner.EachLaws.{IsParsedTo, parsed-next, parsed-refused, parsed-all, gives-fault}
 use Rattle.dv_row.proofs.Items.{drop-found, none-there}
 use Rattle.dv_row.proofs.Members.{computed_field, computed-fault, computed-all}
 use Rattle.dv_row.proofs.+expr_parsing.Goals as goal

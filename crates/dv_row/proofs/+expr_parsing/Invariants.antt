@@ -1,8 +1,9 @@
 use Rattle.std.proofs.Common.{◌+◌, ◌*◌, map}
-use Rattle.dv_value.specs.Tree.{fields_of, fields_weight, weight}
+use Rattle.dv_value.specs.Tree.{fields_of}
+use Rattle.dv_value.specs.Inner.Tree.{fields_weight, weight}
 use Rattle.dv_value.specs.View.{tree}
-use Rattle.dv_row.specs.ExpressionView.{named}
-use Rattle.dv_row.specs.EachLaws.{IsParsedTo}
+use Rattle.dv_row.specs.Inner.ExpressionView.{named}
+use Rattle.dv_row.specs.Inner.EachLaws.{IsParsedTo}
 use Rattle.dv_row.proofs.Members.{computed_field}
 use Rattle.dv_row.proofs.+expr_parsing.Given as goal
 

@@ -2,7 +2,8 @@
 //! times.
 
 ghost use Rattle.std.specs.Prelude.{◌≡◌, ◌+◌, ◌<◌, IfSome, map};
-ghost use Rattle.dv_value.specs.Tree.{weight, fields_of, fields_weight, elements_of, elements_weight};
+ghost use Rattle.dv_value.specs.Tree.{fields_of, elements_of};
+ghost use Rattle.dv_value.specs.Inner.Tree.{weight, fields_weight, elements_weight};
 ghost use Rattle.dv_value.specs.View.{tree};
 
 use crate::value::{Document, Fields, List, Measured, Value};

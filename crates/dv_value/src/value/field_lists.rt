@@ -4,7 +4,7 @@ ghost use Rattle.std.specs.Prelude.{◌≡◌, ◌+◌, ◌<◌, ◌≤◌, [], 
 ghost use Rattle.std.specs.Option.{option_map};
 ghost use Rattle.dv_value.specs.FieldChange.{with_value_pushed};
 ghost use Rattle.dv_value.specs.Names.{bare, AreNamed, place_under, value_under, with_value_under, without, has_name, has_zero};
-ghost use Rattle.dv_value.specs.Put.{with_value_at};
+ghost use Rattle.dv_value.specs.Inner.Put.{with_value_at};
 ghost use Rattle.dv_value.specs.View.{tree};
 
 use crate::NoMemory;

@@ -1,7 +1,7 @@
 //! Lists of values.
 
 ghost use Rattle.std.specs.Prelude.{◌≡◌, [], ◌∷◌, ◌++◌, map, OnOk, OnErr};
-ghost use Rattle.dv_value.specs.Put.{with_value_behind};
+ghost use Rattle.dv_value.specs.Inner.Put.{with_value_behind};
 ghost use Rattle.dv_value.specs.View.{tree};
 
 use crate::NoMemory;

@@ -5,8 +5,8 @@ ghost use Rattle.std.specs.List.{AllByRecursion};
 ghost use Rattle.dv_change.specs.Changes.{forget};
 ghost use Rattle.dv_coll.specs.Collection.{HasId};
 ghost use Rattle.dv_pipe.specs.Stages.{Lists};
-ghost use Rattle.dv_views.specs.ById.{AreAtIds};
-ghost use Rattle.dv_views.specs.Views.{AreRight, rows_shown};
+ghost use Rattle.dv_views.specs.Inner.ById.{AreAtIds};
+ghost use Rattle.dv_views.specs.Inner.Views.{AreRight, rows_shown};
 
 use crate::by_id::Standing;
 use crate::older::place_before;

@@ -1,7 +1,7 @@
 use Rattle.std.proofs.Common.{map, false, true, sym, ◌∙◌, rules, arith}
 use Rattle.std.proofs.lemmas.Result.{err_from_is_err_and}
 use Rattle.dv_value.specs.View.{tree}
-use Rattle.dv_bson.specs.Parts.{numbered}
+use Rattle.dv_bson.specs.Inner.Parts.{numbered}
 use Rattle.dv_bson.proofs.Shorter.{behind_name, frame_within}
 use Rattle.dv_bson.proofs.Fronts.{length_numbered}
 use Rattle.dv_bson.proofs.Elements.{field_may_be_added, array_read, numbered_push}

@@ -1,7 +1,7 @@
 use Rattle.std.proofs.Common.{◌≡◌, ◌*◌, ◌+◌, ◌-◌, ◌<◌, true, false, length, map}
 use Rattle.dv_value.specs.View.{tree}
 use Rattle.dv_bson.specs.Reading.{fields_at, body_at}
-use Rattle.dv_bson.specs.Parts.{numbered}
+use Rattle.dv_bson.specs.Inner.Parts.{numbered}
 use Rattle.dv_bson.proofs.reader.+reader.Given as goal
 
 -- A document's or an array's elements are read with a level less, by way of an element and its value.

@@ -1,5 +1,5 @@
 use Rattle.std.proofs.Common.{◌≡◌, length, ap, ◌∙◌, arith}
-use Rattle.dv_value.specs.Spelled.{length-tagged}
+use Rattle.dv_value.specs.Inner.Spelled.{length-tagged}
 use Rattle.dv_bson.proofs.Numbers.{wide32}
 use Rattle.dv_bson.proofs.Written.{tagged_put, length-put}
 use Rattle.dv_bson.proofs.writer.put_binary.Goals as goal

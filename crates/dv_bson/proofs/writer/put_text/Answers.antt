@@ -1,6 +1,6 @@
 use Rattle.std.proofs.Common.{◌≡◌, ◌+◌, length, ap, ◌∙◌, arith}
 use Rattle.dv_bson.proofs.Numbers.{wide32}
-use Rattle.dv_value.specs.Spelled.{length-counted}
+use Rattle.dv_value.specs.Inner.Spelled.{length-counted}
 use Rattle.dv_bson.proofs.Written.{counted_put, length-put}
 use Rattle.dv_bson.proofs.writer.put_text.Goals as goal
 

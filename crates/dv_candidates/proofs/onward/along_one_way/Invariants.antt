@@ -1,8 +1,8 @@
 use Rattle.std.proofs.Common.{◌≤◌, Some}
-use Rattle.dv_value.specs.Tree.{weight}
+use Rattle.dv_value.specs.Inner.Tree.{weight}
 use Rattle.dv_value.specs.View.{tree}
-use Rattle.dv_candidates.specs.Onward.{StandsFor}
-use Rattle.dv_candidates.specs.Places.{Reaches}
+use Rattle.dv_candidates.specs.Inner.Onward.{StandsFor}
+use Rattle.dv_candidates.specs.Inner.Places.{Reaches}
 use Rattle.dv_candidates.proofs.onward.along_one_way.Given as goal
 
 abbrev pub invariant-way : goal.invariant-way

@@ -1,7 +1,7 @@
 use Rattle.std.proofs.Common.{refl}
 use Rattle.dv_value.specs.View.{tree}
 use Rattle.dv_candidates.specs.Path.{index_of}
-use Rattle.dv_candidates.specs.Places.{picks}
+use Rattle.dv_candidates.specs.Inner.Places.{picks}
 use Rattle.dv_candidates.proofs.Items.{a_document, no_document}
 use Rattle.dv_candidates.proofs.WalkedArrays.{picked-element, element-only-picked, both-within, both-element, element-both}
 use Rattle.dv_candidates.proofs.Walks.{IsPart, behind-within}

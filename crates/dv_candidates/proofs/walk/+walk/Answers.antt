@@ -7,7 +7,7 @@ use Rattle.dv_value.specs.View.{tree}
 use Rattle.dv_candidates.specs.declared.candidate.Candidate.TheVariants.{Found, Missing}
 use Rattle.dv_candidates.specs.Path.{index_of}
 use Rattle.dv_candidates.specs.Candidates.{Candidate}
-use Rattle.dv_candidates.specs.Places.{has, picks}
+use Rattle.dv_candidates.specs.Inner.Places.{has, picks}
 use Rattle.dv_candidates.proofs.Bits.{none}
 use Rattle.dv_candidates.proofs.Items.{get_or_any, slice_get_seen, value_weighs_less, value_weighs_less_in}
 use Rattle.dv_candidates.proofs.Folds.{FoldsOver-none, FoldsOver-call, FoldsOver-more, FoldsOver-same, StopsAmong-call, StopsAmong-more, Folded-same, Folded-more, Folded-call}

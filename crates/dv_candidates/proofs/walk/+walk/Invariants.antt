@@ -1,10 +1,11 @@
 use Rattle.std.proofs.Common.{◌+◌, ◌*◌}
-use Rattle.dv_value.specs.Tree.{weight, fields_of, fields_weight, elements_of, elements_weight}
+use Rattle.dv_value.specs.Tree.{fields_of, elements_of}
+use Rattle.dv_value.specs.Inner.Tree.{weight, fields_weight, elements_weight}
 use Rattle.dv_value.specs.View.{tree}
 use Rattle.std.proofs.Common.{Some}
 use Rattle.dv_value.specs.Tree.{array}
-use Rattle.dv_candidates.specs.Fold.{FoldsOver}
-use Rattle.dv_candidates.specs.Places.{Reaches}
+use Rattle.dv_candidates.specs.Inner.Fold.{FoldsOver}
+use Rattle.dv_candidates.specs.Inner.Places.{Reaches}
 use Rattle.dv_candidates.specs.View.{seen}
 use Rattle.dv_candidates.proofs.WalkedArrays.{ReachesBelow}
 use Rattle.dv_candidates.proofs.Walks.{Whole, ReachesThere, IsSorted}

@@ -1,6 +1,6 @@
 use Rattle.std.proofs.Common.{Bor, ◌≡◌, ◌≤◌, ◌+◌, ◌-◌, ◌∙◌, ◌∷◌, arith, ap, sym, length, List, Some, slice_get, take, true}
 use Rattle.dv_value.specs.Tree.{Field}
-use Rattle.dv_keyed.specs.Ahead.{is_ahead}
+use Rattle.dv_keyed.specs.Inner.Ahead.{is_ahead}
 use Rattle.dv_path.specs.Parts.{part}
 use Rattle.dv_path.specs.SortSpec.{Part}
 use Rattle.dv_pipe.specs.Sources.{rows_referred}

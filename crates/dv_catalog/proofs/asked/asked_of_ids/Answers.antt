@@ -1,10 +1,10 @@
 use Rattle.std.proofs.Common.{ap, sym, map, ◌∙◌}
 use Rattle.dv_value.specs.View.{tree}
 use Rattle.dv_coll.specs.Collection.{id_key}
-use Rattle.dv_keyed.specs.Index.{form_of}
-use Rattle.dv_keyed.specs.Interval.{is_in_all}
-use Rattle.dv_keyed.specs.Keys.{has_key}
-use Rattle.dv_catalog.specs.Equalities.{equals_in}
+use Rattle.dv_keyed.specs.Inner.Index.{form_of}
+use Rattle.dv_keyed.specs.Inner.Interval.{is_in_all}
+use Rattle.dv_keyed.specs.Inner.Keys.{has_key}
+use Rattle.dv_catalog.specs.Inner.Equalities.{equals_in}
 use Rattle.dv_catalog.proofs.Narrowed.{among_values, equal_asked, id_in_all}
 use Rattle.dv_catalog.proofs.asked.asked_of_ids.Goals as goal
 

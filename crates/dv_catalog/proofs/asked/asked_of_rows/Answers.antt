@@ -2,7 +2,7 @@ use Rattle.std.proofs.Common.{◌≡◌, true, refl}
 use Rattle.std.proofs.lemmas.Result.{IfOk-weaker}
 use Rattle.dv_coll.specs.Collection.{id_key}
 use Rattle.dv_match.specs.Match.{matches}
-use Rattle.dv_catalog.specs.Asked.{is_asked}
+use Rattle.dv_catalog.specs.Inner.Asked.{is_asked}
 use Rattle.dv_catalog.proofs.Narrowed.{each, each_identified}
 use Rattle.dv_catalog.proofs.asked.asked_of_rows.Goals as goal
 

@@ -6,9 +6,9 @@ use Rattle.dv_gather.specs.Lookups.{looked_up}
 use Rattle.dv_pipe.specs.Sources.{lists_of, rows_referred}
 use Rattle.dv_pipe.specs.Stages.{Lists, beside, through}
 use Rattle.dv_pipe.specs.declared.stage.Stage.TheVariants as stage
-use Rattle.dv_catalog.specs.Behind.{looks_nowhere}
-use Rattle.dv_catalog.specs.CatalogParts.{rows_kept}
-use Rattle.dv_catalog.specs.SearchedView.{searched}
+use Rattle.dv_catalog.specs.Inner.Behind.{looks_nowhere}
+use Rattle.dv_catalog.specs.Inner.CatalogParts.{rows_kept}
+use Rattle.dv_catalog.specs.Inner.SearchedView.{searched}
 use Rattle.dv_catalog.proofs.Fronts.{by_lookup}
 use Rattle.dv_catalog.proofs.behind.+behind.Goals as goal
 

@@ -1,6 +1,6 @@
 use Rattle.std.proofs.Common.{◌≡◌, ◌≤◌, ◌-◌, length, take, true}
 use Rattle.std.specs.List.{list_all}
-use Rattle.dv_catalog.specs.Behind.{looks_nowhere}
+use Rattle.dv_catalog.specs.Inner.Behind.{looks_nowhere}
 use Rattle.dv_catalog.proofs.behind.first_lookup.Given as goal
 
 -- the stages so far look into nothing

@@ -1,7 +1,7 @@
 use Rattle.std.proofs.Common.{ap, map, take_all, ◌∙◌}
 use Rattle.dv_gather.specs.Lookups.{joined_row, looked_up}
 use Rattle.dv_pipe.specs.Sources.{rows_referred}
-use Rattle.dv_catalog.specs.SearchedView.{searched}
+use Rattle.dv_catalog.specs.Inner.SearchedView.{searched}
 use Rattle.dv_catalog.proofs.behind.joined.Goals as goal
 
 pub returns : goal.returns

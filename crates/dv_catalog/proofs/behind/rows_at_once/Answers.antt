@@ -2,9 +2,9 @@ use Rattle.std.proofs.Common.{ℕ, List, sym, subst, ◌∙◌}
 use Rattle.std.proofs.lemmas.Result.{IfOk-weaker}
 use Rattle.dv_pipe.specs.Sources.{lists_of, rows_referred}
 use Rattle.dv_pipe.specs.Stages.{Lists}
-use Rattle.dv_views.specs.Made.{AreAlike}
+use Rattle.dv_views.specs.Inner.Made.{AreAlike}
 use Rattle.dv_views.specs.Placed.{lookups_of}
-use Rattle.dv_catalog.specs.CatalogParts.{rows_kept}
+use Rattle.dv_catalog.specs.Inner.CatalogParts.{rows_kept}
 use Rattle.dv_catalog.proofs.Sourced.{looked_among}
 use Rattle.dv_catalog.proofs.behind.rows_at_once.Goals as goal
 

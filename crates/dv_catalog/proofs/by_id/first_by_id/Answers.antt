@@ -2,10 +2,10 @@ use Rattle.std.proofs.Common.{Bor, ◌∙◌, ℕ, List, ap, filter, take}
 use Rattle.std.specs.Option.{unwrap_or}
 use Rattle.dv_value.specs.Tree.{Field}
 use Rattle.dv_coll.specs.Collection.{HasId}
-use Rattle.dv_index.specs.InDirection.{in_direction}
+use Rattle.dv_index.specs.Inner.InDirection.{in_direction}
 use Rattle.dv_match.specs.Match.{matches}
 use Rattle.dv_pipe.specs.Sources.{rows_referred}
-use Rattle.dv_catalog.specs.ScanLaws.{all_unsorted}
+use Rattle.dv_catalog.specs.Inner.ScanLaws.{all_unsorted}
 use Rattle.dv_catalog.proofs.ById.{first-by-id}
 use Rattle.dv_catalog.proofs.by_id.first_by_id.Goals as goal
 

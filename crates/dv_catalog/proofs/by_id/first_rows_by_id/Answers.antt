@@ -4,7 +4,7 @@ use Rattle.dv_coll.specs.Collection.{HasId}
 use Rattle.dv_match.specs.Match.{matches}
 use Rattle.std.proofs.Common.{filter}
 use Rattle.dv_pipe.specs.Sources.{rows_referred}
-use Rattle.dv_catalog.specs.ScanLaws.{all_unsorted}
+use Rattle.dv_catalog.specs.Inner.ScanLaws.{all_unsorted}
 use Rattle.dv_catalog.proofs.ById.{in-order}
 use Rattle.dv_catalog.proofs.by_id.first_rows_by_id.Goals as goal
 

@@ -2,7 +2,7 @@ use Rattle.std.proofs.Common.{length, refl, sym, ap, ◌∙◌}
 use Rattle.std.proofs.lemmas.Option.{slice_get_read}
 use Rattle.dv_catalog.specs.IndexMaking.{is_same}
 use Rattle.dv_catalog.proofs.Found.{any_at}
-use Rattle.dv_keyed.specs.View.{form_of_new}
+use Rattle.dv_keyed.specs.Inner.View.{form_of_new}
 use Rattle.dv_catalog.proofs.coming.is_at.Goals as goal
 
 pub returns-in-Some : goal.returns-in-Some

@@ -1,6 +1,6 @@
 use Rattle.std.proofs.Common.{◌≡◌, ◌++◌, drop}
 use Rattle.std.specs.String.{string_bytes}
-use Rattle.dv_catalog.specs.ComingParts.{joined}
+use Rattle.dv_catalog.specs.Inner.ComingParts.{joined}
 use Rattle.dv_catalog.proofs.coming.text_of.Given as goal
 
 -- the text so far, and that of what is left, are the whole

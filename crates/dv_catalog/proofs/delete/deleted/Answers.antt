@@ -1,10 +1,10 @@
 use Rattle.std.proofs.Common.{◌≡◌, length, map, ◌∙◌, sym, arith}
 use Rattle.std.proofs.lemmas.Grind.{common_steps}
 use Rattle.std.proofs.lemmas.List.{length-map}
-use Rattle.dv_command.specs.View.{deletion_seen}
+use Rattle.dv_command.specs.Inner.View.{deletion_seen}
 use Rattle.dv_pipe.specs.Sources.{rows_referred}
 use Rattle.dv_catalog.specs.Changes.{gone}
-use Rattle.dv_catalog.specs.EffectLaws.{done_unbroken}
+use Rattle.dv_catalog.specs.Inner.EffectLaws.{done_unbroken}
 use Rattle.dv_catalog.specs.Effects.{delete_chosen}
 use Rattle.dv_catalog.proofs.Breaking.{gone_breaks_nothing}
 use Rattle.dv_catalog.proofs.Deleted.{deletes, deletes_placed, deletes_identified}

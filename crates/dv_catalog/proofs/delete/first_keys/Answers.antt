@@ -5,7 +5,7 @@ use Rattle.std.specs.List.{AllByRecursion}
 use Rattle.dv_value.specs.Tree.{Field}
 use Rattle.dv_order.specs.Key.{KeyTree}
 use Rattle.dv_coll.specs.Collection.{HasId, id_key}
-use Rattle.dv_command.specs.View.{deletion_seen}
+use Rattle.dv_command.specs.Inner.View.{deletion_seen}
 use Rattle.dv_pipe.specs.Sources.{rows_referred}
 use Rattle.dv_catalog.proofs.Deleted.{all_but_last, one_less, some_first, some_identified, some_placed}
 use Rattle.dv_catalog.proofs.Keys.{before_ascending}

@@ -1,6 +1,6 @@
 use Rattle.std.proofs.Common.{ap, sym, ◌∙◌}
 use Rattle.std.specs.Option.{option_map}
-use Rattle.dv_catalog.specs.Fronts.{matching_where}
+use Rattle.dv_catalog.specs.Inner.Fronts.{matching_where}
 use Rattle.dv_catalog.specs.Scan.{matching}
 use Rattle.dv_catalog.proofs.Fronts.{matching_all}
 use Rattle.dv_catalog.proofs.front.filter_or.Goals as goal

@@ -1,7 +1,7 @@
 use Rattle.std.proofs.Common.{◌≡◌, ◌++◌, false, length, map, nat_lt, arith}
 use Rattle.std.proofs.lemmas.Grind.{common_steps}
 use Rattle.std.proofs.lemmas.Result.{err_from_is_err_and}
-use Rattle.dv_keyed.specs.View.{form_of_new}
+use Rattle.dv_keyed.specs.Inner.View.{form_of_new}
 use Rattle.dv_catalog.specs.IndexMaking.{index_limit}
 use Rattle.dv_catalog.proofs.ByEntry.{not_made}
 use Rattle.dv_catalog.proofs.indexing.create_each.Goals as goal

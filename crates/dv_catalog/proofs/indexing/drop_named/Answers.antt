@@ -2,8 +2,9 @@ use Rattle.std.proofs.Common.{◌≡◌, false, inl, codes, sym, ap, ◌∙◌, 
 use Rattle.std.specs.List.{list_any}
 use Rattle.std.specs.Str.{bytes_eq}
 use Rattle.dv_keyed.specs.Index.{id_form}
-use Rattle.dv_index.specs.Indexed.{is_dropped, with_indexes}
-use Rattle.dv_catalog.specs.IndexParts.{collection_so}
+use Rattle.dv_index.specs.Indexed.{is_dropped}
+use Rattle.dv_index.specs.Inner.Indexed.{with_indexes}
+use Rattle.dv_catalog.specs.Inner.IndexParts.{collection_so}
 use Rattle.dv_catalog.proofs.ByEntry.{all_stay, none_dropped}
 use Rattle.dv_catalog.proofs.indexing.drop_named.Goals as goal
 

@@ -1,7 +1,7 @@
 use Rattle.std.proofs.Common.{◌≡◌, ◌++◌, map}
 use Rattle.std.specs.Vec.Iter.{into_iter_items}
-use Rattle.dv_keyed.specs.Index.{form_of}
-use Rattle.dv_keyed.specs.View.{form_of_new}
+use Rattle.dv_keyed.specs.Inner.Index.{form_of}
+use Rattle.dv_keyed.specs.Inner.View.{form_of_new}
 use Rattle.dv_catalog.specs.IndexMaking.{with_entries}
 use Rattle.dv_catalog.proofs.indexing.fresh_among.Given as goal
 

@@ -1,6 +1,6 @@
 use Rattle.std.proofs.Common.{refl}
-use Rattle.dv_keyed.specs.Index.{form_of}
-use Rattle.dv_keyed.specs.View.{form_of_new}
+use Rattle.dv_keyed.specs.Inner.Index.{form_of}
+use Rattle.dv_keyed.specs.Inner.View.{form_of_new}
 use Rattle.dv_catalog.specs.IndexMaking.{is_alike}
 use Rattle.dv_catalog.proofs.ByEntry.{any_parts}
 use Rattle.dv_catalog.proofs.indexing.is_half_made.Goals as goal

@@ -1,5 +1,5 @@
 use Rattle.std.proofs.Common.{ap, sym, ◌∙◌}
-use Rattle.dv_index.specs.InDirection.{in_direction}
+use Rattle.dv_index.specs.Inner.InDirection.{in_direction}
 use Rattle.dv_pipe.specs.Sources.{rows_referred}
 use Rattle.dv_catalog.proofs.Lent.{referred_reverse}
 use Rattle.dv_catalog.proofs.keyed.directed.Goals as goal

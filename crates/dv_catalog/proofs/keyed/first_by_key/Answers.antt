@@ -4,11 +4,11 @@ use Rattle.std.specs.List.{AllByRecursion}
 use Rattle.dv_value.specs.Tree.{Field}
 use Rattle.dv_order.specs.Key.{KeyTree}
 use Rattle.dv_coll.specs.Collection.{id_key}
-use Rattle.dv_keyed.specs.Interval.{is_between}
-use Rattle.dv_keyed.specs.Keys.{has_key}
+use Rattle.dv_keyed.specs.Inner.Interval.{is_between}
+use Rattle.dv_keyed.specs.Inner.Keys.{has_key}
 use Rattle.dv_match.specs.Match.{matches}
 use Rattle.dv_sort.specs.Sorting.{front}
-use Rattle.dv_catalog.specs.Asked.{is_asked}
+use Rattle.dv_catalog.specs.Inner.Asked.{is_asked}
 use Rattle.dv_catalog.specs.declared.asked.Asked.{Asked}
 use Rattle.dv_catalog.proofs.Narrowed.{kept_directed}
 use Rattle.dv_catalog.proofs.keyed.first_by_key.Goals as goal

@@ -5,7 +5,7 @@ use Rattle.std.specs.BTreeMap.Range.{range_contains}
 use Rattle.std.specs.Ordering.{is_gt}
 use Rattle.std.specs.declared.ops.Bound.TheVariants.{Included}
 use Rattle.dv_order.specs.Key.{key_order}
-use Rattle.dv_order.specs.KeyLaws.{key_order_total}
+use Rattle.dv_order.specs.Inner.KeyLaws.{key_order_total}
 use Rattle.dv_coll.specs.Collection.{id_key}
 use Rattle.dv_catalog.proofs.Narrowed.{at_key}
 use Rattle.dv_catalog.proofs.keyed.rows_at.Goals as goal

@@ -1,7 +1,7 @@
 use Rattle.std.proofs.Common.{Bool, List, ◌∙◌}
 use Rattle.dv_value.specs.Tree.{Field}
 use Rattle.dv_coll.specs.Collection.{id_key}
-use Rattle.dv_keyed.specs.Interval.{is_between}
+use Rattle.dv_keyed.specs.Inner.Interval.{is_between}
 use Rattle.dv_catalog.proofs.Narrowed.{each, nothing_directed}
 use Rattle.dv_catalog.proofs.keyed.rows_between.Goals as goal
 

@@ -1,6 +1,6 @@
 use Rattle.std.proofs.Common.{◌≡◌, ℕ, ◌+◌, List, ◌∷◌, drop, sym, subst}
 use Rattle.dv_value.specs.Tree.{Field}
-use Rattle.dv_catalog.specs.SourceParts.{with_list}
+use Rattle.dv_catalog.specs.Inner.SourceParts.{with_list}
 use Rattle.dv_catalog.specs.State.{AreOrdered, documents_of, lists_of}
 use Rattle.dv_catalog.proofs.Sourced.{AreListed, each_ordered, next_listed, next_ordered}
 use Rattle.dv_catalog.proofs.Stopping.{next_item}

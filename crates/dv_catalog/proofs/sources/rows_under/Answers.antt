@@ -1,6 +1,6 @@
 use Rattle.std.proofs.Common.{◌≡◌, ℕ, ◌+◌, List, ◌∷◌, drop, subst}
-use Rattle.dv_catalog.specs.CatalogParts.{rows_kept}
-use Rattle.dv_catalog.specs.SourceParts.{with_list}
+use Rattle.dv_catalog.specs.Inner.CatalogParts.{rows_kept}
+use Rattle.dv_catalog.specs.Inner.SourceParts.{with_list}
 use Rattle.dv_catalog.proofs.Sourced.{AreListed, next_listed}
 use Rattle.dv_catalog.proofs.Stopping.{next_item}
 use Rattle.dv_catalog.proofs.sources.rows_under.Goals as goal

@@ -1,5 +1,5 @@
 use Rattle.std.proofs.Common.{drop}
-use Rattle.dv_catalog.specs.CatalogParts.{rows_kept}
+use Rattle.dv_catalog.specs.Inner.CatalogParts.{rows_kept}
 use Rattle.dv_catalog.proofs.Sourced.{AreListed}
 use Rattle.dv_catalog.proofs.sources.rows_under.Given as goal
 

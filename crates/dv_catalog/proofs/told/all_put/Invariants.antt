@@ -2,7 +2,7 @@ use Rattle.std.proofs.Common.{◌≡◌, ◌++◌, drop, map}
 use Rattle.std.specs.List.{AllByRecursion}
 use Rattle.dv_coll.specs.Collection.{HasId}
 use Rattle.dv_catalog.specs.Changes.{put}
-use Rattle.dv_catalog.specs.EffectView.{after_of}
+use Rattle.dv_catalog.specs.Inner.EffectView.{after_of}
 use Rattle.dv_catalog.specs.Told.{told}
 use Rattle.dv_catalog.proofs.told.all_put.Given as goal
 

@@ -1,5 +1,5 @@
 use Rattle.std.proofs.Common.{◌≡◌, ◌++◌, drop, map}
-use Rattle.dv_catalog.specs.EffectView.{after_of}
+use Rattle.dv_catalog.specs.Inner.EffectView.{after_of}
 use Rattle.dv_catalog.proofs.update.afters_of.Given as goal
 
 -- those so far, and those that are left

@@ -6,7 +6,7 @@ use Rattle.dv_pipe.specs.Sources.{rows_referred}
 use Rattle.dv_update.specs.Outcome as outcomes
 use Rattle.dv_update.specs.UpdateView as seen
 use Rattle.dv_catalog.specs.Effects as updates
-use Rattle.dv_catalog.specs.EffectView.{after_of}
+use Rattle.dv_catalog.specs.Inner.EffectView.{after_of}
 use Rattle.dv_catalog.proofs.Stopping.{next_item}
 use Rattle.dv_catalog.proofs.Updated.{afters_more, befores_more}
 use Rattle.dv_catalog.proofs.update.changed_by.Goals as goal

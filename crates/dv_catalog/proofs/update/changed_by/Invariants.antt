@@ -4,7 +4,7 @@ use Rattle.dv_pipe.specs.Sources.{rows_referred}
 use Rattle.dv_update.specs.Outcome.{sole_name}
 use Rattle.dv_update.specs.UpdateView as seen
 use Rattle.dv_catalog.specs.Effects as updates
-use Rattle.dv_catalog.specs.EffectView.{after_of}
+use Rattle.dv_catalog.specs.Inner.EffectView.{after_of}
 use Rattle.dv_catalog.proofs.update.changed_by.Given as goal
 
 -- what was changed so far, and what becomes of the documents that are left

@@ -1,10 +1,11 @@
 use Rattle.std.proofs.Common.{◌≡◌, List, ◌∷◌, arith, length, map, sym, ap, subst, ◌∙◌}
 use Rattle.std.specs.Vec.Iter.{into_iter_items}
 use Rattle.dv_value.specs.Tree.{Field}
-use Rattle.dv_index.specs.Indexed.{IndexedTree, with_documents}
+use Rattle.dv_index.specs.Indexed.{IndexedTree}
+use Rattle.dv_index.specs.Inner.Indexed.{with_documents}
 use Rattle.dv_catalog.specs.declared.effect.Updated.{Updated}
 use Rattle.dv_catalog.specs.Changes.{put, with_put}
-use Rattle.dv_catalog.specs.EffectView.{ArePlaced, AreUpdatesOf, after_of}
+use Rattle.dv_catalog.specs.Inner.EffectView.{ArePlaced, AreUpdatesOf, after_of}
 use Rattle.dv_catalog.proofs.Stopping.{AreMadeSoFar, made_more, put_replaced}
 use Rattle.dv_catalog.proofs.Updated.{next_updates}
 use Rattle.dv_catalog.proofs.update.put_each.Goals as goal

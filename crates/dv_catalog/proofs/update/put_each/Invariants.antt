@@ -1,7 +1,7 @@
 use Rattle.std.proofs.Common.{◌≡◌, ◌+◌, length, map}
 use Rattle.std.specs.Vec.Iter.{into_iter_items}
 use Rattle.dv_catalog.specs.Changes.{put}
-use Rattle.dv_catalog.specs.EffectView.{ArePlaced, AreUpdatesOf, after_of}
+use Rattle.dv_catalog.specs.Inner.EffectView.{ArePlaced, AreUpdatesOf, after_of}
 use Rattle.dv_catalog.proofs.Stopping.{AreMadeSoFar}
 use Rattle.dv_catalog.proofs.update.put_each.Given as goal
 

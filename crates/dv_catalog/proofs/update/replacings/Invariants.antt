@@ -1,5 +1,5 @@
 use Rattle.std.proofs.Common.{◌≡◌, ◌++◌, length, map}
-use Rattle.dv_index.specs.View.{afters, befores}
+use Rattle.dv_index.specs.Inner.View.{afters, befores}
 use Rattle.dv_catalog.proofs.update.replacings.Given as goal
 
 -- those so far, and those that are left

@@ -1,9 +1,9 @@
 use Rattle.std.proofs.Common.{◌≡◌, ◌∙◌, Ok, ap, map, sym}
-use Rattle.dv_command.specs.View.{updating_seen}
+use Rattle.dv_command.specs.Inner.View.{updating_seen}
 use Rattle.dv_pipe.specs.Sources.{rows_referred}
 use Rattle.dv_update.specs.Outcome.{sole_name}
 use Rattle.dv_catalog.specs.Effects.{changed_by}
-use Rattle.dv_catalog.specs.EffectView.{after_of}
+use Rattle.dv_catalog.specs.Inner.EffectView.{after_of}
 use Rattle.dv_catalog.proofs.Updated.{updates_placed, updates_stand}
 use Rattle.dv_catalog.proofs.update.updated.Goals as goal
 

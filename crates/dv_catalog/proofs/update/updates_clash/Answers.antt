@@ -5,9 +5,9 @@ use Rattle.dv_value.specs.Tree.{Field}
 use Rattle.dv_coll.specs.Collection.{HasId}
 use Rattle.dv_keyed.specs.Index.{IndexForm}
 use Rattle.dv_index.specs.Unique.{replacing_clashes}
-use Rattle.dv_index.specs.View.{afters}
+use Rattle.dv_index.specs.Inner.View.{afters}
 use Rattle.dv_catalog.specs.Changes.{put}
-use Rattle.dv_catalog.specs.EffectView.{after_of}
+use Rattle.dv_catalog.specs.Inner.EffectView.{after_of}
 use Rattle.dv_catalog.proofs.Breaking.{none_break, puts_break}
 use Rattle.dv_catalog.proofs.Keeping.{all_begin}
 use Rattle.dv_catalog.proofs.ToldChanges.{all_identified}

@@ -1,6 +1,6 @@
 use Rattle.std.proofs.Common.{◌≡◌, ℕ, ◌+◌, List, ◌∷◌, drop, true, false, sym, ap, subst, ◌∙◌, arith}
 use Rattle.std.proofs.lemmas.List.{drop_all}
-use Rattle.dv_catalog.specs.CatalogParts.{is_one_stale}
+use Rattle.dv_catalog.specs.Inner.CatalogParts.{is_one_stale}
 use Rattle.dv_catalog.proofs.Stale.{live_each, stale_on}
 use Rattle.dv_catalog.proofs.Stopping.{next_item}
 use Rattle.dv_catalog.proofs.upkeep.is_one_stale.Goals as goal

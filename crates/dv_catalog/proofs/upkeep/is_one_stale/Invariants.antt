@@ -1,5 +1,5 @@
 use Rattle.std.proofs.Common.{◌≡◌, drop}
-use Rattle.dv_catalog.specs.CatalogParts.{is_one_stale}
+use Rattle.dv_catalog.specs.Inner.CatalogParts.{is_one_stale}
 use Rattle.dv_catalog.proofs.upkeep.is_one_stale.Given as goal
 
 -- whether a view of a name that is left is stale is whether one of any is

@@ -2,8 +2,8 @@ use Rattle.std.proofs.Common.{ℕ, List, map, sym, subst, ◌∙◌}
 use Rattle.std.specs.List.{AllByRecursion}
 use Rattle.dv_pipe.specs.Sources.{lists_of}
 use Rattle.dv_views.specs.Forms.{IsClosed, needed}
-use Rattle.dv_views.specs.Views.{view_form}
-use Rattle.dv_catalog.specs.CatalogParts.{AreLive}
+use Rattle.dv_views.specs.Inner.Views.{view_form}
+use Rattle.dv_catalog.specs.Inner.CatalogParts.{AreLive}
 use Rattle.dv_catalog.specs.State.{AreOrdered}
 use Rattle.dv_catalog.proofs.Refreshed.{live_needed, live_refreshed, read_live, reads_nothing, reads_refreshed}
 use Rattle.dv_catalog.proofs.upkeep.refresh_needed.Goals as goal

@@ -1,10 +1,11 @@
 -- What the first turn hands on leads from what it made to what it makes, which those behind it take in.
 use Rattle.std.proofs.Common.{rules, ◌≡◌, ◌∙◌, ◌++◌, ◌∷◌, sym, ap}
 use Rattle.std.specs.List.{AllByRecursion}
-use Rattle.dv_change.specs.Changes.{IsExactChange, with_changes}
-use Rattle.dv_change.specs.Linked.{IsLinked, first_left}
+use Rattle.dv_change.specs.Changes.{with_changes}
+use Rattle.dv_change.specs.Inner.Changes.{IsExactChange}
+use Rattle.dv_change.specs.Inner.Linked.{IsLinked, first_left}
 use Rattle.dv_change.specs.Work.{handed}
-use Rattle.dv_change.specs.Answered.{ok-both, ok-one}
+use Rattle.dv_change.specs.Inner.Answered.{ok-both, ok-one}
 use Rattle.dv_change.proofs.Linking.{behind-linked, fed-exact, fed-linked, first-linked, more-ticks}
 use Rattle.dv_change.proofs.chain.+feed_all.Goals as goal
 

@@ -1,9 +1,9 @@
 -- What the turn hands on leads from what it made to what it makes, which those behind it take in.
 use Rattle.std.proofs.Common.{rules, ◌≡◌, ◌∙◌, ◌++◌, ◌∷◌, sym, ap}
 use Rattle.dv_change.specs.declared.input.Input.TheVariants.{Named}
-use Rattle.dv_change.specs.Linked.{first_left}
+use Rattle.dv_change.specs.Inner.Linked.{first_left}
 use Rattle.dv_change.specs.Work.{owed_by}
-use Rattle.dv_change.specs.Answered.{ok-both}
+use Rattle.dv_change.specs.Inner.Answered.{ok-both}
 use Rattle.dv_change.proofs.Linking.{behind-linked, owed-exact, owed-linked}
 use Rattle.dv_change.proofs.chain.+feed_named.Goals as goal
 

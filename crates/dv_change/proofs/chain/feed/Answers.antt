@@ -1,6 +1,6 @@
 -- What the turn handed on before it failed stands behind what the changes before it handed on.
 use Rattle.std.proofs.Common.{rules}
-use Rattle.dv_change.specs.Beginning.{BeginsWith}
+use Rattle.dv_change.specs.Inner.Beginning.{BeginsWith}
 use Rattle.dv_change.proofs.Beginning.{begins-through}
 use Rattle.dv_change.proofs.chain.feed.Goals as goal
 

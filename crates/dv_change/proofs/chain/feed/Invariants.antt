@@ -1,7 +1,7 @@
 -- What the turn has taken in with the changes to come is what it takes in of all.
 use Rattle.std.proofs.Common.{◌≡◌, ◌≤◌, ◌++◌, ◌+◌, length}
 use Rattle.std.specs.Vec.Iter.{into_iter_items}
-use Rattle.dv_change.specs.Beginning.{BeginsWith}
+use Rattle.dv_change.specs.Inner.Beginning.{BeginsWith}
 use Rattle.dv_change.specs.Changes.{with_changes}
 use Rattle.dv_change.specs.Raised.{raised}
 use Rattle.dv_change.specs.Work.{handed}

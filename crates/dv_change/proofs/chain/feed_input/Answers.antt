@@ -2,9 +2,9 @@
 use Rattle.std.proofs.Common.{◌≡◌, ◌∙◌, ◌++◌, ◌∷◌, [], ap, sym}
 use Rattle.dv_change.specs.Changes.{with_changes}
 use Rattle.dv_change.specs.Inputs.{left_after}
-use Rattle.dv_change.specs.Linked.{first_left, forms_of}
-use Rattle.dv_change.specs.Work.{forms_after}
-use Rattle.dv_change.specs.Answered.{ok-one}
+use Rattle.dv_change.specs.Inner.Linked.{first_left, forms_of}
+use Rattle.dv_change.specs.Inner.Work.{forms_after}
+use Rattle.dv_change.specs.Inner.Answered.{ok-one}
 use Rattle.dv_change.proofs.Linking.{leads-after, outs-after}
 use Rattle.dv_change.proofs.chain.feed_input.Goals as goal
 

@@ -1,7 +1,7 @@
 -- The changes so far stand behind the others.
 use Rattle.std.proofs.Common.{◌≡◌, ◌++◌}
 use Rattle.std.specs.Vec.Iter.{into_iter_items}
-use Rattle.dv_change.specs.Beginning.{BeginsWith}
+use Rattle.dv_change.specs.Inner.Beginning.{BeginsWith}
 use Rattle.dv_change.proofs.chain.push_all.Given as goal
 
 abbrev pub invariant-changes : goal.invariant-changes

@@ -1,6 +1,6 @@
 -- Where there is no row, nothing is put.
 use Rattle.std.proofs.Common.{rules, ◌≡◌, ◌++◌, ap, sym, ◌∙◌, append-nil, slice_get, None}
-use Rattle.dv_change.specs.Telling.{gones_by}
+use Rattle.dv_change.specs.Inner.Telling.{gones_by}
 use Rattle.dv_change.proofs.Fronts.{nothing}
 use Rattle.dv_change.proofs.handing.push_gones.Goals as goal
 

@@ -1,7 +1,7 @@
 -- What is put so far, and what is left to put, are all that goes.
 use Rattle.std.proofs.Common.{◌≡◌, ◌++◌}
-use Rattle.dv_change.specs.Beginning.{BeginsWith}
-use Rattle.dv_change.specs.Telling.{gones_by}
+use Rattle.dv_change.specs.Inner.Beginning.{BeginsWith}
+use Rattle.dv_change.specs.Inner.Telling.{gones_by}
 use Rattle.dv_change.proofs.handing.push_gones.Given as goal
 
 abbrev pub invariant-others : goal.invariant-others

@@ -2,7 +2,7 @@
 use Rattle.std.proofs.Common.{rules, arith, ◌≡◌, ◌++◌, ◌∷◌, ap, sym, ◌∙◌, append_assoc, append-nil, drop, slice_get, List, Some, None}
 use Rattle.std.proofs.lemmas.Grind.{common_steps}
 use Rattle.dv_value.specs.Tree.{Field}
-use Rattle.dv_change.specs.Telling.{puts_by}
+use Rattle.dv_change.specs.Inner.Telling.{puts_by}
 use Rattle.dv_change.specs.Positions.{PosTree}
 use Rattle.dv_change.proofs.Coming.{puts_more}
 use Rattle.dv_change.proofs.Fronts.{nothing, something}

@@ -1,8 +1,8 @@
 -- The changes so far stand behind the others.
 use Rattle.std.proofs.Common.{◌≡◌, ◌++◌}
 use Rattle.std.specs.Vec.Iter.{into_iter_items}
-use Rattle.dv_change.specs.Beginning.{BeginsWith}
-use Rattle.dv_change.specs.Told.{changes_told}
+use Rattle.dv_change.specs.Inner.Beginning.{BeginsWith}
+use Rattle.dv_change.specs.Inner.Told.{changes_told}
 use Rattle.dv_change.proofs.keeping.push_changes.Given as goal
 
 abbrev pub invariant-told : goal.invariant-told

@@ -1,11 +1,12 @@
 -- The list at the place takes the change in.
 use Rattle.std.proofs.Common.{◌≡◌, ◌∙◌, ap}
 use Rattle.std.specs.Prelude.{Result, Ok, Err, IfOk}
-use Rattle.dv_change.specs.Answered.{ok-one}
+use Rattle.dv_change.specs.Inner.Answered.{ok-one}
 use Rattle.dv_change.specs.declared.change.Change.{Change}
 use Rattle.dv_change.specs.declared.taking.Taken.{Taken}
-use Rattle.dv_change.specs.Changes.{Positioned, at, position_changed, row_in}
-use Rattle.dv_change.specs.Told.{with_old}
+use Rattle.dv_change.specs.Changes.{Positioned, at}
+use Rattle.dv_change.specs.Inner.Changes.{position_changed, row_in}
+use Rattle.dv_change.specs.Inner.Told.{with_old}
 use Rattle.dv_change.proofs.Lists.{changed, placed, there}
 use Rattle.dv_change.proofs.keeping.take_in_at.Goals as goal
 

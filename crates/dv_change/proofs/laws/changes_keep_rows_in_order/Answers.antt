@@ -1,5 +1,5 @@
 -- Change by change.
-use Rattle.dv_change.specs.DiffLaws.{positioned-changes}
+use Rattle.dv_change.specs.Inner.DiffLaws.{positioned-changes}
 use Rattle.dv_change.proofs.laws.changes_keep_rows_in_order.Goals as goal
 
 pub returns : goal.returns

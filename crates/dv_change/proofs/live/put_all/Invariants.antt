@@ -1,7 +1,7 @@
 -- The changes that are left, on the rows so far, make what all of them do; and behind those that were told they are all that is told.
 use Rattle.std.proofs.Common.{◌≡◌, ◌++◌}
 use Rattle.std.specs.Vec.Iter.{into_iter_items}
-use Rattle.dv_change.specs.Beginning.{BeginsWith}
+use Rattle.dv_change.specs.Inner.Beginning.{BeginsWith}
 use Rattle.dv_change.specs.Changes.{with_changes}
 use Rattle.dv_change.proofs.live.put_all.Given as goal
 

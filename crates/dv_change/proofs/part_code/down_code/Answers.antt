@@ -1,6 +1,6 @@
 use Rattle.std.proofs.Common.{arith}
 use Rattle.std.proofs.lemmas.Bool.Decides.{nat_tests}
-use Rattle.dv_change.specs.PartCodes.{key_class_within}
+use Rattle.dv_change.specs.Inner.PartCodes.{key_class_within}
 use Rattle.dv_change.proofs.PartsAgain.{down_again}
 use Rattle.dv_change.proofs.part_code.down_code.Goals as goal
 

@@ -1,5 +1,5 @@
 use Rattle.std.proofs.Common.{arith}
-use Rattle.dv_change.specs.PartCodes.{key_class_within}
+use Rattle.dv_change.specs.Inner.PartCodes.{key_class_within}
 use Rattle.dv_change.proofs.PartsAgain.{up_again}
 use Rattle.dv_change.proofs.part_code.up_code.Goals as goal
 

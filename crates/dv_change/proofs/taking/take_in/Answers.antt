@@ -1,7 +1,7 @@
 -- A change leaves rows in the order of their positions.
 use Rattle.std.proofs.Common.{rules, ◌≡◌}
 use Rattle.dv_change.specs.Changes.{with_change}
-use Rattle.dv_change.specs.DiffLaws.{positioned-changed}
+use Rattle.dv_change.specs.Inner.DiffLaws.{positioned-changed}
 use Rattle.dv_change.proofs.taking.take_in.Goals as goal
 
 pub returns-in_ok-old-in-Put-clause-positioned : goal.returns-in_ok-old-in-Put-clause-positioned

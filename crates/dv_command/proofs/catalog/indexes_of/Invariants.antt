@@ -1,7 +1,7 @@
 -- the indexes so far stand in front of those of the other entries
 use Rattle.std.proofs.Common.{◌≡◌, ◌++◌, Ok, map}
 use Rattle.dv_command.specs.Entries.{index_asked}
-use Rattle.dv_command.specs.View.{index_seen}
+use Rattle.dv_command.specs.Inner.View.{index_seen}
 use Rattle.dv_value.specs.Results.{◌>>=◌, each}
 use Rattle.dv_command.proofs.catalog.indexes_of.Given as goal
 

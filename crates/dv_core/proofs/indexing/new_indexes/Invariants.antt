@@ -1,6 +1,6 @@
 use Rattle.std.proofs.Common.{◌≡◌, map}
-use Rattle.dv_command.specs.View.{index_seen}
-use Rattle.dv_keyed.specs.View.{form_of_new}
+use Rattle.dv_command.specs.Inner.View.{index_seen}
+use Rattle.dv_keyed.specs.Inner.View.{form_of_new}
 use Rattle.dv_core.specs.Indexes.{form_asked}
 use Rattle.dv_core.proofs.indexing.new_indexes.Given as goal
 

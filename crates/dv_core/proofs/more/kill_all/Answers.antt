@@ -1,6 +1,6 @@
 use Rattle.std.proofs.Common.{◌≡◌, ◌∙◌, ap, sym, ℤ, Bool, List, length, Ok, IfOk}
 use Rattle.dv_command.specs.Replies.{kill_cursors_reply}
-use Rattle.dv_command.specs.View.{kill_cursors_seen}
+use Rattle.dv_command.specs.Inner.View.{kill_cursors_seen}
 use Rattle.dv_core.specs.More.{gone_ids, killed, missing_ids, went_each, without_cursors}
 use Rattle.dv_core.proofs.Endings.{done_ends, killed_so, wanting_ends, went_each-length}
 use Rattle.dv_core.proofs.more.kill_all.Goals as goal

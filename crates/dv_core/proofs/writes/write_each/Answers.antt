@@ -3,8 +3,8 @@ use Rattle.dv_value.specs.Tree.{Field}
 use Rattle.std.proofs.lemmas.Result.{err_from_is_err_and}
 use Rattle.std.specs.String.{string_bytes}
 use Rattle.dv_core.specs.Statements.{Written}
-use Rattle.dv_command.specs.View.{write_seen}
-use Rattle.dv_core.specs.WriteParts.{written_seen}
+use Rattle.dv_command.specs.Inner.View.{write_seen}
+use Rattle.dv_core.specs.Inner.WriteParts.{written_seen}
 use Rattle.dv_core.specs.Writes.{statement_of, write_by}
 use Rattle.dv_core.proofs.Statements.{WholeOf, starts, at_end, due_behind, ends, cut_here, counts, done_replied, done_untold, cut_replied, cut_untold}
 use Rattle.dv_core.proofs.writes.write_each.Goals as goal

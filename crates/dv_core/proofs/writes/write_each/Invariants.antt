@@ -1,7 +1,7 @@
 use Rattle.std.proofs.Common.{◌≡◌, ◌+◌, ◌≤◌, length, map}
 use Rattle.std.specs.String.{string_bytes}
 use Rattle.dv_command.specs.Asked.{statement_limit}
-use Rattle.dv_core.specs.WriteParts.{written_seen}
+use Rattle.dv_core.specs.Inner.WriteParts.{written_seen}
 use Rattle.dv_core.specs.Writes.{statement_of}
 use Rattle.dv_core.proofs.Statements.{Reached}
 use Rattle.dv_core.proofs.writes.write_each.Given as goal

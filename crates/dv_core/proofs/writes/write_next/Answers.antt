@@ -1,5 +1,5 @@
 use Rattle.std.proofs.Common.{ℕ, suc, ◌+◌, ap, refl, sym, ◌∙◌}
-use Rattle.dv_core.specs.WriteParts.{written_seen, with_counted}
+use Rattle.dv_core.specs.Inner.WriteParts.{written_seen, with_counted}
 use Rattle.dv_catalog.specs.Changes.{apply}
 use Rattle.dv_catalog.specs.State.{Namespaces}
 use Rattle.dv_core.specs.Writes.{statement_of}

@@ -3,7 +3,7 @@ use Rattle.std.proofs.Common.{◌≡◌, arith, rules, sym, map, Err}
 use Rattle.dv_value.specs.View.{tree}
 use Rattle.dv_fields.proofs.Lists.{slice_get_none}
 use Rattle.dv_fields.specs.Fields.{check_field}
-use Rattle.dv_fields.specs.View.{place_seen, rule_seen}
+use Rattle.dv_fields.specs.Inner.View.{place_seen, rule_seen}
 use Rattle.dv_fields.proofs.Checks.{check_fields-at}
 use Rattle.dv_fields.proofs.rules.check_fields.Goals as goal
 use Rattle.dv_fields.proofs.rules.check_fields.Goals.{in-Some+in_ok-check_field, in_default}

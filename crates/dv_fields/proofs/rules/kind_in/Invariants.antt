@@ -1,7 +1,7 @@
 -- no rule so far is of the name
 use Rattle.std.proofs.Common.{◌≡◌, drop, map}
 use Rattle.dv_fields.specs.Fields as fields
-use Rattle.dv_fields.specs.View.{rule_seen}
+use Rattle.dv_fields.specs.Inner.View.{rule_seen}
 use Rattle.dv_fields.proofs.rules.kind_in.Given as goal
 
 abbrev pub invariant-rules : goal.invariant-rules

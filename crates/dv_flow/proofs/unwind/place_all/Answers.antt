@@ -1,7 +1,7 @@
 -- The last row that is left is put in front of those that are placed.
 use Rattle.std.proofs.Common.{rules, ◌≡◌, ◌∙◌, ◌∷◌, [], ◌++◌, ap, length, sym}
 use Rattle.dv_change.specs.declared.position.Part.TheVariants.{At}
-use Rattle.dv_change.specs.Ordered.{put}
+use Rattle.dv_change.specs.Inner.Ordered.{put}
 use Rattle.dv_flow.proofs.Onto.{onto, onto-none, onto-popped}
 use Rattle.dv_flow.proofs.unwind.place_all.Goals as goal
 

@@ -2,10 +2,10 @@ use Rattle.std.proofs.Common.{◌≡◌, ◌∙◌, ◌≤◌, ◌++◌, ◌∷�
 use Rattle.std.proofs.lemmas.List.{map-append}
 use Rattle.dv_value.specs.Tree.{Field}
 use Rattle.dv_value.specs.View.{tree}
-use Rattle.dv_row.specs.EachLaws.{IsParsedTo, drop-found, none-there, parsed-next, parsed-refused, parsed-all, gives-fault}
+use Rattle.dv_row.specs.Inner.EachLaws.{IsParsedTo, drop-found, none-there, parsed-next, parsed-refused, parsed-all, gives-fault}
 use Rattle.dv_gather.specs.Grouping.{Accumulation}
 use Rattle.dv_gather.specs.GroupParsing.{field_in}
-use Rattle.dv_gather.specs.GroupView.{accumulation}
+use Rattle.dv_gather.specs.Inner.GroupView.{accumulation}
 use Rattle.dv_gather.proofs.group_parsing.fields_of.Goals as goal
 use Rattle.dv_gather.proofs.group_parsing.fields_of.Goals.{else-fields-test, then-fields-test+in_default}
 

@@ -4,8 +4,8 @@ use Rattle.std.specs.List.{list_any}
 use Rattle.std.specs.Ordering.{is_eq}
 use Rattle.dv_order.specs.Key.{KeyTree, key_order}
 use Rattle.dv_path.specs.LeafKeys.{leaf_values}
-use Rattle.dv_gather.specs.KeySets.{AreKeysOf}
-use Rattle.dv_gather.specs.Places.{is_under}
+use Rattle.dv_gather.specs.Inner.KeySets.{AreKeysOf}
+use Rattle.dv_gather.specs.Inner.Places.{is_under}
 use Rattle.dv_gather.proofs.Lists.{or-assoc, or-false}
 use Rattle.dv_gather.proofs.Placed.{if-some}
 use Rattle.dv_gather.proofs.joining.add_place.Goals as goal

@@ -3,7 +3,7 @@ use Rattle.std.proofs.Common.{◌≡◌, ◌||◌, ◌&&◌, ◌==◌, ℕ}
 use Rattle.std.specs.List.{list_any}
 use Rattle.std.specs.Ordering.{is_eq}
 use Rattle.dv_order.specs.Key.{KeyTree, key_order}
-use Rattle.dv_gather.specs.Places.{is_found, is_under}
+use Rattle.dv_gather.specs.Inner.Places.{is_found, is_under}
 use Rattle.dv_gather.proofs.joining.add_place.Given as goal
 
 abbrev pub invariant-keys : goal.invariant-keys

@@ -1,7 +1,7 @@
 use Rattle.std.proofs.Common.{◌≡◌, ◌||◌, ℕ, drop}
 use Rattle.std.specs.BTreeSet.{contains}
 use Rattle.std.specs.Ordering.{nat_cmp}
-use Rattle.dv_gather.specs.Places.{is_place}
+use Rattle.dv_gather.specs.Inner.Places.{is_place}
 use Rattle.dv_gather.proofs.joining.add_places.Given as goal
 
 abbrev pub invariant-places : goal.invariant-places

@@ -1,5 +1,5 @@
 use Rattle.std.proofs.Common.{◌∙◌, ◌||◌, ◌&&◌, ◌==◌, ap, sym}
-use Rattle.dv_gather.specs.Places.{is_found}
+use Rattle.dv_gather.specs.Inner.Places.{is_found}
 use Rattle.dv_gather.proofs.Placed.{passes-referred}
 use Rattle.dv_gather.proofs.joining.places_of.Goals as goal
 

@@ -3,7 +3,7 @@ use Rattle.std.proofs.Common.{◌≡◌, ◌||◌, ℕ}
 use Rattle.std.specs.List.{list_any}
 use Rattle.std.specs.BTreeSet.{contains}
 use Rattle.std.specs.Ordering.{nat_cmp}
-use Rattle.dv_gather.specs.Places.{is_under}
+use Rattle.dv_gather.specs.Inner.Places.{is_under}
 use Rattle.dv_gather.proofs.joining.places_under.Given as goal
 
 abbrev pub invariant-keys : goal.invariant-keys

@@ -1,9 +1,9 @@
 -- What is left is still to be taken in.
 use Rattle.std.proofs.Common.{◌≡◌, ℕ, map, drop}
-use Rattle.dv_gather.specs.Bounds.{AreWithin}
-use Rattle.dv_gather.specs.GroupView.{accumulation}
-use Rattle.dv_gather.specs.Tallies.{with_values, with_values_from}
-use Rattle.dv_gather.specs.TotalView.{total_seen}
+use Rattle.dv_gather.specs.Inner.Bounds.{AreWithin}
+use Rattle.dv_gather.specs.Inner.GroupView.{accumulation}
+use Rattle.dv_gather.specs.Inner.Tallies.{with_values, with_values_from}
+use Rattle.dv_gather.specs.Inner.TotalView.{total_seen}
 use Rattle.dv_gather.proofs.tally.add_each.Given as goal
 
 abbrev pub invariant-fields : goal.invariant-fields

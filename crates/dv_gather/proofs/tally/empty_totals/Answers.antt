@@ -1,6 +1,6 @@
 use Rattle.std.proofs.Common.{◌∙◌, ap, map, take_all}
-use Rattle.dv_gather.specs.GroupView.{accumulation}
-use Rattle.dv_gather.specs.Tallies.{totals_of_none}
+use Rattle.dv_gather.specs.Inner.GroupView.{accumulation}
+use Rattle.dv_gather.specs.Inner.Tallies.{totals_of_none}
 use Rattle.dv_gather.proofs.tally.empty_totals.Goals as goal
 
 pub returns : goal.returns

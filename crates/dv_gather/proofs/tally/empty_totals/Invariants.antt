@@ -1,7 +1,7 @@
 use Rattle.std.proofs.Common.{◌≡◌, map, take}
-use Rattle.dv_gather.specs.GroupView.{accumulation}
-use Rattle.dv_gather.specs.Tallies.{totals_of_none}
-use Rattle.dv_gather.specs.TotalView.{total_seen}
+use Rattle.dv_gather.specs.Inner.GroupView.{accumulation}
+use Rattle.dv_gather.specs.Inner.Tallies.{totals_of_none}
+use Rattle.dv_gather.specs.Inner.TotalView.{total_seen}
 use Rattle.dv_gather.proofs.tally.empty_totals.Given as goal
 
 abbrev pub invariant-fields : goal.invariant-fields

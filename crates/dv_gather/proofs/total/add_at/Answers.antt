@@ -1,5 +1,5 @@
-use Rattle.dv_row.specs.RowValueView.{row_value}
-use Rattle.dv_gather.specs.Bounds.{most}
+use Rattle.dv_row.specs.Inner.RowValueView.{row_value}
+use Rattle.dv_gather.specs.Inner.Bounds.{most}
 use Rattle.dv_gather.proofs.Totalled.{total-added, no-total}
 use Rattle.dv_gather.proofs.Bounded.{at-place, one-more, none-more}
 use Rattle.dv_gather.proofs.total.add_at.Goals as goal

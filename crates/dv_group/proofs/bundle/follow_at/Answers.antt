@@ -1,4 +1,4 @@
-use Rattle.dv_gather.specs.GroupView.{accumulation}
+use Rattle.dv_gather.specs.Inner.GroupView.{accumulation}
 use Rattle.dv_group.proofs.Places.{moved-here, moved-nowhere, narrow-here, narrow-nowhere, room-at}
 use Rattle.dv_group.proofs.bundle.follow_at.Goals as goal
 

@@ -1,11 +1,11 @@
 -- Each turn has one field follow.
 use Rattle.std.proofs.Common.{◌≡◌, ◌+◌, [], ◌∷◌, ◌∙◌, List, ap, drop, map, subst, sym}
 use Rattle.std.proofs.lemmas.List.{with_items_is}
-use Rattle.dv_gather.specs.GroupView.{accumulation}
+use Rattle.dv_gather.specs.Inner.GroupView.{accumulation}
 use Rattle.dv_gather.specs.Grouping.{Accumulation}
-use Rattle.dv_group.specs.Room.{AreNarrowIn, HaveRoom}
-use Rattle.dv_group.specs.Running.{Running, moved_at, moved_from}
-use Rattle.dv_group.specs.RunningView.{running_seen}
+use Rattle.dv_group.specs.Inner.Room.{AreNarrowIn, HaveRoom}
+use Rattle.dv_group.specs.Inner.Running.{Running, moved_at, moved_from}
+use Rattle.dv_group.specs.Inner.RunningView.{running_seen}
 use Rattle.dv_group.proofs.Places.{place-left, room-first, step-moved, step-narrow, step-room, step-same}
 use Rattle.dv_group.proofs.bundle.follow_each.Goals as goal
 

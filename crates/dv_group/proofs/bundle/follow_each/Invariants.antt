@@ -1,9 +1,9 @@
 -- What is left still follows, and stands as it did.
 use Rattle.std.proofs.Common.{◌≡◌, map, drop}
-use Rattle.dv_gather.specs.GroupView.{accumulation}
-use Rattle.dv_group.specs.Room.{AreNarrowIn, HaveRoom}
-use Rattle.dv_group.specs.Running.{moved_from}
-use Rattle.dv_group.specs.RunningView.{running_seen}
+use Rattle.dv_gather.specs.Inner.GroupView.{accumulation}
+use Rattle.dv_group.specs.Inner.Room.{AreNarrowIn, HaveRoom}
+use Rattle.dv_group.specs.Inner.Running.{moved_from}
+use Rattle.dv_group.specs.Inner.RunningView.{running_seen}
 use Rattle.dv_group.proofs.bundle.follow_each.Given as goal
 
 abbrev pub invariant-fields : goal.invariant-fields

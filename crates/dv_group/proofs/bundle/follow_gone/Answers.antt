@@ -1,13 +1,13 @@
 use Rattle.std.proofs.Common.{◌≡◌, ◌≤◌, ◌∙◌, List, None, Some, ap, arith, length, map, refl, subst, sym}
 use Rattle.std.proofs.lemmas.Result.{on_ok_weaker}
 use Rattle.dv_change.specs.Changes.{at}
-use Rattle.dv_change.specs.Ordered.{gone}
+use Rattle.dv_change.specs.Inner.Ordered.{gone}
 use Rattle.dv_gather.specs.Grouping.{Accumulation}
 use Rattle.dv_group.specs.declared.bundle.Bundle.{Bundle}
 use Rattle.dv_group.specs.declared.running.Way.TheVariants.{Goes}
-use Rattle.dv_group.specs.Room.{HaveRoom, most_rows}
-use Rattle.dv_group.specs.Running.{moved_from}
-use Rattle.dv_group.specs.RunningView.{running_seen}
+use Rattle.dv_group.specs.Inner.Room.{HaveRoom, most_rows}
+use Rattle.dv_group.specs.Inner.Running.{moved_from}
+use Rattle.dv_group.specs.Inner.RunningView.{running_seen}
 use Rattle.dv_group.proofs.Bundled.{may-go, none-went, went-sound}
 use Rattle.dv_group.proofs.bundle.follow_gone.Goals as goal
 

@@ -1,16 +1,16 @@
 -- The row comes to those that are left without the one in its place.
 use Rattle.std.proofs.Common.{◌≡◌, ◌≤◌, ◌∙◌, List, None, Option, ap, arith, length, map, subst, sym}
 use Rattle.dv_row.specs.Row.{Row}
-use Rattle.dv_change.specs.Answered.{ok-both}
+use Rattle.dv_change.specs.Inner.Answered.{ok-both}
 use Rattle.dv_change.specs.Changes.{at}
-use Rattle.dv_change.specs.Ordered.{gone, put}
+use Rattle.dv_change.specs.Inner.Ordered.{gone, put}
 use Rattle.dv_gather.specs.Grouping.{Accumulation}
 use Rattle.dv_group.specs.declared.bundle.Bundle.{Bundle}
 use Rattle.dv_group.specs.declared.running.Way.TheVariants.{Comes}
-use Rattle.dv_group.specs.Members.{set_at}
-use Rattle.dv_group.specs.Room.{AreNarrowIn, HaveRoom, IsBundle, most_rows}
-use Rattle.dv_group.specs.Running.{moved_from}
-use Rattle.dv_group.specs.RunningView.{running_seen}
+use Rattle.dv_group.specs.Inner.Members.{set_at}
+use Rattle.dv_group.specs.Inner.Room.{AreNarrowIn, HaveRoom, IsBundle, most_rows}
+use Rattle.dv_group.specs.Inner.Running.{moved_from}
+use Rattle.dv_group.specs.Inner.RunningView.{running_seen}
 use Rattle.dv_group.proofs.Bundled.{came-sound, may-come, none-left, put-over}
 use Rattle.dv_group.proofs.Following.{fewer}
 use Rattle.dv_group.proofs.bundle.follow_set.Goals as goal

@@ -1,6 +1,6 @@
 use Rattle.std.proofs.Common.{◌∙◌, [], ap, map, take_all}
-use Rattle.dv_gather.specs.GroupView.{accumulation}
-use Rattle.dv_group.specs.Running.{running_of}
+use Rattle.dv_gather.specs.Inner.GroupView.{accumulation}
+use Rattle.dv_group.specs.Inner.Running.{running_of}
 use Rattle.dv_group.proofs.bundle.totals_of_none.Goals as goal
 
 pub returns : goal.returns

@@ -1,6 +1,6 @@
 -- They are what leads from nothing to the rows.
 use Rattle.std.proofs.Common.{◌++◌, ◌∙◌}
-use Rattle.dv_change.specs.Told.{diff_told}
+use Rattle.dv_change.specs.Inner.Told.{diff_told}
 use Rattle.dv_group.proofs.group_operator.puts_of.Goals as goal
 
 pub returns : goal.returns

@@ -3,7 +3,7 @@ use Rattle.std.proofs.Common.{◌∙◌, Option, subst}
 use Rattle.std.proofs.lemmas.Result.{on_ok_weaker}
 use Rattle.dv_order.specs.Key.{KeyTree}
 use Rattle.dv_change.specs.Changes.{Positioned}
-use Rattle.dv_group.specs.Members.{AreShifts, group_members, moved, own_key}
+use Rattle.dv_group.specs.Inner.Members.{AreShifts, group_members, moved, own_key}
 use Rattle.dv_group.proofs.Owed.{ok-then}
 use Rattle.dv_group.proofs.groups.follow.Goals as goal
 

@@ -2,7 +2,7 @@
 use Rattle.std.proofs.Common.{◌≡◌}
 use Rattle.std.specs.Vec.Iter.{into_iter_items}
 use Rattle.dv_order.specs.Key.{KeyTree}
-use Rattle.dv_group.specs.Members.{AreBundles, group_members, moved_all}
+use Rattle.dv_group.specs.Inner.Members.{AreBundles, group_members, moved_all}
 use Rattle.dv_group.proofs.groups.follow_all.Given as goal
 
 abbrev pub invariant-all : goal.invariant-all

@@ -1,8 +1,8 @@
 -- Where the keys are equal, one group changes, and else one after the other.
 use Rattle.std.proofs.Common.{rules, ◌≡◌, ◌∙◌, ap, cond, false, true}
-use Rattle.dv_change.specs.Ordered.{gone}
+use Rattle.dv_change.specs.Inner.Ordered.{gone}
 use Rattle.dv_change.specs.Positions.{PosTree}
-use Rattle.dv_group.specs.Members.{are_one, group_members, is_key, with_row}
+use Rattle.dv_group.specs.Inner.Members.{are_one, group_members, is_key, with_row}
 use Rattle.dv_group.proofs.Telling.{one-told, two-told}
 use Rattle.dv_group.proofs.Under.{stays-one}
 use Rattle.dv_group.proofs.groups.move_row.Goals as goal

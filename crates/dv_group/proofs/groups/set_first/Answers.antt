@@ -4,7 +4,7 @@ use Rattle.std.specs.BTreeMap.{is_at}
 use Rattle.std.specs.Map.{lookup}
 use Rattle.dv_order.specs.Key.{KeyTree, key_order}
 use Rattle.dv_group.specs.declared.bundle.Bundle.{Bundle}
-use Rattle.dv_group.specs.Members.{group_members, rows_in, set_at}
+use Rattle.dv_group.specs.Inner.Members.{group_members, rows_in, set_at}
 use Rattle.dv_group.proofs.Under.{bundles-put, changed-under, kept-of, told-alike, written-under}
 use Rattle.dv_group.proofs.groups.set_first.Goals as goal
 

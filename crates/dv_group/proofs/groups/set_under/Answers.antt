@@ -1,6 +1,6 @@
 -- The rows as they were set stand in the slot of those that were there, or nothing where none are left.
 use Rattle.std.proofs.Common.{◌∙◌, ap, sym, None, Some}
-use Rattle.dv_group.specs.Members.{group_members, rows_in, set_at}
+use Rattle.dv_group.specs.Inner.Members.{group_members, rows_in, set_at}
 use Rattle.dv_group.proofs.Under.{bundle-there, bundles-left, bundles-written, changed-under, found-there, told-alike, written-over, written-there}
 use Rattle.dv_group.proofs.groups.set_under.Goals as goal
 

@@ -1,8 +1,8 @@
 -- Where there is no first value, there is none.
 use Rattle.std.proofs.Common.{rules, ◌≡◌, ◌∙◌, ap, map, sym, slice_get, None}
 use Rattle.dv_value.specs.View.{tree}
-use Rattle.dv_group.specs.Running.{values_in}
-use Rattle.dv_group.specs.RunningView.{values_seen}
+use Rattle.dv_group.specs.Inner.Running.{values_in}
+use Rattle.dv_group.specs.Inner.RunningView.{values_seen}
 use Rattle.dv_group.proofs.Under.{none-first}
 use Rattle.dv_group.proofs.running.copies_of.Goals as goal
 

@@ -2,8 +2,8 @@ use Rattle.std.proofs.Common.{Bor, ◌∙◌, ap, filter, map}
 use Rattle.dv_match.specs.Match.{matches}
 use Rattle.dv_order.specs.Key.{KeyTree}
 use Rattle.dv_path.specs.Parts.{part}
-use Rattle.dv_keyed.specs.Ahead.{is_ahead}
-use Rattle.dv_keyed.specs.Keys.{has_key}
+use Rattle.dv_keyed.specs.Inner.Ahead.{is_ahead}
+use Rattle.dv_keyed.specs.Inner.Keys.{has_key}
 use Rattle.dv_index.proofs.Foremost.{ahead-gathered}
 use Rattle.dv_index.proofs.ahead.candidates_ahead.Goals as goal
 

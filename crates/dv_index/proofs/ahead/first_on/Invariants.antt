@@ -1,7 +1,7 @@
 use Rattle.std.proofs.Common.{List, drop}
 use Rattle.std.specs.List.{AllByRecursion}
 use Rattle.dv_value.specs.Tree.{Field}
-use Rattle.dv_index.specs.Search.{IsIndexOf}
+use Rattle.dv_index.specs.Inner.Search.{IsIndexOf}
 use Rattle.dv_index.proofs.ahead.first_on.Given as goal
 
 -- those that are left have the documents' keys where all have

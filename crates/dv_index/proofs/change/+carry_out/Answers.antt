@@ -1,9 +1,9 @@
 use Rattle.std.proofs.Common.{Bor, ◌∙◌, ◌&&◌, not, ap, map, sym}
 use Rattle.std.specs.Ordering.{is_eq}
 use Rattle.dv_order.specs.Key.{KeyTree, key_order}
-use Rattle.dv_index.specs.Change.{changed_id, document_after}
-use Rattle.dv_keyed.specs.Keys.{has_key}
-use Rattle.dv_keyed.specs.Pairs.{has_pair}
+use Rattle.dv_index.specs.Inner.Change.{changed_id, document_after}
+use Rattle.dv_keyed.specs.Inner.Keys.{has_key}
+use Rattle.dv_keyed.specs.Inner.Pairs.{has_pair}
 use Rattle.dv_index.proofs.Changed.{not-there, held-before, left-after, left-before, index-after, index-back}
 use Rattle.dv_index.proofs.change.+carry_out.Goals as goal
 

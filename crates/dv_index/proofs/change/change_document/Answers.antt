@@ -1,6 +1,6 @@
 use Rattle.std.proofs.Common.{◌∙◌, ap, sym, subst}
 use Rattle.dv_coll.specs.Collection.{found}
-use Rattle.dv_index.specs.Change.{IsFresh, documents_after}
+use Rattle.dv_index.specs.Inner.Change.{IsFresh, documents_after}
 use Rattle.dv_index.specs.declared.change.Change.{Change}
 use Rattle.dv_index.proofs.Changed.{found-after}
 use Rattle.dv_index.proofs.change.change_document.Goals as goal

@@ -1,9 +1,9 @@
 use Rattle.std.proofs.Common.{◌∙◌, ap, sym, map}
 use Rattle.std.proofs.lemmas.Result.{IfOk-weaker}
 use Rattle.std.specs.Option.{option_map}
-use Rattle.dv_keyed.specs.Index.{IndexTree}
+use Rattle.dv_keyed.specs.Inner.Index.{IndexTree}
 use Rattle.dv_index.specs.Search.{covered, covered_at}
-use Rattle.dv_keyed.specs.View.{bounds_seen, plan_seen}
+use Rattle.dv_keyed.specs.Inner.View.{bounds_seen, plan_seen}
 use Rattle.dv_index.proofs.Places.{index-at, path-at}
 use Rattle.dv_index.proofs.coverage.covered.Goals as goal
 

@@ -1,6 +1,6 @@
 use Rattle.std.proofs.Common.{◌≡◌, not, rules, subst}
 use Rattle.std.proofs.lemmas.Fn.{filter_same}
-use Rattle.dv_keyed.specs.Index.{IndexTree, form_of}
+use Rattle.dv_keyed.specs.Inner.Index.{IndexTree, form_of}
 use Rattle.dv_index.specs.Indexed.{is_dropped}
 use Rattle.dv_index.proofs.indexes.drop_named.Goals as goal
 

@@ -1,5 +1,5 @@
 use Rattle.std.proofs.Common.{◌≡◌, ◌∙◌, ◌&&◌, Bool, true, false, ap, refl}
-use Rattle.dv_keyed.specs.Pairs.{has_pair}
+use Rattle.dv_keyed.specs.Inner.Pairs.{has_pair}
 use Rattle.dv_index.proofs.making.add_keys.Goals as goal
 
 swapped : (a b : Bool) → a && b ≡ b && a

@@ -1,10 +1,10 @@
 use Rattle.std.proofs.Common.{◌≡◌, ◌++◌, false, map}
 use Rattle.std.specs.List.{AllByRecursion}
 use Rattle.std.specs.Vec.Iter.{into_iter_items}
-use Rattle.dv_keyed.specs.Index.{form_of}
-use Rattle.dv_index.specs.Search.{IsIndexOf}
+use Rattle.dv_keyed.specs.Inner.Index.{form_of}
+use Rattle.dv_index.specs.Inner.Search.{IsIndexOf}
 use Rattle.dv_index.specs.Unique.{are_broken}
-use Rattle.dv_keyed.specs.View.{form_of_new}
+use Rattle.dv_keyed.specs.Inner.View.{form_of_new}
 use Rattle.dv_index.proofs.making.indexes_over.Given as goal
 
 -- the indexes so far, and those that are still wanted

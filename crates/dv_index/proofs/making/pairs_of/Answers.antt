@@ -5,7 +5,7 @@ use Rattle.dv_coll.specs.Collection.{HasId, IsAscending, id_key}
 use Rattle.dv_order.specs.Key.{key_order}
 use Rattle.dv_path.specs.LeafKeys.{is_leaf_key}
 use Rattle.dv_value.specs.Tree.{Field}
-use Rattle.dv_keyed.specs.Pairs.{has_pair, is_under_another}
+use Rattle.dv_keyed.specs.Inner.Pairs.{has_pair, is_under_another}
 use Rattle.dv_index.specs.Unique.{are_apart}
 use Rattle.dv_index.proofs.Built.{IsElsewhere, no-pair-yet, some-has, some-has-found, still-apart}
 use Rattle.dv_index.proofs.Lists.{and-true, or-assoc, or-false}

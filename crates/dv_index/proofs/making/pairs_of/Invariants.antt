@@ -2,7 +2,7 @@ use Rattle.std.proofs.Common.{◌≡◌, ◌||◌, ◌&&◌, not, true}
 use Rattle.std.specs.List.{AllByRecursion, list_any}
 use Rattle.dv_coll.specs.Collection.{HasId, IsAscending}
 use Rattle.dv_order.specs.Key.{KeyTree}
-use Rattle.dv_keyed.specs.Pairs.{has_pair}
+use Rattle.dv_keyed.specs.Inner.Pairs.{has_pair}
 use Rattle.dv_index.specs.Unique.{are_apart}
 use Rattle.dv_index.proofs.Built.{IsElsewhere, some-has}
 use Rattle.dv_index.proofs.Taken.{has-some}

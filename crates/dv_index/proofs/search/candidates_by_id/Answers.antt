@@ -2,8 +2,8 @@ use Rattle.std.proofs.Common.{◌∙◌, ap, sym, filter}
 use Rattle.std.proofs.lemmas.Result.{IfOk-weaker}
 use Rattle.dv_value.specs.View.{tree}
 use Rattle.dv_path.specs.LeafKeys.{is_key_of, is_some_key}
-use Rattle.dv_keyed.specs.Within.{covers}
-use Rattle.dv_keyed.specs.View.{bounds_seen}
+use Rattle.dv_keyed.specs.Inner.Within.{covers}
+use Rattle.dv_keyed.specs.Inner.View.{bounds_seen}
 use Rattle.dv_index.proofs.Gathered.{gathered-ids}
 use Rattle.dv_index.proofs.search.candidates_by_id.Goals as goal
 

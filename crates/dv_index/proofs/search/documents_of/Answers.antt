@@ -1,7 +1,7 @@
 use Rattle.std.proofs.Common.{◌∙◌, map, ap, filter}
 use Rattle.std.proofs.lemmas.Result.{IfOk-weaker}
 use Rattle.dv_coll.specs.Collection.{id_key}
-use Rattle.dv_keyed.specs.Keys.{has_key}
+use Rattle.dv_keyed.specs.Inner.Keys.{has_key}
 use Rattle.dv_index.proofs.Picked.{now}
 use Rattle.dv_index.proofs.search.documents_of.Goals as goal
 

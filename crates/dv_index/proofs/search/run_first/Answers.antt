@@ -3,7 +3,7 @@ use Rattle.std.proofs.lemmas.List.{take-map}
 use Rattle.std.proofs.lemmas.Result.{IfOk-weaker}
 use Rattle.dv_value.specs.Tree.{Field}
 use Rattle.dv_match.specs.Match.{matches}
-use Rattle.dv_keyed.specs.View.{bounds_seen, plan_seen}
+use Rattle.dv_keyed.specs.Inner.View.{bounds_seen, plan_seen}
 use Rattle.dv_index.proofs.Lists.{map-kept}
 use Rattle.dv_index.proofs.Places.{index-at}
 use Rattle.dv_index.proofs.Gathered.{chosen-within}

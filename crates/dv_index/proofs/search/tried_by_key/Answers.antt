@@ -2,8 +2,8 @@ use Rattle.std.proofs.Common.{Bor, ◌∙◌, ap, filter, map}
 use Rattle.std.proofs.lemmas.Result.{IfOk-weaker}
 use Rattle.dv_match.specs.Match.{matches}
 use Rattle.dv_order.specs.Key.{KeyTree}
-use Rattle.dv_keyed.specs.Keys.{has_key}
-use Rattle.dv_keyed.specs.View.{bounds_seen}
+use Rattle.dv_keyed.specs.Inner.Keys.{has_key}
+use Rattle.dv_keyed.specs.Inner.View.{bounds_seen}
 use Rattle.dv_index.proofs.Gathered.{tried-all}
 use Rattle.dv_index.proofs.search.tried_by_key.Goals as goal
 

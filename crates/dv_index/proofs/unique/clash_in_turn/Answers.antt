@@ -1,7 +1,7 @@
 use Rattle.std.proofs.Common.{◌+◌, ◌∷◌, ◌∙◌, [], drop, ap, subst, sym, ℕ, List}
 use Rattle.dv_path.specs.LeafKeys.{is_leaf_key}
-use Rattle.dv_keyed.specs.Index.{form_of}
-use Rattle.dv_index.specs.View.{afters, befores}
+use Rattle.dv_keyed.specs.Inner.Index.{form_of}
+use Rattle.dv_index.specs.Inner.View.{afters, befores}
 use Rattle.dv_index.specs.Unique as defined
 use Rattle.dv_index.specs.declared.unique.Replacing.{Replacing}
 use Rattle.dv_index.proofs.Lists.{drop-step}

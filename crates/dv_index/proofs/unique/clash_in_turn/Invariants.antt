@@ -1,6 +1,6 @@
 use Rattle.std.proofs.Common.{◌∷◌, [], drop}
-use Rattle.dv_keyed.specs.Index.{form_of}
-use Rattle.dv_index.specs.View.{afters, befores}
+use Rattle.dv_keyed.specs.Inner.Index.{form_of}
+use Rattle.dv_index.specs.Inner.View.{afters, befores}
 use Rattle.dv_index.specs.Unique as defined
 use Rattle.dv_index.proofs.Tried.{InTurn}
 use Rattle.dv_index.proofs.unique.clash_in_turn.Given as goal

@@ -1,6 +1,6 @@
 use Rattle.std.proofs.Common.{◌≡◌, ◌∙◌, ◌&&◌, ℕ, List, true, ap, sym}
-use Rattle.dv_keyed.specs.Keys.{has_key}
-use Rattle.dv_keyed.specs.Pairs.{Pair, is_under_another}
+use Rattle.dv_keyed.specs.Inner.Keys.{has_key}
+use Rattle.dv_keyed.specs.Inner.Pairs.{Pair, is_under_another}
 use Rattle.dv_index.specs.Unique.{is_key_taken}
 use Rattle.dv_path.specs.LeafKeys.{is_leaf_key}
 use Rattle.dv_index.proofs.Taken.{under-is-taken}

@@ -1,8 +1,8 @@
 use Rattle.std.proofs.Common.{◌+◌, ◌∙◌, ◌||◌, List, arith, drop, map, ap, subst, sym}
 use Rattle.std.proofs.lemmas.List.{drop_all}
-use Rattle.dv_index.specs.Change.{UniqueAreIndexesOf}
-use Rattle.dv_keyed.specs.Index.{IndexTree, form_of}
-use Rattle.dv_index.specs.View.{afters}
+use Rattle.dv_index.specs.Inner.Change.{UniqueAreIndexesOf}
+use Rattle.dv_keyed.specs.Inner.Index.{IndexTree, form_of}
+use Rattle.dv_index.specs.Inner.View.{afters}
 use Rattle.dv_index.specs.Unique as defined
 use Rattle.dv_index.proofs.Lists.{drop-step}
 use Rattle.dv_index.proofs.Tried.{first-by-itself, none-clashes}

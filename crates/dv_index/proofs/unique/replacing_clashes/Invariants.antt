@@ -1,7 +1,7 @@
 use Rattle.std.proofs.Common.{◌≡◌, drop, map}
-use Rattle.dv_index.specs.Change.{UniqueAreIndexesOf}
-use Rattle.dv_keyed.specs.Index.{form_of}
-use Rattle.dv_index.specs.View.{afters}
+use Rattle.dv_index.specs.Inner.Change.{UniqueAreIndexesOf}
+use Rattle.dv_keyed.specs.Inner.Index.{form_of}
+use Rattle.dv_index.specs.Inner.View.{afters}
 use Rattle.dv_index.specs.Unique as defined
 use Rattle.dv_index.proofs.unique.replacing_clashes.Given as goal
 

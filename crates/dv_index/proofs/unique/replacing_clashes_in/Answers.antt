@@ -1,6 +1,6 @@
 use Rattle.std.proofs.Common.{◌∙◌, sym}
-use Rattle.dv_keyed.specs.Index.{form_of}
-use Rattle.dv_index.specs.View.{afters}
+use Rattle.dv_keyed.specs.Inner.Index.{form_of}
+use Rattle.dv_index.specs.Inner.View.{afters}
 use Rattle.dv_index.proofs.Tried.{not-unique}
 use Rattle.dv_index.proofs.unique.replacing_clashes_in.Goals as goal
 

@@ -1,7 +1,7 @@
 use Rattle.std.proofs.Common.{Bor, ◌∙◌, List, map, take, filter, ap}
 use Rattle.std.proofs.lemmas.Result.{IfOk-weaker}
 use Rattle.dv_value.specs.Tree.{Field}
-use Rattle.dv_keyed.specs.Interval.{is_between, is_in_all}
+use Rattle.dv_keyed.specs.Inner.Interval.{is_between, is_in_all}
 use Rattle.dv_match.specs.Match.{matches}
 use Rattle.dv_index.proofs.Walks.{no-walk, walk-matches}
 use Rattle.dv_index.proofs.walk.walked.Goals as goal

@@ -3,7 +3,7 @@ use Rattle.std.proofs.Common.{◌∙◌, ap}
 use Rattle.std.proofs.lemmas.Result.{IfOk-weaker}
 use Rattle.dv_value.specs.Tree.{array, elements_of}
 use Rattle.dv_gather.specs.Lookups.{set_field}
-use Rattle.dv_join.specs.Turning.{has_foreign}
+use Rattle.dv_join.specs.Inner.Turning.{has_foreign}
 use Rattle.dv_join.proofs.Sharing.{found-joined}
 use Rattle.dv_join.proofs.joining.joined_row.Goals as goal
 

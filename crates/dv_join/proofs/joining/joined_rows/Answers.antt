@@ -2,12 +2,13 @@
 use Rattle.std.proofs.Common.{rules, ◌≡◌, ◌∙◌, ◌∷◌, [], ap, drop, slice_get, sym, List, None, Some}
 use Rattle.dv_value.specs.Tree.{Field}
 use Rattle.dv_change.specs.Changes.{forget}
-use Rattle.dv_change.specs.Ordered.{put}
+use Rattle.dv_change.specs.Inner.Ordered.{put}
 use Rattle.dv_change.specs.Positions.{PosTree}
 use Rattle.dv_gather.specs.Lookups.{joined_documents, joined_row, set_field}
-use Rattle.dv_join.specs.Copied.{made_of}
-use Rattle.dv_join.specs.Listed.{with_each_row}
-use Rattle.dv_join.specs.Placed.{looked_up_at, looked_up_ordered}
+use Rattle.dv_join.specs.Inner.Copied.{made_of}
+use Rattle.dv_join.specs.Inner.Listed.{with_each_row}
+use Rattle.dv_join.specs.Placed.{looked_up_at}
+use Rattle.dv_join.specs.Inner.Placed.{looked_up_ordered}
 use Rattle.dv_join.proofs.Copied.{first-made, next-made, others-made}
 use Rattle.dv_join.proofs.Rows.{first-of, none-of, with_all-none}
 use Rattle.dv_join.proofs.joining.joined_rows.Goals as goal

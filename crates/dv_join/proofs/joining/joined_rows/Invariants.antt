@@ -2,12 +2,13 @@
 use Rattle.std.proofs.Common.{◌≡◌, []}
 use Rattle.std.specs.Prelude.{List}
 use Rattle.dv_value.specs.Tree.{Field}
-use Rattle.dv_change.specs.Changes.{IsPositioned, Positioned}
-use Rattle.dv_join.specs.Copied.{DiffersByTarget, made_of}
-use Rattle.dv_join.specs.Indexed.{IsJoinIndexOf}
-use Rattle.dv_join.specs.Listed.{with_each_row}
+use Rattle.dv_change.specs.Changes.{Positioned}
+use Rattle.dv_change.specs.Inner.Changes.{IsPositioned}
+use Rattle.dv_join.specs.Inner.Copied.{DiffersByTarget, made_of}
+use Rattle.dv_join.specs.Inner.Indexed.{IsJoinIndexOf}
+use Rattle.dv_join.specs.Inner.Listed.{with_each_row}
 use Rattle.dv_join.specs.Placed.{looked_up_at}
-use Rattle.dv_join.specs.Turning.{has_foreign}
+use Rattle.dv_join.specs.Inner.Turning.{has_foreign}
 use Rattle.dv_join.proofs.joining.joined_rows.Given as goal
 
 abbrev pub invariant-others : goal.invariant-others

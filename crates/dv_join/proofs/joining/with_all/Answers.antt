@@ -1,9 +1,9 @@
 -- The first one is put first.
 use Rattle.std.proofs.Common.{rules, ◌≡◌, ap, drop, slice_get, sym, List, None, Some}
 use Rattle.dv_value.specs.Tree.{Field}
-use Rattle.dv_change.specs.Ordered.{put}
+use Rattle.dv_change.specs.Inner.Ordered.{put}
 use Rattle.dv_change.specs.Positions.{PosTree}
-use Rattle.dv_join.specs.Listed as listed
+use Rattle.dv_join.specs.Inner.Listed as listed
 use Rattle.dv_join.proofs.Rows.{begun, none-of}
 use Rattle.dv_join.proofs.joining.with_all.Goals as goal
 

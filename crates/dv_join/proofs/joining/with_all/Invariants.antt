@@ -1,6 +1,6 @@
 -- What is put so far, and what is left to put, are all.
 use Rattle.std.proofs.Common.{◌≡◌}
-use Rattle.dv_join.specs.Listed as listed
+use Rattle.dv_join.specs.Inner.Listed as listed
 use Rattle.dv_join.proofs.joining.with_all.Given as goal
 
 abbrev pub invariant-others : goal.invariant-others

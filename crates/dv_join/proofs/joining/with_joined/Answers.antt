@@ -1,7 +1,7 @@
 -- It is put at its position.
 use Rattle.std.proofs.Common.{rules, ◌≡◌, ◌∙◌, IfOk}
 use Rattle.std.proofs.lemmas.Result.{IfOk-weaker}
-use Rattle.dv_change.specs.Ordered.{put}
+use Rattle.dv_change.specs.Inner.Ordered.{put}
 use Rattle.dv_join.proofs.joining.with_joined.Goals as goal
 
 pub returns : goal.returns

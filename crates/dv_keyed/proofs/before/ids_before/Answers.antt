@@ -1,10 +1,10 @@
 use Rattle.std.proofs.Common.{Bor, ◌≡◌, map, true}
 use Rattle.dv_order.specs.Key.{KeyTree, value}
 use Rattle.dv_path.specs.SortKey.{stands_first}
-use Rattle.dv_keyed.specs.Ahead.{leaf_sorted_by}
-use Rattle.dv_keyed.specs.Interval.{is_between}
-use Rattle.dv_keyed.specs.Keys.{has_key}
-use Rattle.dv_keyed.specs.Pairs.{has_pair}
+use Rattle.dv_keyed.specs.Inner.Ahead.{leaf_sorted_by}
+use Rattle.dv_keyed.specs.Inner.Interval.{is_between}
+use Rattle.dv_keyed.specs.Inner.Keys.{has_key}
+use Rattle.dv_keyed.specs.Inner.Pairs.{has_pair}
 use Rattle.dv_keyed.proofs.Bars.{by-kind}
 use Rattle.dv_keyed.proofs.before.ids_before.Goals as goal
 

@@ -1,5 +1,5 @@
 use Rattle.std.proofs.Common.{◌≡◌, ◌∙◌, ap, false, sym, true}
-use Rattle.dv_keyed.specs.Interval.{is_between}
+use Rattle.dv_keyed.specs.Inner.Interval.{is_between}
 use Rattle.dv_keyed.proofs.before.is_null_ahead.Goals as goal
 
 pub returns : goal.returns

@@ -3,7 +3,7 @@ use Rattle.std.specs.Range.Bound.{bound_map}
 use Rattle.dv_value.specs.View.{tree}
 use Rattle.dv_order.specs.Key.{key_class, key_order, value}
 use Rattle.dv_order.specs.Order.{canon, class}
-use Rattle.dv_keyed.specs.Within.{stands_so}
+use Rattle.dv_keyed.specs.Inner.Within.{stands_so}
 use Rattle.dv_keyed.proofs.Ends.{key-ends, runs-above, runs-below, runs-most, in-above, in-from, in-below, in-until}
 use Rattle.dv_keyed.proofs.bounds.ends_within.Goals as goal
 

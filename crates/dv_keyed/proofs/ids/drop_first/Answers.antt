@@ -1,5 +1,5 @@
 use Rattle.std.proofs.Common.{◌∙◌, ap, sym}
-use Rattle.dv_keyed.specs.Ids.{has_first}
+use Rattle.dv_keyed.specs.Inner.Ids.{has_first}
 use Rattle.dv_keyed.proofs.Firsts.{first-dropped, first-stays}
 use Rattle.dv_keyed.proofs.ids.drop_first.Goals as goal
 

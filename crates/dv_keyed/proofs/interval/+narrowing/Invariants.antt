@@ -1,8 +1,9 @@
 use Rattle.std.proofs.Common.{◌≡◌, ◌+◌, ◌*◌, true, map, drop}
-use Rattle.dv_match.specs.Filter.{members_of, filters_of, member_weight, members_weight, filters_weight}
+use Rattle.dv_match.specs.Filter.{members_of, filters_of}
+use Rattle.dv_match.specs.Inner.Filter.{member_weight, members_weight, filters_weight}
 use Rattle.dv_match.specs.View.{member}
 use Rattle.dv_order.specs.Key.{KeyTree}
-use Rattle.dv_keyed.specs.Interval.{is_between, is_in_all, is_in_filters}
+use Rattle.dv_keyed.specs.Inner.Interval.{is_between, is_in_all, is_in_filters}
 use Rattle.dv_keyed.proofs.interval.+narrowing.Given as goal
 
 abbrev pub decreases-narrow_by_filter : goal.decreases-narrow_by_filter

@@ -1,7 +1,7 @@
 use Rattle.std.proofs.Common.{map}
 use Rattle.dv_match.specs.Filter.{conditions_of}
 use Rattle.dv_match.specs.View.{condition}
-use Rattle.dv_keyed.specs.Interval.{is_in_bounds, is_in_each}
+use Rattle.dv_keyed.specs.Inner.Interval.{is_in_bounds, is_in_each}
 use Rattle.dv_keyed.proofs.Between.{next-passes, more-conditions}
 use Rattle.dv_keyed.proofs.interval.narrow_by_conditions.Goals as goal
 

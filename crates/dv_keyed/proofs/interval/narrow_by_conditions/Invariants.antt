@@ -2,7 +2,7 @@ use Rattle.std.proofs.Common.{◌≡◌, true, drop, map}
 use Rattle.dv_match.specs.Filter.{conditions_of}
 use Rattle.dv_match.specs.View.{condition}
 use Rattle.dv_order.specs.Key.{KeyTree}
-use Rattle.dv_keyed.specs.Interval.{is_between, is_in_each}
+use Rattle.dv_keyed.specs.Inner.Interval.{is_between, is_in_each}
 use Rattle.dv_keyed.proofs.interval.narrow_by_conditions.Given as goal
 
 -- a key that is in all bounds is in those that are left, and no key between the ends is lost that is

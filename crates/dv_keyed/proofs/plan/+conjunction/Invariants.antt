@@ -1,8 +1,9 @@
 use Rattle.std.proofs.Common.{◌≡◌, ◌+◌, ◌*◌, map, drop}
-use Rattle.dv_match.specs.Filter.{members_of, filters_of, member_weight, members_weight, filters_weight}
+use Rattle.dv_match.specs.Filter.{members_of, filters_of}
+use Rattle.dv_match.specs.Inner.Filter.{member_weight, members_weight, filters_weight}
 use Rattle.dv_match.specs.View.{member}
 use Rattle.dv_keyed.specs.Choice.{first_in, first_in_all}
-use Rattle.dv_keyed.specs.View.{has_kind}
+use Rattle.dv_keyed.specs.Inner.View.{has_kind}
 use Rattle.dv_keyed.proofs.plan.+conjunction.Given as goal
 
 abbrev pub decreases-first_in_filter : goal.decreases-first_in_filter

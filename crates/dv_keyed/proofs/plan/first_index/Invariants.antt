@@ -1,7 +1,7 @@
 use Rattle.std.proofs.Common.{◌≡◌, map, drop}
 use Rattle.dv_keyed.specs.Choice.{first_place}
-use Rattle.dv_keyed.specs.Index.{IndexTree}
-use Rattle.dv_keyed.specs.View.{has_kind}
+use Rattle.dv_keyed.specs.Inner.Index.{IndexTree}
+use Rattle.dv_keyed.specs.Inner.View.{has_kind}
 use Rattle.dv_keyed.proofs.plan.first_index.Given as goal
 
 abbrev pub invariant-loop-place : goal.invariant-loop-place

@@ -2,7 +2,7 @@ use Rattle.std.proofs.Common.{◌≡◌, map, drop}
 use Rattle.dv_match.specs.Filter.{conditions_of}
 use Rattle.dv_match.specs.View.{condition}
 use Rattle.dv_keyed.specs.Choice.{first_of}
-use Rattle.dv_keyed.specs.View.{has_kind}
+use Rattle.dv_keyed.specs.Inner.View.{has_kind}
 use Rattle.dv_keyed.proofs.plan.first_of_kind.Given as goal
 
 abbrev pub invariant-loop-condition : goal.invariant-loop-condition

@@ -1,7 +1,7 @@
 use Rattle.std.proofs.Common.{◌≡◌, ◌∙◌, ◌||◌, Bool, true, false, ap, map, refl, sym, take}
 use Rattle.std.specs.Ordering.{is_eq}
 use Rattle.dv_order.specs.Key.{key_order}
-use Rattle.dv_keyed.specs.Keys.{has_key}
+use Rattle.dv_keyed.specs.Inner.Keys.{has_key}
 use Rattle.dv_keyed.proofs.Ordered.{now, one-among-more}
 use Rattle.dv_keyed.proofs.within.add_each.Goals as goal
 

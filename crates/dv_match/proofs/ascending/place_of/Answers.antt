@@ -2,7 +2,7 @@ use Rattle.std.proofs.Common.{subst, sym, rules, of_calls}
 use Rattle.std.proofs.lemmas.Fn.{always_returns_same}
 use Rattle.dv_value.specs.View.{tree}
 use Rattle.dv_order.specs.Order.{order}
-use Rattle.dv_match.specs.Choices.{IsPlaceOf}
+use Rattle.dv_match.specs.Inner.Choices.{IsPlaceOf}
 use Rattle.dv_match.proofs.Chosen.{placed}
 use Rattle.dv_match.proofs.ascending.place_of.Goals as goal
 

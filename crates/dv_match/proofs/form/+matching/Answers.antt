@@ -1,8 +1,8 @@
 use Rattle.std.proofs.Common.{◌∙◌, ap, sym, arith}
 use Rattle.std.specs.List.{list_any, list_all}
 use Rattle.dv_value.specs.View.{tree}
-use Rattle.dv_match.specs.Asked.{wholes, parts}
-use Rattle.dv_match.specs.Filter.{members_weight, filters_weight, conditions_weight}
+use Rattle.dv_match.specs.Inner.Asked.{wholes, parts}
+use Rattle.dv_match.specs.Inner.Filter.{members_weight, filters_weight, conditions_weight}
 use Rattle.dv_match.specs.Match.{matches, matches_all, matches_any, matches_member, meets, meets_all, passes}
 use Rattle.dv_match.specs.View.{member, condition, test}
 use Rattle.dv_match.proofs.Arrays.{array-elements}

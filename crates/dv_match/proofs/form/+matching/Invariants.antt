@@ -1,8 +1,8 @@
 use Rattle.std.proofs.Common.{◌≡◌, ◌+◌, ◌*◌, true, false, take}
 use Rattle.std.specs.List.{list_any, list_all}
 use Rattle.dv_value.specs.View.{tree}
-use Rattle.dv_match.specs.Asked.{wholes, parts}
-use Rattle.dv_match.specs.Filter.{member_weight, members_weight, filters_weight, condition_weight, conditions_weight, test_weight}
+use Rattle.dv_match.specs.Inner.Asked.{wholes, parts}
+use Rattle.dv_match.specs.Inner.Filter.{member_weight, members_weight, filters_weight, condition_weight, conditions_weight, test_weight}
 use Rattle.dv_match.specs.Match.{matches, matches_member, meets, passes}
 use Rattle.dv_match.specs.View.{member, condition, test}
 use Rattle.dv_match.proofs.form.+matching.Given as goal

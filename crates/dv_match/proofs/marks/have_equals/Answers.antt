@@ -1,9 +1,9 @@
 use Rattle.std.proofs.Common.{◌≡◌, ◌∙◌, ◌&&◌, ap, arith, sym, subst, tests, true, false}
 use Rattle.std.specs.List.{list_all}
 use Rattle.std.proofs.lemmas.List.Folds.{list_all-append}
-use Rattle.dv_match.specs.Asked.{parts}
-use Rattle.dv_match.specs.Blocks.{has_equal}
-use Rattle.dv_match.specs.Choices.{Ascend}
+use Rattle.dv_match.specs.Inner.Asked.{parts}
+use Rattle.dv_match.specs.Inner.Blocks.{has_equal}
+use Rattle.dv_match.specs.Inner.Choices.{Ascend}
 use Rattle.dv_match.proofs.Marked.{all-marked, front-ascends, back-ascends}
 use Rattle.dv_match.proofs.marks.have_equals.Goals as goal
 

@@ -1,8 +1,8 @@
 use Rattle.std.proofs.Common.{◌≡◌, length}
 use Rattle.std.specs.List.{list_all}
-use Rattle.dv_match.specs.Asked.{parts}
-use Rattle.dv_match.specs.Blocks.{has_equal}
-use Rattle.dv_match.specs.Choices.{Ascend}
+use Rattle.dv_match.specs.Inner.Asked.{parts}
+use Rattle.dv_match.specs.Inner.Blocks.{has_equal}
+use Rattle.dv_match.specs.Inner.Choices.{Ascend}
 use Rattle.dv_match.proofs.marks.have_equals.Given as goal
 
 abbrev pub invariant-each_block : goal.invariant-each_block

@@ -1,7 +1,7 @@
 use Rattle.std.proofs.Common.{rules}
 use Rattle.dv_candidates.specs.Candidates.{whole, leaves}
 use Rattle.dv_candidates.specs.View.{seen}
-use Rattle.dv_match.specs.Blocks.{no_marks}
+use Rattle.dv_match.specs.Inner.Blocks.{no_marks}
 use Rattle.dv_match.proofs.Marked.{marked-along}
 use Rattle.dv_match.proofs.marks.marks_along.Goals as goal
 

@@ -1,7 +1,7 @@
 use Rattle.std.proofs.Common.{◌≡◌, true, take}
 use Rattle.std.specs.List.{list_any, list_all}
 use Rattle.dv_value.specs.View.{tree}
-use Rattle.dv_match.specs.Asked.{parts}
+use Rattle.dv_match.specs.Inner.Asked.{parts}
 use Rattle.dv_match.specs.Match.{is_equal}
 use Rattle.dv_match.proofs.matching.has_each.Given as goal
 

@@ -1,5 +1,5 @@
 use Rattle.std.proofs.Common.{◌∙◌, ◌<◌, ap, arith, length}
-use Rattle.dv_match.specs.Asked.{parts}
+use Rattle.dv_match.specs.Inner.Asked.{parts}
 use Rattle.dv_match.proofs.Items.{length-seen}
 use Rattle.dv_match.proofs.Marked.{every-chosen}
 use Rattle.dv_match.proofs.matching.has_every.Goals as goal

@@ -1,6 +1,6 @@
 use Rattle.std.proofs.Common.{[], ◌∷◌, ◌∙◌, arith}
 use Rattle.std.proofs.lemmas.Result.{err_from_is_err_and}
-use Rattle.dv_message.specs.Batches.{rows_spelling}
+use Rattle.dv_message.specs.Inner.Batches.{rows_spelling}
 use Rattle.dv_message.proofs.Batches.{array_closed, grown, grown_behind_two, longer}
 use Rattle.dv_message.proofs.batch.append_array.Goals as goal
 

@@ -1,5 +1,5 @@
 use Rattle.std.proofs.Common.{ap, ◌∙◌, length, arith}
-use Rattle.dv_message.specs.Batches.{batch_spelling}
+use Rattle.dv_message.specs.Inner.Batches.{batch_spelling}
 use Rattle.dv_message.proofs.Measured.{put_in, unmeasured-length}
 use Rattle.dv_message.proofs.batch.append_batch.Goals as goal
 

@@ -1,7 +1,7 @@
 use Rattle.std.proofs.Common.{ℕ, List, [], ◌∷◌, ◌++◌, ◌∙◌, arith}
 use Rattle.std.proofs.lemmas.Result.{err_from_is_err_and}
 use Rattle.dv_value.specs.Spelling.{framed}
-use Rattle.dv_message.specs.Batches.{id_spelling, rows_spelling}
+use Rattle.dv_message.specs.Inner.Batches.{id_spelling, rows_spelling}
 use Rattle.dv_message.proofs.Batches.{cursor_closed, grown, grown_behind_three, longer, two_appended}
 use Rattle.dv_message.proofs.batch.append_cursor.Goals as goal
 

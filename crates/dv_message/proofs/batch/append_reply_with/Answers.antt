@@ -1,6 +1,6 @@
 use Rattle.std.proofs.Common.{ℕ, List, [], ◌∷◌, ◌∙◌, arith}
 use Rattle.std.proofs.lemmas.Result.{err_from_is_err_and}
-use Rattle.dv_message.specs.Batches.{cursor_spelling}
+use Rattle.dv_message.specs.Inner.Batches.{cursor_spelling}
 use Rattle.dv_message.proofs.Batches.{batch_closed, batch-within, grown, grown_behind_two, grown_behind_three, longer}
 use Rattle.dv_message.proofs.batch.append_reply_with.Goals as goal
 

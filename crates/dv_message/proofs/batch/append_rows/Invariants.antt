@@ -1,5 +1,5 @@
 use Rattle.std.proofs.Common.{◌≡◌, ℕ, List, ◌++◌, drop}
-use Rattle.dv_message.specs.Batches.{rows_spelling}
+use Rattle.dv_message.specs.Inner.Batches.{rows_spelling}
 use Rattle.dv_message.proofs.batch.append_rows.Given as goal
 
 -- the rows that are left, appended, are the whole behind what was there

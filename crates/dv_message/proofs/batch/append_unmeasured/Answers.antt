@@ -1,6 +1,6 @@
 use Rattle.std.proofs.Common.{List, ℕ, ◌++◌, ap, ◌∙◌}
 use Rattle.std.proofs.lemmas.Result.{err_from_is_err_and}
-use Rattle.dv_message.specs.Batches.{batch_spelling}
+use Rattle.dv_message.specs.Inner.Batches.{batch_spelling}
 use Rattle.dv_message.proofs.Batches.{grown}
 use Rattle.dv_message.proofs.Measured.{behind_header}
 use Rattle.dv_message.proofs.batch.append_unmeasured.Goals as goal

@@ -3,7 +3,7 @@ use Rattle.dv_command.specs.declared.command.Command.{Command}
 use Rattle.dv_command.specs.declared.command.Command.TheVariants.{Sections}
 use Rattle.dv_command.specs.Lists.{CommandLists}
 use Rattle.dv_message.specs.Commands.{read_in}
-use Rattle.dv_message.specs.SectionsView.{section_seen}
+use Rattle.dv_message.specs.Inner.SectionsView.{section_seen}
 use Rattle.dv_message.proofs.Brought.{needed_from, invalid_from}
 use Rattle.dv_message.proofs.commands.command_in.Goals as goal
 

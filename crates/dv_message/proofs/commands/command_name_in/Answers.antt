@@ -1,7 +1,7 @@
 use Rattle.std.proofs.Common.{◌+◌, List, map, take, subst, rules}
 use Rattle.std.proofs.lemmas.List.{take_all}
 use Rattle.dv_message.specs.declared.sections.Section as declared
-use Rattle.dv_message.specs.SectionsView.{framed_seen, section_seen}
+use Rattle.dv_message.specs.Inner.SectionsView.{framed_seen, section_seen}
 use Rattle.dv_message.proofs.Reading.{taken_is}
 use Rattle.dv_message.proofs.Brought.{IsNamed, not_named, named_by_body, named_before, is_named}
 use Rattle.dv_message.proofs.commands.command_name_in.Goals as goal

@@ -1,7 +1,7 @@
 use denote.Shadow.{shadow}
 use denote.Text.{Utf8}
 use Rattle.std.proofs.Common.{map, take}
-use Rattle.dv_message.specs.SectionsView.{section_seen}
+use Rattle.dv_message.specs.Inner.SectionsView.{section_seen}
 use Rattle.dv_message.proofs.Brought.{IsNamed}
 use Rattle.dv_message.proofs.commands.command_name_in.Given as goal
 

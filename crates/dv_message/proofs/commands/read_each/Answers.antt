@@ -1,6 +1,6 @@
 use Rattle.std.proofs.Common.{arith}
 use Rattle.std.proofs.lemmas.Result.{err_from_is_err_and}
-use Rattle.dv_message.specs.SectionsView.{framed_seen}
+use Rattle.dv_message.specs.Inner.SectionsView.{framed_seen}
 use Rattle.dv_message.proofs.Reading.{checked_is, nothing_kept, one_kept, one_checked, refused_as, stops_here}
 use Rattle.dv_message.proofs.commands.read_each.Goals as goal
 

@@ -1,5 +1,5 @@
 use Rattle.std.proofs.Common.{length}
-use Rattle.dv_message.specs.SectionsView.{framed_seen}
+use Rattle.dv_message.specs.Inner.SectionsView.{framed_seen}
 use Rattle.dv_message.proofs.Reading.{KeepsFront}
 use Rattle.dv_message.proofs.commands.read_each.Given as goal
 

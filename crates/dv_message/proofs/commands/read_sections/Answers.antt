@@ -1,10 +1,10 @@
 use Rattle.std.proofs.Common.{◌+◌, List, map, take, drop, refl, ap, subst, ◌∙◌}
 use Rattle.std.proofs.lemmas.List.{map-append, take_all}
 use Rattle.std.proofs.lemmas.Result.{err_from_is_err_and}
-use Rattle.dv_command.specs.ListsView.{list_seen}
+use Rattle.dv_command.specs.Inner.ListsView.{list_seen}
 use Rattle.dv_message.specs.declared.sections.Section as declared
 use Rattle.dv_message.specs.Sections.{body, named}
-use Rattle.dv_message.specs.SectionsView.{framed_seen, section_seen}
+use Rattle.dv_message.specs.Inner.SectionsView.{framed_seen, section_seen}
 use Rattle.dv_message.proofs.Reading.{taken_is, parts_are}
 use Rattle.dv_message.proofs.Brought.{AreKept, none_kept, body_kept, list_kept, stops_needed, body_fault, list_fault, as_needed}
 use Rattle.dv_message.proofs.commands.read_sections.Goals as goal

@@ -1,5 +1,5 @@
 use Rattle.std.proofs.Common.{◌+◌, map, take, drop, sym, ◌∙◌}
-use Rattle.dv_message.specs.SectionsView.{framed_seen, section_seen}
+use Rattle.dv_message.specs.Inner.SectionsView.{framed_seen, section_seen}
 use Rattle.dv_message.proofs.Frames.{not_true}
 use Rattle.dv_message.proofs.Reading.{taken_is, parts_are}
 use Rattle.dv_message.proofs.Names.{not_new, body_passed, name_passed, name_again}

@@ -1,5 +1,5 @@
 use Rattle.std.proofs.Common.{map, take}
-use Rattle.dv_message.specs.SectionsView.{section_seen}
+use Rattle.dv_message.specs.Inner.SectionsView.{section_seen}
 use Rattle.dv_message.proofs.Names.{AreKept}
 use Rattle.dv_message.proofs.sections.are_apart.Given as goal
 

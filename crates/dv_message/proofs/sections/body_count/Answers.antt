@@ -1,6 +1,6 @@
 use Rattle.std.proofs.Common.{[], ◌∷◌, map, take, ap, ◌∙◌, arith}
 use Rattle.dv_message.specs.Sections.{body, named, body_count}
-use Rattle.dv_message.specs.SectionsView.{framed_seen, section_seen}
+use Rattle.dv_message.specs.Inner.SectionsView.{framed_seen, section_seen}
 use Rattle.dv_message.proofs.Reading.{taken_is}
 use Rattle.dv_message.proofs.Names.{body_count-append}
 use Rattle.dv_message.proofs.sections.body_count.Goals as goal

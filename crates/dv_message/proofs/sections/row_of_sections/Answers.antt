@@ -1,6 +1,6 @@
 use Rattle.std.proofs.Common.{◌≡◌, ◌<◌, length, rules, sym}
 use Rattle.dv_message.specs.Sections.{section_at}
-use Rattle.dv_message.specs.SectionsView.{section_seen}
+use Rattle.dv_message.specs.Inner.SectionsView.{section_seen}
 use Rattle.dv_message.proofs.Rows.{at_end, next_seen, fails}
 use Rattle.dv_message.proofs.Frames.{sections_advance}
 use Rattle.dv_message.proofs.sections.row_of_sections.Goals as goal

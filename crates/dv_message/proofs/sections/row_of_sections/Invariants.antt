@@ -1,6 +1,6 @@
 use Rattle.std.proofs.Common.{length, map}
 use Rattle.dv_message.specs.Sections.{section_at}
-use Rattle.dv_message.specs.SectionsView.{section_seen}
+use Rattle.dv_message.specs.Inner.SectionsView.{section_seen}
 use Rattle.dv_message.proofs.Rows.{Comes}
 use Rattle.dv_message.proofs.sections.row_of_sections.Given as goal
 

@@ -2,9 +2,10 @@
 use Rattle.std.proofs.Common.{arith, sym, ap, ◌∙◌, ◌≡◌, ◌⊎◌, length, drop, map, inl, inr, length-drop, rules}
 use Rattle.std.proofs.lemmas.List.{length-map}
 use Rattle.std.specs.Ordering.{nat_cmp}
-use Rattle.dv_value.specs.Tree.{weight, elements_of, elements_weight}
+use Rattle.dv_value.specs.Tree.{elements_of}
+use Rattle.dv_value.specs.Inner.Tree.{weight, elements_weight}
 use Rattle.dv_value.specs.View.{tree}
-use Rattle.dv_value.specs.Weight.{field_weighs_less}
+use Rattle.dv_value.specs.Inner.Weight.{field_weighs_less}
 use Rattle.dv_order.specs.Order.{order}
 use Rattle.dv_order.proofs.Steps.{IsLeft-all, IsLeft-more, decided, ended, drop_at, element_at, labels_decide, values_decide, fields_order-fields_of, elements_order-elements_of}
 use Rattle.dv_order.proofs.comparison.+compare.Goals as goal

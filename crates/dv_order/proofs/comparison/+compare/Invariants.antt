@@ -1,6 +1,7 @@
 -- A comparison goes down both values in step, so the weight of the first falls. Each step of a loop leaves what is after it.
 use Rattle.std.proofs.Common.{◌+◌, ◌*◌, ◌≤◌, drop, map}
-use Rattle.dv_value.specs.Tree.{weight, fields_of, fields_weight, elements_of, elements_weight}
+use Rattle.dv_value.specs.Tree.{fields_of, elements_of}
+use Rattle.dv_value.specs.Inner.Tree.{weight, fields_weight, elements_weight}
 use Rattle.dv_value.specs.View.{tree}
 use Rattle.dv_order.specs.Order.{field_order, order}
 use Rattle.dv_order.proofs.Steps.{IsLeft}

@@ -1,9 +1,9 @@
 -- Each turn of a loop looks at the first of what is left of both, and what is inside weighs less.
 use Rattle.std.proofs.Common.{true, false, arith, sym, ap, ◌∙◌, ◌≡◌, ◌⊎◌, ◌==◌, length, drop, map, inl, inr, length-drop, rules}
 use Rattle.std.proofs.lemmas.List.{length-map}
-use Rattle.dv_value.specs.Tree.{weight}
+use Rattle.dv_value.specs.Inner.Tree.{weight}
 use Rattle.dv_value.specs.View.{tree}
-use Rattle.dv_value.specs.Weight.{field_weighs_less}
+use Rattle.dv_value.specs.Inner.Weight.{field_weighs_less}
 use Rattle.dv_order.specs.Same.{is_same}
 use Rattle.dv_order.proofs.Steps.{drop_at, element_at}
 use Rattle.dv_order.proofs.SameLeft.{same_field, same_fields-pointwise, same_elements-pointwise, same-ended, same-more, differs}

@@ -1,7 +1,8 @@
 -- Two values are gone through side by side, so the weight of the first falls.
 use Rattle.std.proofs.Common.{◌+◌, ◌*◌, ◌≤◌, drop, map}
 use Rattle.std.specs.Cmp.Lexicographic.{pointwise}
-use Rattle.dv_value.specs.Tree.{weight, fields_of, fields_weight, elements_of, elements_weight}
+use Rattle.dv_value.specs.Tree.{fields_of, elements_of}
+use Rattle.dv_value.specs.Inner.Tree.{weight, fields_weight, elements_weight}
 use Rattle.dv_value.specs.View.{tree}
 use Rattle.dv_order.specs.Same.{is_same}
 use Rattle.dv_order.proofs.SameLeft.{IsLeft, same_field}

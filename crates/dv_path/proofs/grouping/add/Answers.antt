@@ -1,7 +1,7 @@
 use Rattle.std.proofs.Common.{◌∙◌, ◌∷◌, [], ap, map, refl}
 use Rattle.std.proofs.lemmas.List.{map-append}
-use Rattle.dv_path.specs.GroupView.{group}
-use Rattle.dv_path.specs.Groups.{Group}
+use Rattle.dv_path.specs.Inner.GroupView.{group}
+use Rattle.dv_path.specs.Inner.Groups.{Group}
 use Rattle.dv_path.proofs.Grouped.{added-whole, added-filled}
 use Rattle.dv_path.proofs.grouping.add.Goals as goal
 

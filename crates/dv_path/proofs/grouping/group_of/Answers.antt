@@ -1,7 +1,7 @@
 use Rattle.std.proofs.Common.{◌≡◌, ◌∙◌, ◌∷◌, [], ap, map, arith}
 use Rattle.std.proofs.lemmas.List.{map-append}
 use Rattle.std.proofs.lemmas.Slice.Eq.{bytes_eq-Decides}
-use Rattle.dv_path.specs.GroupView.{group}
+use Rattle.dv_path.specs.Inner.GroupView.{group}
 use Rattle.dv_path.proofs.Grouped.{has-last}
 use Rattle.dv_path.proofs.grouping.group_of.Goals as goal
 

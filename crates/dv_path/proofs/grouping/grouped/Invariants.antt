@@ -1,7 +1,7 @@
 -- The paths of the groups, and those that are left, are all that have a component.
 use Rattle.std.proofs.Common.{◌≡◌, ◌++◌, map, drop}
-use Rattle.dv_path.specs.GroupView.{group}
-use Rattle.dv_path.specs.Groups.{AreFilled, ungrouped, with_component}
+use Rattle.dv_path.specs.Inner.GroupView.{group}
+use Rattle.dv_path.specs.Inner.Groups.{AreFilled, ungrouped, with_component}
 use Rattle.dv_path.proofs.Together.{lent}
 use Rattle.dv_path.proofs.grouping.grouped.Given as goal
 

@@ -1,6 +1,6 @@
 use Rattle.std.proofs.Common.{◌∙◌, ap, sym, map, rules}
 use Rattle.dv_candidates.specs.Candidates.{Candidate, leaves, or_null, whole, with_elements}
-use Rattle.dv_path.specs.GatheredKeys.{gathered-keys}
+use Rattle.dv_path.specs.Inner.GatheredKeys.{gathered-keys}
 use Rattle.dv_path.specs.LeafKeys.{is_key_of, is_leaf_key, is_some_key, leaf_values}
 use Rattle.dv_candidates.specs.View.{seen}
 use Rattle.dv_path.proofs.KeySets.{map-flat_map}

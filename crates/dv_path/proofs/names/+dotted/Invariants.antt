@@ -1,6 +1,7 @@
 -- No name so far has a dot. What is inside a value weighs less.
 use Rattle.std.proofs.Common.{◌≡◌, ◌+◌, ◌*◌, drop}
-use Rattle.dv_value.specs.Tree.{weight, fields_of, fields_weight, elements_of, elements_weight}
+use Rattle.dv_value.specs.Tree.{fields_of, elements_of}
+use Rattle.dv_value.specs.Inner.Tree.{weight, fields_weight, elements_weight}
 use Rattle.dv_value.specs.View.{tree}
 use Rattle.dv_path.specs.Names.{are_fields_dotted, are_elements_dotted}
 use Rattle.dv_path.proofs.names.+dotted.Given as goal

@@ -4,9 +4,9 @@ use Rattle.std.specs.Option.{option_map}
 use Rattle.dv_value.specs.Tree.{Tree, null, document, array, fields_of, elements_of}
 use Rattle.dv_value.specs.Names.{value_under, with_value_under}
 use Rattle.dv_value.specs.View.{tree}
-use Rattle.dv_path.specs.GroupView.{group}
+use Rattle.dv_path.specs.Inner.GroupView.{group}
 use Rattle.dv_path.specs.declared.grouping.Group.{Group}
-use Rattle.dv_path.specs.Groups.{left_of_each, remove_each_element, with_groups, elements_with_groups, IsGrouping}
+use Rattle.dv_path.specs.Inner.Groups.{left_of_each, remove_each_element, with_groups, elements_with_groups, IsGrouping}
 use Rattle.dv_candidates.specs.Path.{index_of}
 use Rattle.dv_path.specs.Removing.{remove_field, remove_element}
 use Rattle.dv_path.proofs.Exchanged.{left-missing, left-some}

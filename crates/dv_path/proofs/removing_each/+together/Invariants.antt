@@ -1,8 +1,8 @@
 -- Each call has fewer components left than the one around it.
 use Rattle.std.proofs.Common.{◌≡◌, ◌+◌, ◌*◌, map, drop}
 use Rattle.dv_value.specs.View.{tree}
-use Rattle.dv_path.specs.GroupView.{group}
-use Rattle.dv_path.specs.Groups.{with_groups, elements_with_groups}
+use Rattle.dv_path.specs.Inner.GroupView.{group}
+use Rattle.dv_path.specs.Inner.Groups.{with_groups, elements_with_groups}
 use Rattle.dv_path.proofs.Grouped.{total, AreOpen}
 use Rattle.dv_path.proofs.Together.{lent}
 use Rattle.dv_path.proofs.removing_each.+together.Given as goal

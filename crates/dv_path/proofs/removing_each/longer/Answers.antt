@@ -1,5 +1,5 @@
 use Rattle.std.proofs.Common.{◌∙◌, ◌+◌, ◌++◌, ap, drop}
-use Rattle.dv_path.specs.Apart.{leading_further}
+use Rattle.dv_path.specs.Inner.Apart.{leading_further}
 use Rattle.dv_path.proofs.Together.{lent, long-more, long-passed}
 use Rattle.dv_path.proofs.removing_each.longer.Goals as goal
 use Rattle.dv_path.proofs.removing_each.longer.Goals.{then-path-gt1+in_ok-push, else-path-gt1}

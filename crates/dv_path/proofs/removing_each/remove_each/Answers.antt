@@ -1,6 +1,7 @@
 use Rattle.std.proofs.Common.{◌≡◌, ◌∙◌, List, ap, sym, subst, IfOk}
 use Rattle.dv_value.specs.Tree.{Field}
-use Rattle.dv_path.specs.Apart.{AreAllApart, remove_each, leads_to_value}
+use Rattle.dv_path.specs.Apart.{AreAllApart, remove_each}
+use Rattle.dv_path.specs.Inner.Apart.{leads_to_value}
 use Rattle.dv_path.proofs.Together.{lent}
 use Rattle.dv_path.proofs.Taken.{taken-alone, taken-apart}
 use Rattle.dv_path.proofs.removing_each.remove_each.Goals as goal

@@ -1,7 +1,7 @@
 use Rattle.std.proofs.Common.{◌≡◌, ◌∙◌, Err, rules}
 use Rattle.dv_value.specs.View.{tree}
 use Rattle.dv_pipe.specs.StageParsing.{stage_of}
-use Rattle.dv_row.specs.EachLaws.{parsed-fault, parsed-all, each-map, gives-fault}
+use Rattle.dv_row.specs.Inner.EachLaws.{parsed-fault, parsed-all, each-map, gives-fault}
 use Rattle.dv_pipe.proofs.pipeline.each_stage.Goals as goal
 
 pub returns-in_err-parse : goal.returns-in_err-parse

@@ -2,7 +2,7 @@ use Rattle.std.proofs.Common.{◌≡◌, ◌∙◌, ◌++◌, ◌+◌, ◌∷◌
 use Rattle.std.proofs.lemmas.List.{map_more}
 use Rattle.std.specs.List.{flat_map}
 use Rattle.dv_sort.specs.Sorting.{front}
-use Rattle.dv_pipe.specs.Parts.{passed}
+use Rattle.dv_pipe.specs.Inner.Parts.{passed}
 use Rattle.dv_pipe.specs.Sources.{Row, rows_referred}
 use Rattle.dv_pipe.proofs.Items.{take-past}
 use Rattle.dv_pipe.proofs.Steps.{front_full, front_more, referred_parts}

@@ -1,7 +1,7 @@
 use Rattle.std.proofs.Common.{◌≡◌, take}
 use Rattle.std.specs.List.{flat_map}
 use Rattle.dv_sort.specs.Sorting.{front}
-use Rattle.dv_pipe.specs.Parts.{passed}
+use Rattle.dv_pipe.specs.Inner.Parts.{passed}
 use Rattle.dv_pipe.specs.Sources.{rows_referred}
 use Rattle.dv_pipe.proofs.run.each.Given as goal
 

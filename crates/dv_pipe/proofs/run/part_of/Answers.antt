@@ -1,6 +1,6 @@
 use Rattle.std.proofs.Common.{◌∙◌, ap}
 use Rattle.dv_sort.specs.Sorting.{stable, front}
-use Rattle.dv_pipe.specs.Parts.{rows_of_step, rows_of_work}
+use Rattle.dv_pipe.specs.Inner.Parts.{rows_of_step, rows_of_work}
 use Rattle.dv_pipe.specs.declared.step.Work.TheVariants as work
 use Rattle.dv_pipe.specs.Sources.{lists_of}
 use Rattle.dv_pipe.specs.Stages.{through}

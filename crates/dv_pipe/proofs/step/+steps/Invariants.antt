@@ -1,7 +1,7 @@
 use Rattle.std.proofs.Common.{◌≡◌, ◌++◌, ◌+◌, ◌*◌, length, take}
 use Rattle.std.specs.List.{flat_map}
 use Rattle.dv_sort.specs.Sorting.{front}
-use Rattle.dv_pipe.specs.Parts.{passed}
+use Rattle.dv_pipe.specs.Inner.Parts.{passed}
 use Rattle.dv_pipe.proofs.step.+steps.Given as goal
 
 abbrev pub decreases-push_row : goal.decreases-push_row

@@ -1,7 +1,7 @@
 use Rattle.std.proofs.Common.{◌∙◌, ◌≤◌, ap, sym, length, arith, Ok, Err, if◌then◌else◌}
 use Rattle.dv_value.specs.View.{tree}
 use Rattle.dv_row.specs.declared.fault.PipelineFault.TheVariants.{Conflict}
-use Rattle.dv_row.specs.AskedView.{asked}
+use Rattle.dv_row.specs.Inner.AskedView.{asked}
 use Rattle.dv_row.proofs.Items.{none-there}
 use Rattle.dv_row.proofs.Taken.{so-far-all, so-far-refused, so-far-more}
 use Rattle.dv_row.proofs.asked.members_of.Goals as goal

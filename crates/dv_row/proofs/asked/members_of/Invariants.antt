@@ -1,4 +1,4 @@
-use Rattle.dv_row.specs.AskedView.{asked}
+use Rattle.dv_row.specs.Inner.AskedView.{asked}
 use Rattle.dv_row.proofs.Taken.{IsSoFar}
 use Rattle.dv_row.proofs.asked.members_of.Given as goal
 

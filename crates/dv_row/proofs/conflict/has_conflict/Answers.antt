@@ -1,5 +1,5 @@
 use Rattle.std.proofs.Common.{◌∙◌, ap, sym}
-use Rattle.dv_row.specs.Conflicts.{paths_conflict}
+use Rattle.dv_row.specs.Inner.Conflicts.{paths_conflict}
 use Rattle.dv_row.proofs.Conflicting.{conflict-permuted}
 use Rattle.dv_row.proofs.conflict.has_conflict.Goals as goal
 

@@ -3,11 +3,11 @@ use Rattle.std.proofs.lemmas.List.{map-append}
 use Rattle.std.specs.Option.{option_map, option_to_list}
 use Rattle.dv_value.specs.Tree.{Field, document, array, fields_of, elements_of, list_of_elements}
 use Rattle.dv_value.specs.View.{tree}
-use Rattle.dv_value.specs.Weight.{value_weighs_less}
+use Rattle.dv_value.specs.Inner.Weight.{value_weighs_less}
 use Rattle.dv_row.specs.declared.level.Level.{Level}
 use Rattle.dv_row.specs.Expressions.{with_field_behind}
 use Rattle.dv_row.specs.Projecting.{paths_behind, left_of_value, left_inside, fields_left, elements_left}
-use Rattle.dv_row.specs.Turns.{left_behind, IsFresh}
+use Rattle.dv_row.specs.Inner.Turns.{left_behind, IsFresh}
 use Rattle.dv_row.proofs.Items.{take-read}
 use Rattle.dv_row.proofs.Left.{fields-of_list, elements-of_list, single, elements-left_more}
 use Rattle.dv_row.proofs.Turning.{entered, going-first, going-in, going-out, gone, in-smaller, out-smaller, left-next, left-past, weighs-less, weighs-next}

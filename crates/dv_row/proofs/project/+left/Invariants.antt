@@ -1,8 +1,9 @@
 use Rattle.std.proofs.Common.{◌≡◌, ◌+◌, ◌*◌, drop, map, take}
-use Rattle.dv_value.specs.Tree.{fields_of, fields_weight, elements_of, elements_weight, list_of_elements, weight}
+use Rattle.dv_value.specs.Tree.{fields_of, elements_of, list_of_elements}
+use Rattle.dv_value.specs.Inner.Tree.{fields_weight, elements_weight, weight}
 use Rattle.dv_value.specs.View.{tree}
 use Rattle.dv_row.specs.Projecting.{elements_left}
-use Rattle.dv_row.specs.Turns.{fields_to_go, left_at_end, left_behind}
+use Rattle.dv_row.specs.Inner.Turns.{fields_to_go, left_at_end, left_behind}
 use Rattle.dv_row.proofs.Turning.{IsGoing, to_go}
 use Rattle.dv_row.proofs.project.+left.Given as goal
 

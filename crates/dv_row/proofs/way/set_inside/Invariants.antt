@@ -2,7 +2,7 @@
 use Rattle.std.proofs.Common.{◌≡◌, take}
 use Rattle.std.specs.Option.{option_map}
 use Rattle.dv_value.specs.View.{tree}
-use Rattle.dv_row.specs.Crossings.{set_inward}
+use Rattle.dv_row.specs.Inner.Crossings.{set_inward}
 use Rattle.dv_row.proofs.way.set_inside.Given as goal
 
 abbrev pub invariant-outward : goal.invariant-outward

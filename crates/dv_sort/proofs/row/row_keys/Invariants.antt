@@ -1,6 +1,6 @@
 use Rattle.std.proofs.Common.{◌≡◌, map, take}
 use Rattle.dv_path.specs.Parts.{part}
-use Rattle.dv_sort.specs.Keys as defined
+use Rattle.dv_sort.specs.Inner.Keys as defined
 use Rattle.dv_sort.proofs.row.row_keys.Given as goal
 
 abbrev pub invariant-loop-part : goal.invariant-loop-part

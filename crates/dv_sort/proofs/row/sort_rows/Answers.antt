@@ -2,7 +2,8 @@ use Rattle.std.proofs.Common.{◌≡◌, map, rules, subst, of_calls}
 use Rattle.std.proofs.lemmas.Fn.{always_returns_same}
 use Rattle.dv_path.specs.Parts.{part}
 use Rattle.dv_sort.specs.declared.row.Row.{Row}
-use Rattle.dv_sort.specs.Keys.{AreKeyed, documents, keys_before}
+use Rattle.dv_sort.specs.Keys.{documents}
+use Rattle.dv_sort.specs.Inner.Keys.{AreKeyed, keys_before}
 use Rattle.dv_sort.specs.Sorting.{stable}
 use Rattle.dv_sort.proofs.Kept.{sorted-documents}
 use Rattle.dv_sort.proofs.Standing.{ranks-by-keys}

@@ -1,4 +1,4 @@
-use Rattle.dv_change.specs.Linked.{IsLinked, first_left}
+use Rattle.dv_change.specs.Inner.Linked.{IsLinked, first_left}
 use Rattle.dv_tests_views.proofs.turns.counted.Given as goal
 
 abbrev pub invariant-rows : goal.invariant-rows

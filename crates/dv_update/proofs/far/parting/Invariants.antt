@@ -1,6 +1,6 @@
 -- What is ahead parts from what is left as the paths do.
 use Rattle.std.proofs.Common.{◌≡◌, length}
-use Rattle.dv_update.specs.StandIn.{parting}
+use Rattle.dv_update.specs.Inner.StandIn.{parting}
 use Rattle.dv_update.proofs.far.parting.Given as goal
 
 abbrev pub invariant-components : goal.invariant-components

@@ -6,7 +6,7 @@ use Rattle.dv_value.specs.Names.{value_under}
 use Rattle.dv_value.specs.Tree.{array, document, elements_of, fields_of}
 use Rattle.dv_value.specs.View.{tree}
 use Rattle.dv_candidates.specs.Path.{index_of}
-use Rattle.dv_update.specs.Filling.{beyond, beyond_array}
+use Rattle.dv_update.specs.Inner.Filling.{beyond, beyond_array}
 use Rattle.dv_update.proofs.Filled.{plain-value, none-missing, in-document, in-array, at-element, at-end, too-far}
 use Rattle.dv_update.proofs.filling.+beyond.Goals as goal
 

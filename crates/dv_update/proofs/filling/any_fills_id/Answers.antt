@@ -1,5 +1,5 @@
 use Rattle.std.proofs.Common.{sym}
-use Rattle.dv_update.specs.Filling.{fills_id}
+use Rattle.dv_update.specs.Inner.Filling.{fills_id}
 use Rattle.dv_update.specs.View.{edit}
 use Rattle.dv_update.proofs.Made.{any_at}
 use Rattle.dv_update.proofs.filling.any_fills_id.Goals as goal

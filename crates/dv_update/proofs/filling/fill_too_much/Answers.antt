@@ -1,6 +1,6 @@
 use Rattle.std.proofs.Common.{◌≡◌, ◌∙◌, ap, map}
-use Rattle.dv_update.specs.Filling.{fills, least_size}
-use Rattle.dv_update.specs.FillView.{fill}
+use Rattle.dv_update.specs.Inner.Filling.{fills, least_size}
+use Rattle.dv_update.specs.Inner.FillView.{fill}
 use Rattle.dv_update.specs.View.{edit}
 use Rattle.dv_update.proofs.Counted.{least_made, more-made}
 use Rattle.dv_update.proofs.filling.fill_too_much.Goals as goal

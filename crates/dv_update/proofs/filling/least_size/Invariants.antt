@@ -1,7 +1,7 @@
 -- What is counted, and what is left to count, is no more than all.
 use Rattle.std.proofs.Common.{◌+◌, ◌≤◌, drop, map}
-use Rattle.dv_update.specs.Filling.{least_size}
-use Rattle.dv_update.specs.FillView.{fill}
+use Rattle.dv_update.specs.Inner.Filling.{least_size}
+use Rattle.dv_update.specs.Inner.FillView.{fill}
 use Rattle.dv_update.proofs.filling.least_size.Given as goal
 
 abbrev pub invariant-fills : goal.invariant-fills

@@ -1,8 +1,8 @@
 -- The edits that are left are refused as all of them are, and else keep the same `_id`.
 use Rattle.std.proofs.Common.{length, map}
 use Rattle.dv_update.specs.Apply.{edited}
-use Rattle.dv_update.specs.Collected.{Steps}
-use Rattle.dv_update.specs.Filling.{IsUnfilled}
+use Rattle.dv_update.specs.Inner.Collected.{Steps}
+use Rattle.dv_update.specs.Inner.Filling.{IsUnfilled}
 use Rattle.dv_update.specs.Removals.{other_edits}
 use Rattle.dv_update.specs.View.{edit}
 use Rattle.dv_update.proofs.filling.made_without_fills.Given as goal

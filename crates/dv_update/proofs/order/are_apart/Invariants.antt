@@ -1,7 +1,7 @@
 -- What holds of the edits that are left holds of all, as far as each parts from the next.
 use Rattle.std.proofs.Common.{length, map}
 use Rattle.dv_update.specs.View.{edit}
-use Rattle.dv_update.specs.Collected.{Steps}
+use Rattle.dv_update.specs.Inner.Collected.{Steps}
 use Rattle.dv_update.proofs.order.are_apart.Given as goal
 
 abbrev pub invariant-edits : goal.invariant-edits

@@ -1,6 +1,6 @@
 use Rattle.std.proofs.Common.{◌≡◌, ◌∙◌, ap, map, ◌∷◌, sym, inr, Ok, Err, if◌then◌else◌}
 use Rattle.std.proofs.lemmas.List.{map-append}
-use Rattle.dv_update.specs.Collected.{last_begins}
+use Rattle.dv_update.specs.Inner.Collected.{last_begins}
 use Rattle.dv_update.specs.Update.{Edit}
 use Rattle.dv_update.specs.View.{edit, entry, operation}
 use Rattle.dv_update.specs.declared.fault.UpdateFault.TheVariants.{Conflict}

@@ -2,7 +2,7 @@ use Rattle.std.proofs.Common.{◌≡◌, ◌∙◌, ap, sym, map, Err, ◌+◌, 
 use Rattle.std.proofs.lemmas.List.{map-append}
 use Rattle.dv_value.specs.Tree.{Field}
 use Rattle.dv_value.specs.View.{tree}
-use Rattle.dv_update.specs.Collected.{behind}
+use Rattle.dv_update.specs.Inner.Collected.{behind}
 use Rattle.dv_update.specs.Parsing.{edit_by, edits_by}
 use Rattle.dv_update.specs.View.{edit}
 use Rattle.dv_update.proofs.Gathered.{edit-more, edit-fault, edits-end, gives-fault}

@@ -1,6 +1,6 @@
 -- The edits so far stand behind those that were there.
 use Rattle.std.proofs.Common.{◌≡◌, map, drop}
-use Rattle.dv_update.specs.Collected.{behind}
+use Rattle.dv_update.specs.Inner.Collected.{behind}
 use Rattle.dv_update.specs.Parsing.{edits_by}
 use Rattle.dv_update.specs.View.{edit}
 use Rattle.dv_update.proofs.parsing.add_each.Given as goal

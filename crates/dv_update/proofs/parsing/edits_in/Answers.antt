@@ -1,7 +1,7 @@
 use Rattle.std.proofs.Common.{◌≡◌, map, Err, length, ◌≤◌, rules, arith}
 use Rattle.dv_value.specs.Tree.{Field}
 use Rattle.dv_value.specs.View.{tree}
-use Rattle.dv_update.specs.Collected.{behind}
+use Rattle.dv_update.specs.Inner.Collected.{behind}
 use Rattle.dv_update.specs.Parsing.{edits_under, operator_named}
 use Rattle.dv_update.specs.View.{edit}
 use Rattle.dv_update.proofs.Gathered.{operator-more, operator-fault, operators-end, gives-fault}

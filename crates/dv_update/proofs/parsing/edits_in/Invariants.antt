@@ -1,6 +1,6 @@
 -- The edits so far are those of the operators that were looked at.
 use Rattle.std.proofs.Common.{◌≡◌, map, drop}
-use Rattle.dv_update.specs.Collected.{behind}
+use Rattle.dv_update.specs.Inner.Collected.{behind}
 use Rattle.dv_update.specs.Parsing.{edits_in}
 use Rattle.dv_update.specs.View.{edit}
 use Rattle.dv_update.proofs.parsing.edits_in.Given as goal

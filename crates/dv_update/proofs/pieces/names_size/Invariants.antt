@@ -1,6 +1,6 @@
 -- The bytes so far, and those that are left, are all.
 use Rattle.std.proofs.Common.{◌≡◌, ◌+◌, drop}
-use Rattle.dv_update.specs.StandIn.{names_length}
+use Rattle.dv_update.specs.Inner.StandIn.{names_length}
 use Rattle.dv_update.proofs.pieces.names_size.Given as goal
 
 abbrev pub invariant-names : goal.invariant-names

@@ -3,7 +3,7 @@ use Rattle.std.proofs.Common.{◌≡◌, List, map, drop}
 use Rattle.dv_value.specs.Tree.{Field}
 use Rattle.dv_update.specs.Apply.{edited}
 use Rattle.dv_update.specs.Removals.{other_edits}
-use Rattle.dv_update.specs.Standing.{Stands}
+use Rattle.dv_update.specs.Inner.Standing.{Stands}
 use Rattle.dv_update.specs.View.{edit}
 use Rattle.dv_update.proofs.stand_in.others_stand_in.Given as goal
 

@@ -1,5 +1,5 @@
 use Rattle.std.proofs.Common.{◌≡◌, ◌∙◌, sym, true, false, inr, is_some}
-use Rattle.dv_update.specs.StandIn.{new_value}
+use Rattle.dv_update.specs.Inner.StandIn.{new_value}
 use Rattle.dv_update.specs.View.{operation}
 use Rattle.dv_update.proofs.StandingIn.{blocked_refused, blocked_stays}
 use Rattle.dv_update.proofs.stand_in.with_blocked.Goals as goal

@@ -2,7 +2,7 @@ use Rattle.std.proofs.Common.{◌≡◌, ap, refl, ◌+◌, ℕ, length, drop, E
 use Rattle.dv_value.specs.Spelling.{payload}
 use Rattle.dv_value.specs.View.{tree}
 use Rattle.dv_update.specs.Apply.{edit_at}
-use Rattle.dv_update.specs.StandIn.{names_length}
+use Rattle.dv_update.specs.Inner.StandIn.{names_length}
 use Rattle.dv_update.specs.View.{operation}
 use Rattle.dv_update.proofs.StandingIn.{becomes_refused, first_put_refused, first_put}
 use Rattle.dv_update.proofs.stand_in.with_first.Goals as goal

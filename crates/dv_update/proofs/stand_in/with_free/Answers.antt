@@ -1,5 +1,5 @@
 use Rattle.std.proofs.Common.{◌≡◌, None, rules}
-use Rattle.dv_update.specs.StandIn.{new_value}
+use Rattle.dv_update.specs.Inner.StandIn.{new_value}
 use Rattle.dv_update.specs.View.{operation}
 use Rattle.dv_update.proofs.StandingIn.{free_stays}
 use Rattle.dv_update.proofs.stand_in.with_free.Goals as goal

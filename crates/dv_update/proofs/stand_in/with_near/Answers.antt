@@ -1,7 +1,7 @@
 use Rattle.std.proofs.Common.{◌≡◌, ◌-◌, length, Err, rules}
 use Rattle.dv_path.specs.Slots.{slot}
 use Rattle.dv_update.specs.Apply.{edit_at}
-use Rattle.dv_update.specs.StandIn.{PullsShallow}
+use Rattle.dv_update.specs.Inner.StandIn.{PullsShallow}
 use Rattle.dv_update.specs.View.{operation}
 use Rattle.dv_update.proofs.StandingIn.{becomes_refused, near_made, near_refused}
 use Rattle.dv_update.proofs.stand_in.with_near.Goals as goal

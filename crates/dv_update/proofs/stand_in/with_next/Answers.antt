@@ -2,7 +2,7 @@ use Rattle.std.proofs.Common.{◌≡◌, ◌∙◌, ap, sym, refl, ◌+◌, ℕ,
 use Rattle.dv_value.specs.Spelling.{payload}
 use Rattle.dv_value.specs.View.{tree}
 use Rattle.dv_update.specs.Apply.{edit_at}
-use Rattle.dv_update.specs.StandIn.{names_length, new_value, parting}
+use Rattle.dv_update.specs.Inner.StandIn.{names_length, new_value, parting}
 use Rattle.dv_update.specs.View.{operation}
 use Rattle.dv_update.proofs.StandingIn.{becomes_refused, next_put_refused, next_put, next_stays}
 use Rattle.dv_update.proofs.stand_in.with_next.Goals as goal

@@ -1,5 +1,5 @@
 use Rattle.std.proofs.Common.{map, take}
-use Rattle.dv_value.specs.Places.{IsNameIndexOf}
+use Rattle.dv_value.specs.Inner.Places.{IsNameIndexOf}
 use Rattle.dv_value.specs.Names.{bare}
 use Rattle.dv_value.proofs.name_list.all_indexed.Given as goal
 

@@ -2,7 +2,7 @@ use Rattle.std.proofs.Common.{◌≡◌, sym, ap, ◌∙◌, map, length, rules}
 use Rattle.std.proofs.lemmas.List.{length-map}
 use Rattle.std.proofs.lemmas.Result.{on_ok_weaker}
 use Rattle.std.specs.FinMap as finite
-use Rattle.dv_value.specs.Places.{Places, IsNameIndexOf}
+use Rattle.dv_value.specs.Inner.Places.{Places, IsNameIndexOf}
 use Rattle.dv_value.specs.Names.{bare}
 use Rattle.dv_value.proofs.Places.{IsIndexOf-push}
 use Rattle.dv_value.proofs.name_list.index_next.Goals as goal

@@ -1,5 +1,5 @@
 use Rattle.std.proofs.Common.{map, take}
-use Rattle.dv_value.specs.Removing.{HasEach}
+use Rattle.dv_value.specs.Inner.Removing.{HasEach}
 use Rattle.dv_value.proofs.removing.indexed.Given as goal
 
 abbrev pub invariant-loop-place : goal.invariant-loop-place

@@ -1,6 +1,6 @@
 use Rattle.std.proofs.Common.{sym, subst}
-use Rattle.dv_change.specs.Work.{HasAny}
-use Rattle.dv_views.specs.Keeping.{kept_seen, left_of}
+use Rattle.dv_change.specs.Inner.Work.{HasAny}
+use Rattle.dv_views.specs.Inner.Keeping.{kept_seen, left_of}
 use Rattle.dv_views.proofs.Rolling.{has_any, linked_first, result_turns}
 use Rattle.dv_views.proofs.keeping.taken_in.Goals as goal
 

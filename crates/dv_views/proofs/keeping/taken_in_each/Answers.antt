@@ -1,7 +1,7 @@
 use Rattle.std.proofs.Common.{◌++◌, ◌∷◌, [], List, ap, map, take, sym, subst, ◌∙◌}
 use Rattle.std.proofs.lemmas.List.{take_all, take_more}
 use Rattle.dv_change.specs.declared.change.Change.{Change}
-use Rattle.dv_views.specs.Keeping.{Turns}
+use Rattle.dv_views.specs.Inner.Keeping.{Turns}
 use Rattle.dv_views.proofs.Rolling.{arrival, input_stays, turns_more, turns_none}
 use Rattle.dv_views.proofs.keeping.taken_in_each.Goals as goal
 

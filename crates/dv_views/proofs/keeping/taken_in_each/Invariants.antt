@@ -1,7 +1,7 @@
 -- The changes so far were taken in.
 use Rattle.std.proofs.Common.{map, take}
 use Rattle.dv_change.specs.Inputs.{HasInput}
-use Rattle.dv_views.specs.Keeping.{Turns, kept_seen}
+use Rattle.dv_views.specs.Inner.Keeping.{Turns, kept_seen}
 use Rattle.dv_views.proofs.Rolling.{arrival}
 use Rattle.dv_views.proofs.keeping.taken_in_each.Given as goal
 

@@ -2,8 +2,8 @@
 use Rattle.std.proofs.Common.{◌≡◌}
 use Rattle.std.specs.Vec.Iter.{into_iter_items}
 use Rattle.dv_change.specs.Inputs.{HasInput}
-use Rattle.dv_views.specs.Filled.{taken_behind}
-use Rattle.dv_views.specs.Keeping.{IsSoundLive, kept_seen}
+use Rattle.dv_views.specs.Inner.Filled.{taken_behind}
+use Rattle.dv_views.specs.Inner.Keeping.{IsSoundLive, kept_seen}
 use Rattle.dv_views.proofs.making.filled_each.Given as goal
 
 abbrev pub invariant-puts : goal.invariant-puts

@@ -2,12 +2,12 @@
 use Rattle.std.proofs.Common.{◌≡◌, drop, take}
 use Rattle.std.specs.List.{AllByRecursion}
 use Rattle.dv_pipe.specs.Sources.{lists_of}
-use Rattle.dv_views.specs.Filled.{lists_in_turn}
-use Rattle.dv_views.specs.Ground.{IsPlacedUnder, outs_below}
-use Rattle.dv_views.specs.Keeping.{IsSoundLive, kept_seen}
-use Rattle.dv_views.specs.Made.{IsNoStale}
-use Rattle.dv_views.specs.Older.{views_before}
-use Rattle.dv_views.specs.Views.{AreInOrder, view_under}
+use Rattle.dv_views.specs.Inner.Filled.{lists_in_turn}
+use Rattle.dv_views.specs.Inner.Ground.{IsPlacedUnder, outs_below}
+use Rattle.dv_views.specs.Inner.Keeping.{IsSoundLive, kept_seen}
+use Rattle.dv_views.specs.Inner.Made.{IsNoStale}
+use Rattle.dv_views.specs.Inner.Older.{views_before}
+use Rattle.dv_views.specs.Inner.Views.{AreInOrder, view_under}
 use Rattle.dv_views.proofs.making.filled_lists.Given as goal
 
 abbrev pub invariant-lists : goal.invariant-lists

@@ -1,16 +1,18 @@
 use Rattle.std.proofs.Common.{◌≡◌, ℕ, List, [], ap, length, subst, sym, ◌∙◌}
 use Rattle.std.specs.List.{AllByRecursion}
-use Rattle.dv_change.specs.Changes.{IsPositioned, Positioned, with_changes}
-use Rattle.dv_change.specs.RowLaws.{positioned-none}
+use Rattle.dv_change.specs.Changes.{Positioned, with_changes}
+use Rattle.dv_change.specs.Inner.Changes.{IsPositioned}
+use Rattle.dv_change.specs.Inner.RowLaws.{positioned-none}
 use Rattle.dv_pipe.specs.Sources.{lists_of}
 use Rattle.dv_pipe.specs.declared.stage.Stage.{Stage}
-use Rattle.dv_views.specs.Filled.{lists_in_turn}
-use Rattle.dv_views.specs.Ground.{IsPlacedUnder, outs_below}
-use Rattle.dv_views.specs.Keeping.{kept_seen}
-use Rattle.dv_views.specs.Made.{IsNoStale}
-use Rattle.dv_views.specs.Older.{views_before}
-use Rattle.dv_views.specs.Turning.{AreFresh}
-use Rattle.dv_views.specs.Views.{AreInOrder, Taken, view_under}
+use Rattle.dv_views.specs.Inner.Filled.{lists_in_turn}
+use Rattle.dv_views.specs.Inner.Ground.{IsPlacedUnder, outs_below}
+use Rattle.dv_views.specs.Inner.Keeping.{kept_seen}
+use Rattle.dv_views.specs.Inner.Made.{IsNoStale}
+use Rattle.dv_views.specs.Inner.Older.{views_before}
+use Rattle.dv_views.specs.Inner.Turning.{AreFresh}
+use Rattle.dv_views.specs.Views.{Taken}
+use Rattle.dv_views.specs.Inner.Views.{AreInOrder, view_under}
 use Rattle.dv_views.proofs.Building.{built}
 use Rattle.dv_views.proofs.Filling.{lists_left, puts_filled, puts_lead}
 use Rattle.dv_views.proofs.Rolling.{fresh_named, fresh_turners, left_fresh, lookups_count, sound_fresh}

@@ -3,7 +3,7 @@ use Rattle.std.proofs.Common.{◌≡◌, ◌++◌, drop}
 use Rattle.std.specs.List.{AllByRecursion}
 use Rattle.dv_coll.specs.Collection.{HasId}
 use Rattle.dv_pipe.specs.Sources.{rows_referred}
-use Rattle.dv_views.specs.Filled.{puts_of}
+use Rattle.dv_views.specs.Inner.Filled.{puts_of}
 use Rattle.dv_views.specs.Placed.{positioned}
 use Rattle.dv_views.proofs.making.puts_of_documents.Given as goal
 

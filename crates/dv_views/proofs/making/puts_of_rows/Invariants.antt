@@ -1,6 +1,6 @@
 -- The puts so far, and those of the rows that are left, are all.
 use Rattle.std.proofs.Common.{◌≡◌, ◌++◌}
-use Rattle.dv_views.specs.Filled.{puts_of}
+use Rattle.dv_views.specs.Inner.Filled.{puts_of}
 use Rattle.dv_views.proofs.making.puts_of_rows.Given as goal
 
 abbrev pub invariant-rows : goal.invariant-rows

@@ -1,6 +1,6 @@
 use Rattle.std.proofs.Common.{ap, sym, ◌∙◌}
-use Rattle.dv_views.specs.Filled.{puts_of}
-use Rattle.dv_views.specs.Ground.{outs_of_mark}
+use Rattle.dv_views.specs.Inner.Filled.{puts_of}
+use Rattle.dv_views.specs.Inner.Ground.{outs_of_mark}
 use Rattle.dv_views.proofs.Building.{live_placed, ok_then, whatever}
 use Rattle.dv_views.proofs.Rolling.{entries_are}
 use Rattle.dv_views.proofs.making.puts_of_view.Goals as goal

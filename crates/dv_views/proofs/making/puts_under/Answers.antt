@@ -1,7 +1,7 @@
 use Rattle.std.proofs.Common.{Option, subst, sym}
 use Rattle.dv_pipe.specs.Sources.{lists_of}
-use Rattle.dv_views.specs.Made.{IsNoStale}
-use Rattle.dv_views.specs.Older.{views_before}
+use Rattle.dv_views.specs.Inner.Made.{IsNoStale}
+use Rattle.dv_views.specs.Inner.Older.{views_before}
 use Rattle.dv_views.specs.Views.{View}
 use Rattle.dv_views.proofs.Building.{list_placed, whatever}
 use Rattle.dv_views.proofs.making.puts_under.Goals as goal

@@ -1,6 +1,6 @@
 use Rattle.std.proofs.Common.{take, ap, ◌∙◌, sym}
 use Rattle.std.specs.Option.{option_map}
-use Rattle.dv_views.specs.Seen.{view_seen}
+use Rattle.dv_views.specs.Inner.Seen.{view_seen}
 use Rattle.dv_views.proofs.Before.{no_view_before, none_told_before, place_within, told_before_at, view_before}
 use Rattle.dv_views.proofs.older.older.Goals as goal
 

@@ -1,8 +1,8 @@
 use Rattle.std.proofs.Common.{◌≡◌, ◌<◌, ℕ, List, Some, ap, subst, sym, ◌∙◌}
 use Rattle.indexmap.proofs.CallerLemmas.{index_map_len-with_value_at}
 use Rattle.dv_pipe.specs.declared.stage.Stage.{Stage}
-use Rattle.dv_views.specs.Body.{Body}
-use Rattle.dv_views.specs.Keeping.{IsSoundLive, kept_seen}
+use Rattle.dv_views.specs.Inner.Body.{Body}
+use Rattle.dv_views.specs.Inner.Keeping.{IsSoundLive, kept_seen}
 use Rattle.dv_views.specs.Views.{live}
 use Rattle.std.specs.Prelude.{IfErr, IfOk}
 use Rattle.dv_views.proofs.Building.{ok_then}

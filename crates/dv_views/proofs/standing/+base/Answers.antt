@@ -1,7 +1,7 @@
 use Rattle.std.proofs.Common.{◌≡◌, ◌∙◌, ◌<◌, None, Some, ap, arith, subst, sym, take, true, false}
-use Rattle.dv_views.specs.Based.{IsBasedOn}
-use Rattle.dv_views.specs.ById.{at_ids_through}
-use Rattle.dv_views.specs.Older.{place_of_name}
+use Rattle.dv_views.specs.Inner.Based.{IsBasedOn}
+use Rattle.dv_views.specs.Inner.ById.{at_ids_through}
+use Rattle.dv_views.specs.Inner.Older.{place_of_name}
 use Rattle.dv_views.proofs.Based.{based_anyhow, based_below, based_on_source, place_early, some_then}
 use Rattle.dv_views.proofs.Before.{place_within}
 use Rattle.dv_views.proofs.standing.+base.Goals as goal

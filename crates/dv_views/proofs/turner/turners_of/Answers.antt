@@ -1,7 +1,7 @@
 use Rattle.std.proofs.Common.{List, ◌++◌, ◌∷◌, [], ap, subst, sym, take, ◌∙◌}
 use Rattle.std.proofs.lemmas.List.{take_more}
 use Rattle.dv_pipe.specs.declared.stage.Stage.{Stage}
-use Rattle.dv_views.specs.Turning.{AreFresh}
+use Rattle.dv_views.specs.Inner.Turning.{AreFresh}
 use Rattle.dv_views.proofs.Rolling.{fresh_more}
 use Rattle.dv_views.proofs.turner.turners_of.Goals as goal
 

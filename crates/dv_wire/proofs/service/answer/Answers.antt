@@ -1,6 +1,6 @@
 use Rattle.std.proofs.Common.{List, ℕ, subst, sym, ◌∙◌}
 use Rattle.dv_wire.specs.Schedule.{Comes}
-use Rattle.dv_wire.specs.View.{Came}
+use Rattle.dv_wire.specs.Inner.View.{Came}
 use Rattle.dv_wire.proofs.Pieces.{Answering, at_failure, goes_on, none_behind}
 use Rattle.dv_wire.proofs.Talks.{at_err, at_ok}
 use Rattle.dv_wire.proofs.service.answer.Goals as goal

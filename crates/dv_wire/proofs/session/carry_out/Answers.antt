@@ -2,7 +2,7 @@ use Rattle.std.proofs.Common.{[], sym, refl}
 use Rattle.std.proofs.lemmas.List.{append-nil}
 use Rattle.std.proofs.lemmas.Result.{err_from_is_err_and}
 use Rattle.dv_core.specs.Told.{outcome_told}
-use Rattle.dv_message.specs.View.{message_seen}
+use Rattle.dv_message.specs.Inner.View.{message_seen}
 use Rattle.dv_wire.proofs.Counting.{Counted-answered, Counted-unanswered}
 use Rattle.dv_wire.proofs.Replies.{is_answered, is_closed, message_spelling-some}
 use Rattle.dv_wire.proofs.session.carry_out.Goals as goal

@@ -1,5 +1,5 @@
 use Rattle.std.proofs.lemmas.Result.{err_from_is_err_and}
-use Rattle.dv_message.specs.View.{message_seen}
+use Rattle.dv_message.specs.Inner.View.{message_seen}
 use Rattle.dv_wire.proofs.Fronts.{seen_is}
 use Rattle.dv_wire.proofs.Streams.{begins, goes_on, at_unfinished, at_fault, at_failure}
 use Rattle.dv_wire.proofs.session.carry_out_all.Goals as goal

@@ -1,8 +1,8 @@
 use Rattle.std.proofs.Common.{sym}
-use Rattle.dv_command.specs.Needed.{needed}
+use Rattle.dv_command.specs.Inner.Needed.{needed}
 use Rattle.dv_core.specs.Told.{outcome_told}
 use Rattle.dv_message.specs.Commands.{command_of}
-use Rattle.dv_message.specs.View.{message_seen}
+use Rattle.dv_message.specs.Inner.View.{message_seen}
 use Rattle.dv_wire.proofs.Replies.{steps_alike, steps_as}
 use Rattle.dv_wire.proofs.session.step.Goals as goal
 

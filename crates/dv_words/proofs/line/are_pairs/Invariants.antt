@@ -1,5 +1,5 @@
 use Rattle.std.proofs.Common.{length}
-use Rattle.dv_words.specs.Reading.{IsPairs}
+use Rattle.dv_words.specs.Inner.Reading.{IsPairs}
 use Rattle.dv_words.proofs.line.are_pairs.Given as goal
 
 abbrev pub invariant-pairs : goal.invariant-pairs

@@ -1,5 +1,5 @@
 use Rattle.std.proofs.Common.{sym, subst}
-use Rattle.dv_words.specs.Reading.{IsPlain}
+use Rattle.dv_words.specs.Inner.Reading.{IsPlain}
 use Rattle.dv_words.proofs.Numbers.{IsPlain-decimal}
 use Rattle.dv_words.proofs.line.number.Goals as goal
 

@@ -1,7 +1,7 @@
 use Rattle.std.proofs.Common.{◌≡◌, ℕ, ◌<◌, Bool, true, false}
 use Rattle.std.specs.Bool.{MatchBool}
 use Rattle.std.specs.Int.{bit_at}
-use Rattle.dv_candidates.specs.Places.{has}
+use Rattle.dv_candidates.specs.Inner.Places.{has}
 use Rattle.dv_candidates.proofs.Bits.{none, some}
 use Rattle.dv_candidates.proofs.places.Places.is_empty.Goals as goal
 

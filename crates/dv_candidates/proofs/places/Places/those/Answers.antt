@@ -1,7 +1,7 @@
 use Rattle.std.proofs.Common.{◌≡◌, ◌∙◌, ◌&&◌, ◌||◌, ◌==◌, ℕ, sym, arith, tests, true, false, Bool, take, ◌+◌, refl}
 use Rattle.std.proofs.Math.Bool.{and-false}
 use Rattle.dv_candidates.specs.declared.places.Places.{Places}
-use Rattle.dv_candidates.specs.Places.{has, passes_at}
+use Rattle.dv_candidates.specs.Inner.Places.{has, passes_at}
 use Rattle.dv_candidates.proofs.Bits.{none, added, passes_at-more, taken_in, left_out}
 use Rattle.dv_candidates.proofs.places.Places.those.Goals as goal
 use Rattle.dv_candidates.proofs.places.Places.those.Goals.{then-has+then-test, else-has, else-has-via-then-has+else-test, else-has-via-else-has}

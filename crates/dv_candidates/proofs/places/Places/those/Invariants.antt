@@ -1,6 +1,6 @@
 use Rattle.std.proofs.Common.{◌≡◌, ℕ, ◌&&◌, Bool, List, take}
-use Rattle.dv_candidates.specs.Fold.{Answers}
-use Rattle.dv_candidates.specs.Places.{has, passes_at}
+use Rattle.dv_candidates.specs.Inner.Fold.{Answers}
+use Rattle.dv_candidates.specs.Inner.Places.{has, passes_at}
 use Rattle.dv_candidates.proofs.places.Places.those.Given as goal
 
 abbrev pub invariant-loop-place : goal.invariant-loop-place

@@ -1,5 +1,5 @@
 use Rattle.std.proofs.Common.{◌∙◌, ◌||◌, ap}
-use Rattle.dv_candidates.specs.Places.{has}
+use Rattle.dv_candidates.specs.Inner.Places.{has}
 use Rattle.dv_candidates.proofs.Bits.{joined, moved}
 use Rattle.dv_candidates.proofs.places.Places.with_behind.Goals as goal
 

@@ -3,7 +3,7 @@ use Rattle.std.proofs.lemmas.Result.{IfOk-weaker}
 use Rattle.std.specs.String.{string_bytes}
 use Rattle.dv_pipe.specs.Stages.{Lists, evaluated}
 use Rattle.dv_views.specs.Forms.{names_read}
-use Rattle.dv_catalog.specs.CatalogParts.{AreLive, marked_of, rows_kept, state_of}
+use Rattle.dv_catalog.specs.Inner.CatalogParts.{AreLive, marked_of, rows_kept, state_of}
 use Rattle.dv_catalog.specs.Marks.{Marked}
 use Rattle.dv_catalog.specs.State.{rows_of}
 use Rattle.dv_catalog.proofs.Refreshed.{kept_alike, reads_on}

@@ -1,9 +1,9 @@
 use Rattle.std.proofs.Common.{◌≡◌, ◌⊎◌, true, false, Some, None, inl, inr, refl, sym, ◌∙◌}
 use Rattle.std.specs.Option.{option_map}
 use Rattle.std.specs.String.{string_bytes}
-use Rattle.dv_command.specs.View.{view_on_seen}
-use Rattle.dv_views.specs.Views.{has_view}
-use Rattle.dv_catalog.specs.CatalogParts.{state_of}
+use Rattle.dv_command.specs.Inner.View.{view_on_seen}
+use Rattle.dv_views.specs.Inner.Views.{has_view}
+use Rattle.dv_catalog.specs.Inner.CatalogParts.{state_of}
 use Rattle.dv_catalog.specs.State.{is_collection, is_there}
 use Rattle.dv_catalog.proofs.Kept.{created_is_made, is_free, is_taken, kept_empty, not_created, not_there}
 use Rattle.dv_catalog.proofs.catalog.Catalog.create.Goals as goal

@@ -1,10 +1,10 @@
 use Rattle.std.proofs.Common.{◌≡◌, false, Result, inl, map, refl, sym, subst, ◌∙◌}
 use Rattle.dv_fields.specs.declared.refusal.Refusal.{Refusal}
-use Rattle.dv_keyed.specs.View.{form_of_new}
-use Rattle.dv_views.specs.Views.{view_form}
-use Rattle.dv_catalog.specs.CatalogParts.{state_of}
+use Rattle.dv_keyed.specs.Inner.View.{form_of_new}
+use Rattle.dv_views.specs.Inner.Views.{view_form}
+use Rattle.dv_catalog.specs.Inner.CatalogParts.{state_of}
 use Rattle.dv_catalog.specs.IndexMaking.{with_all}
-use Rattle.dv_catalog.specs.Parts.{Leaves}
+use Rattle.dv_catalog.specs.Inner.Parts.{Leaves}
 use Rattle.dv_catalog.specs.State.{State, collection_of, is_view}
 use Rattle.dv_catalog.proofs.Keeping.{view_forms}
 use Rattle.dv_catalog.proofs.MadeIndexes.{created_on_collection, kept_indexes, not_created_on_view, state_leaves}

@@ -1,13 +1,13 @@
 use Rattle.std.specs.String.{string_bytes}
 use Rattle.std.proofs.Common.{◌≡◌, ℕ, false, List, map, Some, Ok, Err, sym, subst, ap, ◌∙◌}
-use Rattle.dv_command.specs.View.{view_on_seen}
+use Rattle.dv_command.specs.Inner.View.{view_on_seen}
 use Rattle.dv_pipe.specs.Sources as pipes
 use Rattle.dv_views.specs.Forms.{names_read, needed}
-use Rattle.dv_views.specs.Made.{AreAlike}
-use Rattle.dv_views.specs.Views.{view_form}
-use Rattle.dv_catalog.specs.CatalogParts.{marks_of, state_of}
+use Rattle.dv_views.specs.Inner.Made.{AreAlike}
+use Rattle.dv_views.specs.Inner.Views.{view_form}
+use Rattle.dv_catalog.specs.Inner.CatalogParts.{marks_of, state_of}
 use Rattle.dv_catalog.specs.Marks.{Marked, marks_made}
-use Rattle.dv_catalog.specs.Parts.{Leaves}
+use Rattle.dv_catalog.specs.Inner.Parts.{Leaves}
 use Rattle.dv_catalog.specs.State.{is_there, lists_of}
 use Rattle.dv_catalog.specs.Views.{made}
 use Rattle.dv_catalog.proofs.Keeping.{neither}

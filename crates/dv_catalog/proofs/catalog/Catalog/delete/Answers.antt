@@ -1,5 +1,5 @@
 use Rattle.std.proofs.Common.{arith}
-use Rattle.dv_command.specs.View.{deletion_seen}
+use Rattle.dv_command.specs.Inner.View.{deletion_seen}
 use Rattle.dv_catalog.specs.Effects.{delete_chosen}
 use Rattle.dv_catalog.proofs.Cutting.{cuts_after}
 use Rattle.dv_catalog.proofs.catalog.Catalog.delete.Goals as goal

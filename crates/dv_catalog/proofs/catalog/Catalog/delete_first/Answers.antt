@@ -1,7 +1,7 @@
 use Rattle.std.proofs.Common.{◌≡◌, map, ap, subst, sym, ◌∙◌}
-use Rattle.dv_command.specs.View.{deletion_seen}
+use Rattle.dv_command.specs.Inner.View.{deletion_seen}
 use Rattle.dv_catalog.specs.Changes.{changes_of, done_to, gone}
-use Rattle.dv_catalog.specs.EffectView.{AreFirst}
+use Rattle.dv_catalog.specs.Inner.EffectView.{AreFirst}
 use Rattle.dv_catalog.specs.Effects.{delete_chosen}
 use Rattle.dv_catalog.specs.State.{Collection, collection_at, collection_of}
 use Rattle.dv_catalog.proofs.Cutting.{cuts_first, cuts_nothing}

@@ -1,8 +1,8 @@
 use Rattle.std.proofs.Common.{◌≡◌, ◌∙◌, sym, subst, arith}
-use Rattle.dv_command.specs.View.{deletion_seen}
+use Rattle.dv_command.specs.Inner.View.{deletion_seen}
 use Rattle.dv_catalog.specs.Effects.{delete_chosen}
 use Rattle.dv_catalog.specs.Marks.{Marked}
-use Rattle.dv_catalog.specs.Parts.{Cuts}
+use Rattle.dv_catalog.specs.Inner.Parts.{Cuts}
 use Rattle.dv_catalog.proofs.Cutting.{still_uncut}
 use Rattle.dv_catalog.proofs.catalog.Catalog.delete_some.Goals as goal
 

@@ -1,6 +1,6 @@
 use Rattle.std.proofs.Common.{◌≡◌, false, inl, map, refl, sym, ◌∙◌}
-use Rattle.dv_views.specs.Views.{view_form}
-use Rattle.dv_catalog.specs.CatalogParts.{state_of}
+use Rattle.dv_views.specs.Inner.Views.{view_form}
+use Rattle.dv_catalog.specs.Inner.CatalogParts.{state_of}
 use Rattle.dv_catalog.specs.State.{is_collection, is_view}
 use Rattle.dv_catalog.proofs.Keeping.{view_forms}
 use Rattle.dv_catalog.proofs.MadeIndexes.{kept_dropped, not_dropped_on_view, state_dropped}

@@ -1,7 +1,7 @@
 use Rattle.std.proofs.Common.{◌≡◌, [], ◌∷◌, None, sym, ap, ◌∙◌}
 use Rattle.std.proofs.lemmas.Result.{IfOk-weaker}
-use Rattle.dv_views.specs.Views.{rows_shown}
-use Rattle.dv_catalog.specs.CatalogParts.{marked_of}
+use Rattle.dv_views.specs.Inner.Views.{rows_shown}
+use Rattle.dv_catalog.specs.Inner.CatalogParts.{marked_of}
 use Rattle.dv_catalog.specs.Marks.{Marked}
 use Rattle.dv_catalog.specs.State.{rows_of}
 use Rattle.dv_catalog.proofs.Explaining.{collection_explained, view_explained}

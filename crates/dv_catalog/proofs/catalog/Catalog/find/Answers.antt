@@ -1,6 +1,6 @@
 use Rattle.std.proofs.Common.{[], ◌∷◌}
 use Rattle.std.specs.String.{string_bytes}
-use Rattle.dv_catalog.specs.CatalogParts.{marked_of}
+use Rattle.dv_catalog.specs.Inner.CatalogParts.{marked_of}
 use Rattle.dv_catalog.proofs.Refreshed.{reads_on}
 use Rattle.dv_catalog.proofs.catalog.Catalog.find.Goals as goal
 

@@ -1,8 +1,8 @@
 use Rattle.std.proofs.Common.{◌≡◌, List, [], ◌∷◌, Err, ap, ◌∙◌}
 use Rattle.std.proofs.lemmas.Result.{err_from_is_err_and}
-use Rattle.dv_catalog.specs.CatalogParts.{marked_of, marks_of}
+use Rattle.dv_catalog.specs.Inner.CatalogParts.{marked_of, marks_of}
 use Rattle.dv_catalog.specs.Changes.{Change, apply, changes_of, done_to, put}
-use Rattle.dv_catalog.specs.EffectLaws.{done_so}
+use Rattle.dv_catalog.specs.Inner.EffectLaws.{done_so}
 use Rattle.dv_catalog.specs.Effects.{put_new}
 use Rattle.dv_catalog.specs.State.{Namespaces, collection_of, documents_of, lists_of}
 use Rattle.dv_catalog.specs.declared.stopped.Stopped.{Stopped}

@@ -1,7 +1,7 @@
 use Rattle.std.proofs.Common.{take, ap, ◌∙◌}
-use Rattle.dv_catalog.specs.EffectView.{changes_seen}
+use Rattle.dv_catalog.specs.Inner.EffectView.{changes_seen}
 use Rattle.dv_catalog.specs.State.{Namespaces, documents_of, lists_of}
-use Rattle.dv_catalog.specs.Told.{AreTold}
+use Rattle.dv_catalog.specs.Inner.Told.{AreTold}
 use Rattle.dv_catalog.proofs.Keeping.{all_able, all_begin, collections_after, documents_after, kept_after, told_first}
 use Rattle.dv_catalog.proofs.Marking.{are_marked}
 use Rattle.dv_catalog.proofs.Stopping.{first_placed}

@@ -1,5 +1,5 @@
 use Rattle.std.proofs.Common.{◌≡◌, false, inl, refl, sym, ap, ◌∙◌}
-use Rattle.dv_catalog.specs.CatalogParts.{marks_of, state_of}
+use Rattle.dv_catalog.specs.Inner.CatalogParts.{marks_of, state_of}
 use Rattle.dv_catalog.specs.State.{is_collection, lists_of}
 use Rattle.dv_catalog.proofs.Kept.{nothing_dropped, read_stays, view_dropped}
 use Rattle.dv_catalog.proofs.Making.{kept_less}

@@ -1,11 +1,11 @@
 use Rattle.std.proofs.Common.{◌≡◌, List, Some, true, subst, sym, ◌∙◌}
 use Rattle.std.specs.FinMap as finite
 use Rattle.dv_value.specs.Tree.{Field}
-use Rattle.dv_views.specs.Changed.{gone_each}
+use Rattle.dv_views.specs.Inner.Changed.{gone_each}
 use Rattle.dv_catalog.specs.Marks.{all_gone}
 use Rattle.dv_catalog.specs.State.{documents_of, is_collection, lists_of}
-use Rattle.dv_catalog.specs.StateLaws.{documents_there}
-use Rattle.dv_catalog.specs.View.{standing_seen}
+use Rattle.dv_catalog.specs.Inner.StateLaws.{documents_there}
+use Rattle.dv_catalog.specs.Inner.View.{standing_seen}
 use Rattle.dv_catalog.proofs.Keeping.{StaysRight}
 use Rattle.dv_catalog.proofs.Kept.{all_can_go, all_told, kept_without}
 use Rattle.dv_catalog.proofs.Marking.{CountsWork, are_marked}

@@ -1,7 +1,7 @@
 use Rattle.std.proofs.Common.{ap, sym, ◌∙◌, refl}
 use Rattle.std.specs.Option.{option_map}
-use Rattle.dv_views.specs.Views.{view_under}
-use Rattle.dv_catalog.specs.StatsView.{stats_seen}
+use Rattle.dv_views.specs.Inner.Views.{view_under}
+use Rattle.dv_catalog.specs.Inner.StatsView.{stats_seen}
 use Rattle.dv_catalog.proofs.StatsTold.{no_stats, stats_are}
 use Rattle.dv_catalog.proofs.catalog.Catalog.stats.Goals as goal
 

@@ -1,5 +1,5 @@
 use Rattle.std.proofs.Common.{◌∙◌, refl}
-use Rattle.dv_views.specs.Views.{view_under}
+use Rattle.dv_views.specs.Inner.Views.{view_under}
 use Rattle.dv_catalog.proofs.StatsTold.{stored_are}
 use Rattle.dv_catalog.proofs.catalog.Catalog.stored_rows.Goals as goal
 

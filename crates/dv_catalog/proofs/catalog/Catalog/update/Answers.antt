@@ -1,11 +1,11 @@
 use Rattle.std.proofs.Common.{◌≡◌, [], None, ap, sym}
 use Rattle.std.proofs.lemmas.Result.{err_from_is_err_and}
-use Rattle.dv_command.specs.View.{updating_seen}
-use Rattle.dv_catalog.specs.CatalogParts.{marked_of}
+use Rattle.dv_command.specs.Inner.View.{updating_seen}
+use Rattle.dv_catalog.specs.Inner.CatalogParts.{marked_of}
 use Rattle.dv_catalog.specs.Changes.{changes_of, done_to}
 use Rattle.dv_catalog.specs.Effects.{update_chosen}
 use Rattle.dv_catalog.specs.State.{collection_of, documents_of}
-use Rattle.dv_catalog.specs.StateLaws.{documents_there}
+use Rattle.dv_catalog.specs.Inner.StateLaws.{documents_there}
 use Rattle.dv_catalog.specs.declared.counted.Counted.{Counted}
 use Rattle.dv_catalog.specs.declared.stopped.Stopped.{Stopped}
 use Rattle.dv_catalog.proofs.Marking.{nothing_updated, stands_before, stands_idle}

@@ -1,6 +1,6 @@
 use Rattle.std.proofs.Common.{◌≡◌, map, ap, sym, ◌∙◌}
 use Rattle.std.specs.String.{string_bytes}
-use Rattle.dv_keyed.specs.View.{form_of_new}
+use Rattle.dv_keyed.specs.Inner.View.{form_of_new}
 use Rattle.dv_catalog.specs.IndexMaking.{with_all}
 use Rattle.dv_catalog.specs.State.{collection_at, collection_of}
 use Rattle.dv_catalog.proofs.ByNamespace.{standing-insert}

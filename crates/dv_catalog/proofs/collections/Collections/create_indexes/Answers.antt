@@ -1,8 +1,8 @@
 use Rattle.dv_catalog.specs.IndexMaking.{with_all}
 use Rattle.std.proofs.Common.{map}
 use Rattle.std.proofs.lemmas.Result.{IfOk-weaker}
-use Rattle.dv_keyed.specs.View.{form_of_new}
-use Rattle.dv_catalog.specs.View.{standing_by_namespace}
+use Rattle.dv_keyed.specs.Inner.View.{form_of_new}
+use Rattle.dv_catalog.specs.Inner.View.{standing_by_namespace}
 use Rattle.dv_catalog.proofs.ByNamespace.{collection-there, none-there, standing-written, same-written}
 use Rattle.dv_catalog.proofs.MadeIndexes.{counts_there, leaves_there, stands_there}
 use Rattle.dv_catalog.proofs.collections.Collections.create_indexes.Goals as goal

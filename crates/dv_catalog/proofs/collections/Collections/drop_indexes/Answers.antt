@@ -3,7 +3,7 @@ use Rattle.std.proofs.lemmas.Result.{IfOk-weaker}
 use Rattle.std.specs.Option.{option_map}
 use Rattle.dv_catalog.specs.IndexMaking.{without_named}
 use Rattle.dv_catalog.specs.State.{Collection, is_collection}
-use Rattle.dv_catalog.specs.View.{standing_by_namespace, standing_seen}
+use Rattle.dv_catalog.specs.Inner.View.{standing_by_namespace, standing_seen}
 use Rattle.dv_catalog.proofs.ByNamespace.{collection-there, get-standing, none-there, same-written, standing-written}
 use Rattle.dv_catalog.proofs.MadeIndexes.{drops_by, dropped_there, leaves_there}
 use Rattle.dv_catalog.proofs.collections.Collections.drop_indexes.Goals as goal

@@ -1,7 +1,7 @@
 use Rattle.std.proofs.Common.{◌≡◌, Bor, Option, Some, None, refl}
 use Rattle.std.specs.Option.{option_map, option_copied}
 use Rattle.dv_catalog.specs.State.{Collection}
-use Rattle.dv_catalog.specs.View.{standing_seen}
+use Rattle.dv_catalog.specs.Inner.View.{standing_seen}
 use Rattle.dv_catalog.proofs.ByNamespace.{get-standing}
 use Rattle.dv_catalog.proofs.collections.Collections.get.Goals as goal
 

@@ -1,6 +1,6 @@
 use Rattle.std.proofs.Common.{◌∙◌}
 use Rattle.std.proofs.lemmas.Result.{err_from_is_err_and}
-use Rattle.dv_catalog.specs.View.{standing_by_namespace}
+use Rattle.dv_catalog.specs.Inner.View.{standing_by_namespace}
 use Rattle.dv_catalog.proofs.ByNamespace.{collection-there, none-there, standing-written, same-written, makes_new, not_made}
 use Rattle.dv_catalog.proofs.collections.Collections.insert.Goals as goal
 

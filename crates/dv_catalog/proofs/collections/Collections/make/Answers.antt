@@ -1,9 +1,9 @@
 use Rattle.std.proofs.Common.{List, take, sym, ap, subst, ◌∙◌}
 use Rattle.dv_value.specs.Tree.{Field}
 use Rattle.dv_catalog.specs.Changes.{Change, apply}
-use Rattle.dv_catalog.specs.EffectView.{ArePlaced, StandsFor, changes_seen}
+use Rattle.dv_catalog.specs.Inner.EffectView.{ArePlaced, StandsFor, changes_seen}
 use Rattle.dv_catalog.specs.State.{Collection}
-use Rattle.dv_catalog.specs.View.{standing_by_namespace}
+use Rattle.dv_catalog.specs.Inner.View.{standing_by_namespace}
 use Rattle.dv_catalog.proofs.ByNamespace.{applied, collection-there, same-written, standing-written, with_collection}
 use Rattle.dv_catalog.proofs.Stopping.{take_none}
 use Rattle.dv_catalog.proofs.collections.Collections.make.Goals as goal

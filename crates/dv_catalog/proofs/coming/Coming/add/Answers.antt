@@ -3,7 +3,7 @@ use Rattle.std.proofs.lemmas.List.{map_push}
 use Rattle.std.proofs.lemmas.Map.Text.{btree_map_updates_text, btree_set_updates_text}
 use Rattle.std.specs.String.{string_bytes}
 use Rattle.dv_catalog.proofs.Found.{still_named, still_pathed, named_too, pathed_too}
-use Rattle.dv_keyed.specs.View.{form_of_new}
+use Rattle.dv_keyed.specs.Inner.View.{form_of_new}
 use Rattle.dv_catalog.proofs.coming.Coming.add.Goals as goal
 
 pub invariant_of-self-in_err-insert-2 : goal.invariant_of-self-in_err-insert-2

@@ -4,7 +4,7 @@ use Rattle.std.specs.List.{list_any}
 use Rattle.dv_catalog.specs.IndexMaking.{is_same}
 use Rattle.dv_catalog.proofs.ByEntry.{any_seen}
 use Rattle.dv_catalog.proofs.Found.{none_same}
-use Rattle.dv_keyed.specs.View.{form_of_new}
+use Rattle.dv_keyed.specs.Inner.View.{form_of_new}
 use Rattle.dv_catalog.proofs.coming.Coming.has.Goals as goal
 
 pub returns-in-None : goal.returns-in-None

@@ -2,11 +2,11 @@ use Rattle.std.proofs.Common.{◌≡◌, false, is_some, map, sym, ap, ◌∙◌
 use Rattle.std.specs.BTreeMap.{get_by_text}
 use Rattle.std.specs.BTreeSet.{contains_text}
 use Rattle.std.specs.List.{list_any}
-use Rattle.dv_catalog.specs.ComingParts.{joined}
+use Rattle.dv_catalog.specs.Inner.ComingParts.{joined}
 use Rattle.dv_catalog.specs.IndexMaking.{is_alike}
 use Rattle.dv_catalog.proofs.ByEntry.{any_seen}
 use Rattle.dv_catalog.proofs.Found.{none_alike}
-use Rattle.dv_keyed.specs.View.{form_of_new}
+use Rattle.dv_keyed.specs.Inner.View.{form_of_new}
 use Rattle.dv_catalog.proofs.coming.Coming.has_half.Goals as goal
 
 pub returns-then-not-contains : goal.returns-then-not-contains

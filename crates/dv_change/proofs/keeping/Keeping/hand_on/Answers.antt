@@ -1,9 +1,9 @@
 -- What is told is what is owed.
 use Rattle.std.proofs.Common.{◌≡◌, ◌∙◌, ◌++◌, ap, arith, Result, Ok, Err, OnErr}
-use Rattle.dv_change.specs.Answered.{ok-one}
+use Rattle.dv_change.specs.Inner.Answered.{ok-one}
 use Rattle.dv_change.specs.Work.{owed_by}
-use Rattle.dv_change.specs.ToldLaws.{changes-told}
-use Rattle.dv_change.specs.Told.{changes_told, told_along}
+use Rattle.dv_change.specs.Inner.ToldLaws.{changes-told}
+use Rattle.dv_change.specs.Inner.Told.{changes_told, told_along}
 use Rattle.dv_change.proofs.keeping.Keeping.hand_on.Goals as goal
 
 pub returns-clause-out : goal.returns-clause-out

@@ -1,7 +1,7 @@
 -- What the operator tells of the rows that come leads to what it makes of them.
 use Rattle.std.proofs.Common.{◌≡◌, ◌∙◌, ◌++◌, [], List, ap, map, subst, sym}
 use Rattle.dv_change.specs.Changes.{Positioned, with_changes}
-use Rattle.dv_change.specs.Told.{changes_told, told_along}
+use Rattle.dv_change.specs.Inner.Told.{changes_told, told_along}
 use Rattle.dv_change.proofs.Underway.{filled-leads}
 use Rattle.dv_change.proofs.keeping.KeepingTurn.fill.Goals as goal
 

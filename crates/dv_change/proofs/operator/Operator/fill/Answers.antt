@@ -4,9 +4,9 @@ use Rattle.std.specs.Vec.Iter.{into_iter_items}
 use Rattle.dv_change.specs.declared.taking.Taken.{Taken}
 use Rattle.dv_change.specs.Changes.{Positioned, with_change}
 use Rattle.dv_change.specs.Difference.{diff}
-use Rattle.dv_change.specs.Fed.{IsUnderway}
+use Rattle.dv_change.specs.Inner.Fed.{IsUnderway}
 use Rattle.dv_change.specs.Raised.{raised}
-use Rattle.dv_change.specs.Told.{told_along}
+use Rattle.dv_change.specs.Inner.Told.{told_along}
 use Rattle.dv_change.proofs.Underway.{TakesOne, fed-filled, nothing-left, underway-end, underway-first, underway-next}
 use Rattle.dv_change.proofs.operator.Operator.fill.Goals as goal
 

@@ -3,9 +3,10 @@ use Rattle.std.proofs.Common.{◌≡◌, List, []}
 use Rattle.std.specs.List.{AllByRecursion}
 use Rattle.std.specs.Vec.Iter.{into_iter_items}
 use Rattle.dv_change.specs.declared.change.Change.{Change}
-use Rattle.dv_change.specs.Changes.{IsExactChange, Positioned}
-use Rattle.dv_change.specs.Fed.{IsUnderway}
-use Rattle.dv_change.specs.Told.{told_along}
+use Rattle.dv_change.specs.Changes.{Positioned}
+use Rattle.dv_change.specs.Inner.Changes.{IsExactChange}
+use Rattle.dv_change.specs.Inner.Fed.{IsUnderway}
+use Rattle.dv_change.specs.Inner.Told.{told_along}
 use Rattle.dv_change.proofs.operator.Operator.fill.Given as goal
 
 abbrev pub invariant-changes : goal.invariant-changes

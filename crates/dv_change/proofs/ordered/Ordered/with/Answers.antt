@@ -1,8 +1,8 @@
 -- The one that comes stands in front of all, in the place of the first or among the others.
 use Rattle.std.proofs.Common.{rules, ◌≡◌, ◌∙◌, ap, sym, Some, None}
 use Rattle.std.specs.declared.cmp.Ordering.TheVariants.{Less, Greater}
-use Rattle.dv_change.specs.Ordered.{put}
-use Rattle.dv_change.specs.OrderedView.{in_all}
+use Rattle.dv_change.specs.Inner.Ordered.{put}
+use Rattle.dv_change.specs.Inner.OrderedView.{in_all}
 use Rattle.dv_change.specs.Positions.{pos_order}
 use Rattle.dv_change.proofs.Fronts.{none-there, some-there, positioned-one, positioned-less, positioned-greater, put-less}
 use Rattle.dv_change.proofs.ordered.Ordered.with.Goals as goal

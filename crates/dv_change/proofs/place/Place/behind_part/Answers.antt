@@ -1,7 +1,7 @@
 use Rattle.std.proofs.Common.{ap, subst, sym, ◌∙◌, ◌≡◌, ◌∷◌, []}
 use Rattle.std.specs.Option.{IfSome}
 use Rattle.dv_change.specs.Positions.{PosTree}
-use Rattle.dv_change.specs.Places.{parts_of}
+use Rattle.dv_change.specs.Inner.Places.{parts_of}
 use Rattle.dv_change.proofs.place.Place.behind_part.Goals as goal
 
 pub returns-clause-parts : goal.returns-clause-parts

@@ -1,5 +1,5 @@
 use Rattle.std.proofs.Common.{ap, sym, ◌∙◌, ◌∷◌, []}
-use Rattle.dv_change.specs.Places.{parts_of}
+use Rattle.dv_change.specs.Inner.Places.{parts_of}
 use Rattle.dv_change.proofs.place.Place.lent.Goals as goal
 
 pub returns-in-One : goal.returns-in-One

@@ -1,7 +1,7 @@
 use Rattle.std.proofs.Common.{ap₂, sym, ◌∙◌, ◌≡◌}
 use Rattle.std.specs.Ordering.{ordering_then}
-use Rattle.dv_change.specs.PlaceLaws.{code_order, first_decides}
-use Rattle.dv_change.specs.Places.{parts_of}
+use Rattle.dv_change.specs.Inner.PlaceLaws.{code_order, first_decides}
+use Rattle.dv_change.specs.Inner.Places.{parts_of}
 use Rattle.dv_change.proofs.place.Place.order.Goals as goal
 
 pub returns-then-is_ne : goal.returns-then-is_ne

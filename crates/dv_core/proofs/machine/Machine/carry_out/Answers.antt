@@ -2,14 +2,14 @@ use Rattle.std.proofs.Common.{[], Ok, refl}
 use Rattle.dv_catalog.specs.Views.{created, dropped}
 use Rattle.dv_command.specs.Asked.{find, aggregate, get_more, kill_cursors, create, drop, create_indexes, drop_indexes, explain, view_stats}
 use Rattle.dv_command.specs.Replies.{reply_of, drop_reply}
-use Rattle.dv_command.specs.View.{aggregate_seen, create_indexes_seen, create_seen, drop_indexes_seen, drop_seen, explain_seen, find_seen, get_more_seen, kill_cursors_seen, view_stats_seen, write_seen}
+use Rattle.dv_command.specs.Inner.View.{aggregate_seen, create_indexes_seen, create_seen, drop_indexes_seen, drop_seen, explain_seen, find_seen, get_more_seen, kill_cursors_seen, view_stats_seen, write_seen}
 use Rattle.dv_core.specs.Find.{reply_to_find, reply_to_aggregate}
 use Rattle.dv_core.specs.Indexes.{find_explained, indexed, unindexed}
 use Rattle.dv_core.specs.More.{killed, next_batch}
 use Rattle.dv_core.specs.State.{marked}
 use Rattle.dv_core.specs.Stats.{view_told}
 use Rattle.dv_core.specs.Step.{replying}
-use Rattle.dv_core.specs.StepParts.{reply_told}
+use Rattle.dv_core.specs.Inner.StepParts.{reply_told}
 use Rattle.dv_core.specs.Told.{outcome_told}
 use Rattle.dv_core.proofs.Steps.{catalog_ended, catalog_given, create_stands, cursors_ended, cursors_given, drop_stands, read_by_so, read_steps, read_told, refusal_steps, same_by, write_steps}
 use Rattle.dv_core.proofs.machine.Machine.carry_out.Goals as goal

@@ -1,7 +1,7 @@
 use Rattle.std.proofs.Common.{◌≡◌, refl, map, Ok, IfOk}
 use Rattle.dv_catalog.specs.IndexMaking.{indexes_created}
 use Rattle.dv_command.specs.Replies.{create_indexes_reply}
-use Rattle.dv_command.specs.View.{create_indexes_seen}
+use Rattle.dv_command.specs.Inner.View.{create_indexes_seen}
 use Rattle.dv_core.specs.Indexes.{form_asked, index_count, indexed}
 use Rattle.dv_core.proofs.Endings.{done_ends, indexed_so, wanting_ends}
 use Rattle.dv_core.proofs.machine.Machine.create_indexes.Goals as goal

@@ -1,7 +1,7 @@
 use Rattle.std.proofs.Common.{◌≡◌, Ok, IfOk}
 use Rattle.dv_catalog.specs.IndexMaking.{indexes_dropped}
 use Rattle.dv_command.specs.Replies.{drop_indexes_reply}
-use Rattle.dv_command.specs.View.{drop_indexes_seen}
+use Rattle.dv_command.specs.Inner.View.{drop_indexes_seen}
 use Rattle.dv_core.specs.Indexes.{index_count, unindexed}
 use Rattle.dv_core.proofs.Endings.{done_ends, unindexed_so}
 use Rattle.dv_core.proofs.machine.Machine.drop_indexes.Goals as goal

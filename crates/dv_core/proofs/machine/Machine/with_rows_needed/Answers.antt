@@ -1,7 +1,7 @@
 use Rattle.std.proofs.Common.{◌≡◌, false, arith}
 use Rattle.std.specs.String.{string_bytes}
 use Rattle.dv_catalog.specs.State.{documents_of, is_view, lists_of}
-use Rattle.dv_command.specs.View.{find_seen}
+use Rattle.dv_command.specs.Inner.View.{find_seen}
 use Rattle.dv_core.proofs.Single.{narrowed}
 use Rattle.dv_core.proofs.machine.Machine.with_rows_needed.Goals as goal
 

@@ -1,7 +1,7 @@
 use Rattle.std.proofs.Common.{◌≡◌, false, refl}
 use Rattle.std.specs.String.{string_bytes}
 use Rattle.dv_catalog.specs.State.{is_view}
-use Rattle.dv_command.specs.View.{write_seen}
+use Rattle.dv_command.specs.Inner.View.{write_seen}
 use Rattle.dv_core.specs.State.{State}
 use Rattle.dv_core.specs.Writes.{write_by}
 use Rattle.dv_core.proofs.Steps.{on_collection}

@@ -1,6 +1,6 @@
 use Rattle.std.proofs.Common.{sym, subst, ◌∙◌, ap, length, List}
 use Rattle.dv_value.specs.Tree.{Field}
-use Rattle.dv_fields.specs.DocumentsView.{source_seen, IsOfDocuments}
+use Rattle.dv_fields.specs.Inner.DocumentsView.{source_seen, IsOfDocuments}
 use Rattle.dv_fields.specs.declared.documents.Source.{Source}
 use Rattle.dv_fields.specs.declared.documents.Source.TheVariants.{Array}
 use Rattle.dv_fields.proofs.Among.{length_documents}

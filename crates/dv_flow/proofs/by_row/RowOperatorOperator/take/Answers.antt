@@ -1,12 +1,13 @@
 -- What it tells of a change is what it makes of the changed row alone.
 use Rattle.std.proofs.Common.{◌≡◌, ◌∙◌, ◌+◌, ◌++◌, List, ap, sym, subst, length}
-use Rattle.dv_change.specs.Answered.{ok-one}
+use Rattle.dv_change.specs.Inner.Answered.{ok-one}
 use Rattle.dv_change.specs.declared.input.Input.{Input}
-use Rattle.dv_change.specs.Changes.{IsPositioned, Positioned, alone}
-use Rattle.dv_change.specs.DiffLaws.{positioned-changed}
+use Rattle.dv_change.specs.Changes.{Positioned}
+use Rattle.dv_change.specs.Inner.Changes.{IsPositioned, alone}
+use Rattle.dv_change.specs.Inner.DiffLaws.{positioned-changed}
 use Rattle.dv_change.specs.Inputs.{left_after, others_after}
 use Rattle.dv_change.specs.Raised.{raised}
-use Rattle.dv_change.specs.Told.{diff_told, input_rows, told_along, with_old}
+use Rattle.dv_change.specs.Inner.Told.{diff_told, input_rows, told_along, with_old}
 use Rattle.dv_change.specs.Work.{owed_by}
 use Rattle.dv_flow.proofs.Owed.{row-count, row-told}
 use Rattle.dv_flow.proofs.by_row.RowOperatorOperator.take.Goals as goal

@@ -1,6 +1,7 @@
 -- The first of the others stands behind the front.
 use Rattle.std.proofs.Common.{rules, ◌≡◌, ◌∙◌, ◌∷◌, ◌<◌, ap, arith, length, subst, sym}
-use Rattle.dv_change.specs.Changes.{IsPositioned, Positioned}
+use Rattle.dv_change.specs.Changes.{Positioned}
+use Rattle.dv_change.specs.Inner.Changes.{IsPositioned}
 use Rattle.dv_flow.proofs.Fronts.{cut-full, pulled, pulled-length}
 use Rattle.dv_flow.proofs.limit.LimitOperator.pull.Goals as goal
 

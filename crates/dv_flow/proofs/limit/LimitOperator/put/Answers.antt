@@ -1,9 +1,10 @@
 -- The front may show one row too many.
 use Rattle.std.proofs.Common.{◌≡◌, ◌∙◌, ◌++◌, ap, arith, is_some, subst, sym}
-use Rattle.dv_change.specs.Changes.{IsPositioned, Positioned}
-use Rattle.dv_change.specs.Ordered.{put}
-use Rattle.dv_change.specs.RowLaws.{positioned-put}
-use Rattle.dv_change.specs.Answered.{ok-one}
+use Rattle.dv_change.specs.Changes.{Positioned}
+use Rattle.dv_change.specs.Inner.Changes.{IsPositioned}
+use Rattle.dv_change.specs.Inner.Ordered.{put}
+use Rattle.dv_change.specs.Inner.RowLaws.{positioned-put}
+use Rattle.dv_change.specs.Inner.Answered.{ok-one}
 use Rattle.dv_flow.proofs.Fronts.{at-most-one, cut-length, put-within}
 use Rattle.dv_flow.proofs.limit.LimitOperator.put.Goals as goal
 

@@ -1,10 +1,11 @@
 -- A row of the front leaves room there; another one leaves the front as it is.
 use Rattle.std.proofs.Common.{rules, ◌≡◌, ◌∙◌, ◌++◌, ◌+◌, ap, arith, cond, false, is_some, length, subst, sym, true}
-use Rattle.dv_change.specs.Changes.{IsPositioned, Positioned, at}
-use Rattle.dv_change.specs.Ordered.{gone}
-use Rattle.dv_change.specs.RowLaws.{positioned-gone}
+use Rattle.dv_change.specs.Changes.{Positioned, at}
+use Rattle.dv_change.specs.Inner.Changes.{IsPositioned}
+use Rattle.dv_change.specs.Inner.Ordered.{gone}
+use Rattle.dv_change.specs.Inner.RowLaws.{positioned-gone}
 use Rattle.dv_flow.specs.Placed.{front_at}
-use Rattle.dv_change.specs.Answered.{ok-one}
+use Rattle.dv_change.specs.Inner.Answered.{ok-one}
 use Rattle.dv_flow.proofs.Fronts.{cut-length, cut-others, gone-behind, gone-front, gone-none}
 use Rattle.dv_flow.proofs.limit.LimitOperator.remove.Goals as goal
 

@@ -1,7 +1,8 @@
 -- The last of the front stands before all others.
 use Rattle.std.proofs.Common.{rules, ◌≡◌, ◌∙◌, ◌∷◌, ◌++◌, [], ap, arith, length, subst, sym}
 use Rattle.std.proofs.lemmas.List.{length_push}
-use Rattle.dv_change.specs.Changes.{IsPositioned, Positioned}
+use Rattle.dv_change.specs.Changes.{Positioned}
+use Rattle.dv_change.specs.Inner.Changes.{IsPositioned}
 use Rattle.dv_flow.proofs.Fronts.{cut-full, spilled}
 use Rattle.dv_flow.proofs.limit.LimitOperator.spill.Goals as goal
 

@@ -1,13 +1,14 @@
 -- Behind a full front, nothing that is shown changes; else what changes stands at the position of the change and at the edge.
 use Rattle.std.proofs.Common.{append-nil, arith, rules, subst, sym, true, ◌≡◌, ◌∙◌, ◌++◌, ◌+◌, ap, length}
-use Rattle.dv_change.specs.Answered.{ok-one}
-use Rattle.dv_change.specs.Changes.{IsPositioned, Positioned, position_changed, with_change}
-use Rattle.dv_change.specs.DiffLaws.{positioned-changed}
+use Rattle.dv_change.specs.Inner.Answered.{ok-one}
+use Rattle.dv_change.specs.Changes.{Positioned, with_change}
+use Rattle.dv_change.specs.Inner.Changes.{IsPositioned, position_changed}
+use Rattle.dv_change.specs.Inner.DiffLaws.{positioned-changed}
 use Rattle.dv_change.specs.Difference.{diff}
 use Rattle.dv_change.specs.Raised.{raised}
-use Rattle.dv_change.specs.Told.{change_to, told_along}
-use Rattle.dv_change.specs.ToldLaws.{length-told}
-use Rattle.dv_flow.specs.Limiting.{is_past, limit_rows}
+use Rattle.dv_change.specs.Inner.Told.{change_to, told_along}
+use Rattle.dv_change.specs.Inner.ToldLaws.{length-told}
+use Rattle.dv_flow.specs.Inner.Limiting.{is_past, limit_rows}
 use Rattle.dv_flow.specs.Placed.{front_at}
 use Rattle.dv_flow.proofs.Fronts.{changed-past, cut-full, cut-length, nothing-owed}
 use Rattle.dv_flow.proofs.Limits.{exact-to, limit-told, place-to}

@@ -5,7 +5,7 @@ use Rattle.dv_change.specs.Raised.{raised}
 use Rattle.dv_change.specs.Work.{owed_by}
 use Rattle.dv_flow.specs.declared.simple.SimpleTurn.{SimpleTurn}
 use Rattle.dv_flow.specs.declared.simple.SimpleTurn.TheVariants.{Match, Project, Sort}
-use Rattle.dv_flow.specs.Simple.{simple_left, simple_makes}
+use Rattle.dv_flow.specs.Inner.Simple.{simple_left, simple_makes}
 use Rattle.dv_flow.proofs.simple.SimpleTurnTurn.change.Goals as goal
 
 pub returns-in-Match-clause-makes : goal.returns-in-Match-clause-makes

@@ -1,7 +1,7 @@
 -- The rows of the row, behind its position.
 use Rattle.std.proofs.Common.{◌≡◌, IfOk, subst}
 use Rattle.dv_change.specs.Changes.{Positioned}
-use Rattle.dv_flow.specs.Unwinding.{unwound_alone}
+use Rattle.dv_flow.specs.Inner.Unwinding.{unwound_alone}
 use Rattle.dv_flow.proofs.unwind.UnwindByRow.rows_of.Goals as goal
 
 pub returns : goal.returns

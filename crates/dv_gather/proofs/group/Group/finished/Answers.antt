@@ -1,6 +1,6 @@
 use Rattle.std.proofs.Common.{◌≡◌, ◌∙◌, ◌++◌, [], ap, sym, List, map, append-nil, rules}
-use Rattle.dv_gather.specs.Tallies.{finished_row}
-use Rattle.dv_gather.specs.TotalView.{tally_seen}
+use Rattle.dv_gather.specs.Inner.Tallies.{finished_row}
+use Rattle.dv_gather.specs.Inner.TotalView.{tally_seen}
 use Rattle.dv_gather.specs.declared.tally.Tally.{Tally}
 use Rattle.dv_gather.proofs.Totalled.{rows-seen}
 use Rattle.dv_gather.proofs.group.Group.finished.Goals as goal

@@ -1,7 +1,7 @@
 use Rattle.std.proofs.Common.{◌≡◌, ◌++◌, map}
 use Rattle.std.specs.BTreeMap.{values}
-use Rattle.dv_gather.specs.Tallies.{finished_row}
-use Rattle.dv_gather.specs.TotalView.{tally_seen}
+use Rattle.dv_gather.specs.Inner.Tallies.{finished_row}
+use Rattle.dv_gather.specs.Inner.TotalView.{tally_seen}
 use Rattle.dv_gather.proofs.group.Group.finished.Given as goal
 
 abbrev pub invariant-groups : goal.invariant-groups

@@ -1,9 +1,9 @@
 use Rattle.std.proofs.Common.{◌∙◌, ap, map, rules}
 use Rattle.dv_order.specs.Order.{canon}
 use Rattle.dv_order.specs.Key.{value}
-use Rattle.dv_row.specs.RowValueView.{row_value}
-use Rattle.dv_gather.specs.Bounds.{most}
-use Rattle.dv_gather.specs.GroupView.{accumulation}
+use Rattle.dv_row.specs.Inner.RowValueView.{row_value}
+use Rattle.dv_gather.specs.Inner.Bounds.{most}
+use Rattle.dv_gather.specs.Inner.GroupView.{accumulation}
 use Rattle.dv_gather.proofs.Bounded.{found-within, put-within}
 use Rattle.dv_gather.proofs.Totalled.{tally-put, on-ok}
 use Rattle.dv_gather.proofs.group.Group.put.Goals as goal

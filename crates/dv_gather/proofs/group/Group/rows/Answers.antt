@@ -1,7 +1,7 @@
 use Rattle.std.proofs.Common.{◌∙◌, ap, map}
 use Rattle.dv_order.specs.Key.{KeyTree}
-use Rattle.dv_gather.specs.KeySets.{referred}
-use Rattle.dv_gather.specs.Tallies.{Tallied, finished_row}
+use Rattle.dv_gather.specs.Inner.KeySets.{referred}
+use Rattle.dv_gather.specs.Inner.Tallies.{Tallied, finished_row}
 use Rattle.dv_gather.proofs.Grouped.{if-ok}
 use Rattle.dv_gather.proofs.GroupRows.{rows-are}
 use Rattle.dv_gather.proofs.group.Group.rows.Goals as goal

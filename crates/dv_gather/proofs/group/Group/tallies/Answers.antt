@@ -1,10 +1,10 @@
 use Rattle.std.proofs.Common.{◌∙◌, ap, sym, add-one, arith}
 use Rattle.std.proofs.lemmas.Grind.{common_steps}
-use Rattle.dv_row.specs.EachLaws.{drop-past}
-use Rattle.dv_gather.specs.Bounds.{most}
-use Rattle.dv_gather.specs.KeySets.{referred}
-use Rattle.dv_gather.specs.Tallies.{with_rows_put}
-use Rattle.dv_gather.specs.TotalView.{tallies_seen}
+use Rattle.dv_row.specs.Inner.EachLaws.{drop-past}
+use Rattle.dv_gather.specs.Inner.Bounds.{most}
+use Rattle.dv_gather.specs.Inner.KeySets.{referred}
+use Rattle.dv_gather.specs.Inner.Tallies.{with_rows_put}
+use Rattle.dv_gather.specs.Inner.TotalView.{tallies_seen}
 use Rattle.dv_gather.proofs.Bounded.{each-later}
 use Rattle.dv_gather.proofs.group.Group.tallies.Goals as goal
 

@@ -1,9 +1,9 @@
 -- What is left is still to be put.
 use Rattle.std.proofs.Common.{◌≡◌, [], drop}
-use Rattle.dv_gather.specs.Bounds.{EachWithin}
-use Rattle.dv_gather.specs.KeySets.{referred}
-use Rattle.dv_gather.specs.Tallies.{with_rows_put}
-use Rattle.dv_gather.specs.TotalView.{tallies_seen}
+use Rattle.dv_gather.specs.Inner.Bounds.{EachWithin}
+use Rattle.dv_gather.specs.Inner.KeySets.{referred}
+use Rattle.dv_gather.specs.Inner.Tallies.{with_rows_put}
+use Rattle.dv_gather.specs.Inner.TotalView.{tallies_seen}
 use Rattle.dv_gather.proofs.group.Group.tallies.Given as goal
 
 abbrev pub invariant-rows : goal.invariant-rows

@@ -1,6 +1,6 @@
 use Rattle.std.proofs.Common.{rules}
 use Rattle.dv_candidates.specs.Candidates.{whole}
-use Rattle.dv_path.specs.GatheredKeys.{gathered-keys}
+use Rattle.dv_path.specs.Inner.GatheredKeys.{gathered-keys}
 use Rattle.dv_path.specs.LeafKeys.{is_key_of}
 use Rattle.dv_candidates.specs.View.{seen}
 use Rattle.dv_gather.specs.Joining.{joined_by, local_values}

@@ -1,9 +1,9 @@
 use Rattle.std.proofs.Common.{sym, subst, map}
-use Rattle.dv_row.specs.RowValueView.{row_value}
-use Rattle.dv_gather.specs.Bounds.{AreWithin, most}
-use Rattle.dv_gather.specs.GroupView.{accumulation}
-use Rattle.dv_gather.specs.Tallies.{Tallied}
-use Rattle.dv_gather.specs.TotalView.{tally_seen}
+use Rattle.dv_row.specs.Inner.RowValueView.{row_value}
+use Rattle.dv_gather.specs.Inner.Bounds.{AreWithin, most}
+use Rattle.dv_gather.specs.Inner.GroupView.{accumulation}
+use Rattle.dv_gather.specs.Inner.Tallies.{Tallied}
+use Rattle.dv_gather.specs.Inner.TotalView.{tally_seen}
 use Rattle.dv_gather.proofs.Bounded.{started-within}
 use Rattle.dv_gather.proofs.Totalled.{on-ok}
 use Rattle.dv_gather.proofs.tally.Tally.add.Goals as goal

@@ -1,7 +1,7 @@
 use Rattle.std.proofs.Common.{◌≡◌, ◌∙◌, ◌⊎◌, inl, inr, length, map, sym}
 use Rattle.std.proofs.lemmas.List.{length-map}
-use Rattle.dv_gather.specs.GroupView.{accumulation}
-use Rattle.dv_group.specs.RunningView.{running_seen}
+use Rattle.dv_gather.specs.Inner.GroupView.{accumulation}
+use Rattle.dv_group.specs.Inner.RunningView.{running_seen}
 use Rattle.dv_group.proofs.Places.{told-ended}
 use Rattle.dv_group.proofs.bundle.Bundle.push_fields.Goals as goal
 

@@ -1,8 +1,8 @@
 -- What is left is still to be told.
 use Rattle.std.proofs.Common.{◌≡◌, map}
-use Rattle.dv_gather.specs.GroupView.{accumulation}
-use Rattle.dv_group.specs.Running.{with_told}
-use Rattle.dv_group.specs.RunningView.{running_seen}
+use Rattle.dv_gather.specs.Inner.GroupView.{accumulation}
+use Rattle.dv_group.specs.Inner.Running.{with_told}
+use Rattle.dv_group.specs.Inner.RunningView.{running_seen}
 use Rattle.dv_group.proofs.bundle.Bundle.push_fields.Given as goal
 
 abbrev pub invariant-fields : goal.invariant-fields

@@ -1,8 +1,8 @@
 use Rattle.std.proofs.Common.{◌≡◌, ◌∙◌, [], ◌∷◌, Some, ap, codes, map, sym}
 use Rattle.dv_row.specs.Expressions.{with_field_behind}
 use Rattle.dv_gather.specs.Grouping.{key_in}
-use Rattle.dv_group.specs.Running.{with_told}
-use Rattle.dv_group.specs.RunningView.{running_seen}
+use Rattle.dv_group.specs.Inner.Running.{with_told}
+use Rattle.dv_group.specs.Inner.RunningView.{running_seen}
 use Rattle.dv_group.proofs.Bundled.{row-told}
 use Rattle.dv_group.proofs.bundle.Bundle.row.Goals as goal
 

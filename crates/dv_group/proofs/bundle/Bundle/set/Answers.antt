@@ -1,7 +1,7 @@
 use Rattle.std.proofs.Common.{rules, ◌≡◌, ◌∙◌, ap, subst, sym}
 use Rattle.dv_change.specs.Changes.{Positioned}
-use Rattle.dv_group.specs.Members.{set_at}
-use Rattle.dv_group.specs.Room.{IsBundle}
+use Rattle.dv_group.specs.Inner.Members.{set_at}
+use Rattle.dv_group.specs.Inner.Room.{IsBundle}
 use Rattle.dv_group.proofs.bundle.Bundle.set.Goals as goal
 
 pub returns-clause-sound : goal.returns-clause-sound

@@ -2,9 +2,10 @@
 use Rattle.std.proofs.Common.{rules, ◌≡◌, ◌∙◌, ◌∷◌, [], ap, subst, sym}
 use Rattle.std.specs.Map.{keys_of}
 use Rattle.dv_order.specs.Key.{KeyTree}
-use Rattle.dv_change.specs.Changes.{IsPositioned, Positioned}
-use Rattle.dv_change.specs.RowLaws.{positioned-none}
-use Rattle.dv_group.specs.Members.{KeptGroups, group_members}
+use Rattle.dv_change.specs.Changes.{Positioned}
+use Rattle.dv_change.specs.Inner.Changes.{IsPositioned}
+use Rattle.dv_change.specs.Inner.RowLaws.{positioned-none}
+use Rattle.dv_group.specs.Inner.Members.{KeptGroups, group_members}
 use Rattle.dv_group.proofs.Owed.{all-grouped, none-under, positioned-group, with_each}
 use Rattle.dv_group.proofs.group_operator.GroupOperator.all_shown.Goals as goal
 

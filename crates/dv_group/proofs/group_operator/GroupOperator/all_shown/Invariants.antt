@@ -2,8 +2,9 @@
 use Rattle.std.proofs.Common.{◌≡◌, []}
 use Rattle.std.specs.Map.{keys_of}
 use Rattle.dv_order.specs.Key.{KeyTree}
-use Rattle.dv_change.specs.Changes.{IsPositioned, Positioned}
-use Rattle.dv_group.specs.Members.{group_members}
+use Rattle.dv_change.specs.Changes.{Positioned}
+use Rattle.dv_change.specs.Inner.Changes.{IsPositioned}
+use Rattle.dv_group.specs.Inner.Members.{group_members}
 use Rattle.dv_group.proofs.Owed.{with_each}
 use Rattle.dv_group.proofs.group_operator.GroupOperator.all_shown.Given as goal
 

@@ -1,7 +1,7 @@
 -- Nothing is held.
 use Rattle.std.proofs.Common.{ap, refl}
-use Rattle.dv_change.specs.RowLaws.{positioned-none}
-use Rattle.dv_group.specs.Members.{group_members}
+use Rattle.dv_change.specs.Inner.RowLaws.{positioned-none}
+use Rattle.dv_group.specs.Inner.Members.{group_members}
 use Rattle.dv_group.proofs.group_operator.GroupOperator.new.Goals as goal
 
 pub returns-clause-holds : goal.returns-clause-holds

@@ -2,8 +2,8 @@
 use Rattle.std.proofs.Common.{◌+◌, ◌++◌, ◌∙◌, ap, length, sym}
 use Rattle.std.proofs.lemmas.Result.{on_ok_weaker}
 use Rattle.dv_change.specs.Raised.{raised}
-use Rattle.dv_change.specs.Told.{diff_told}
-use Rattle.dv_group.specs.Members.{KeptGroups, group_members, shown_as}
+use Rattle.dv_change.specs.Inner.Told.{diff_told}
+use Rattle.dv_group.specs.Inner.Members.{KeptGroups, group_members, shown_as}
 use Rattle.dv_group.proofs.group_operator.GroupOperator.regroup.Goals as goal
 
 pub returns-clause-groups : goal.returns-clause-groups

@@ -1,12 +1,12 @@
 -- The rows of all groups are what it makes of the rows that came.
 use Rattle.std.proofs.Common.{◌∙◌, List, [], ap, subst, sym}
 use Rattle.dv_change.specs.Changes.{Positioned, with_changes}
-use Rattle.dv_change.specs.DiffLaws.{apply-diff, exact-diff, positioned-changes}
+use Rattle.dv_change.specs.Inner.DiffLaws.{apply-diff, exact-diff, positioned-changes}
 use Rattle.dv_change.specs.Difference.{diff}
-use Rattle.dv_change.specs.RowLaws.{positioned-none}
-use Rattle.dv_change.specs.ToldLaws.{along-diff}
+use Rattle.dv_change.specs.Inner.RowLaws.{positioned-none}
+use Rattle.dv_change.specs.Inner.ToldLaws.{along-diff}
 use Rattle.dv_gather.specs.Grouping.{Grouping}
-use Rattle.dv_group.specs.Members.{AreBundles, AreMembers, group_members, moved_all}
+use Rattle.dv_group.specs.Inner.Members.{AreBundles, AreMembers, group_members, moved_all}
 use Rattle.dv_group.specs.Placed.{grouped_at}
 use Rattle.dv_group.proofs.Owed.{members-along, members-same, ok-any, ok-then}
 use Rattle.dv_group.proofs.group_operator.GroupOperatorOperator.fill.Goals as goal

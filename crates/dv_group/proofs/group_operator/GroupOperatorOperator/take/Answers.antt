@@ -1,16 +1,16 @@
 -- What it tells is what changes of the rows of the groups of two keys.
 use Rattle.std.proofs.Common.{◌≡◌, ◌+◌, ◌++◌, ◌∙◌, ap, length, refl, subst, sym}
 use Rattle.dv_change.specs.declared.input.Input.{Input}
-use Rattle.dv_change.specs.Answered.{ok-both}
+use Rattle.dv_change.specs.Inner.Answered.{ok-both}
 use Rattle.dv_change.specs.Changes.{with_change}
-use Rattle.dv_change.specs.DiffLaws.{positioned-changed}
+use Rattle.dv_change.specs.Inner.DiffLaws.{positioned-changed}
 use Rattle.dv_change.specs.Difference.{diff}
 use Rattle.dv_change.specs.Inputs.{left_after, others_after}
 use Rattle.dv_change.specs.Raised.{raised}
-use Rattle.dv_change.specs.Told.{input_rows, told_along, with_old}
-use Rattle.dv_change.specs.ToldLaws.{length-told}
+use Rattle.dv_change.specs.Inner.Told.{input_rows, told_along, with_old}
+use Rattle.dv_change.specs.Inner.ToldLaws.{length-told}
 use Rattle.dv_change.specs.Work.{owed_by}
-use Rattle.dv_group.specs.Held.{HoldsGroups}
+use Rattle.dv_group.specs.Inner.Held.{HoldsGroups}
 use Rattle.dv_group.specs.Placed.{grouped_at}
 use Rattle.dv_group.proofs.Owed.{are-still, members-same, taken-told}
 use Rattle.dv_group.proofs.group_operator.GroupOperatorOperator.take.Goals as goal

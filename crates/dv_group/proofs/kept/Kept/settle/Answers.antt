@@ -1,5 +1,5 @@
 use Rattle.std.proofs.Common.{subst, sym}
-use Rattle.dv_group.specs.Members.{IsTold}
+use Rattle.dv_group.specs.Inner.Members.{IsTold}
 use Rattle.dv_group.proofs.Under.{kept-told}
 use Rattle.dv_group.proofs.kept.Kept.settle.Goals as goal
 

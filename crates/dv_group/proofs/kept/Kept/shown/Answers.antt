@@ -1,5 +1,5 @@
 use Rattle.std.proofs.Common.{◌∙◌, Some, ap, subst}
-use Rattle.dv_group.specs.Members.{IsRowOf}
+use Rattle.dv_group.specs.Inner.Members.{IsRowOf}
 use Rattle.dv_group.proofs.kept.Kept.shown.Goals as goal
 
 pub returns-in_ok-try_clone-in-Some : goal.returns-in_ok-try_clone-in-Some

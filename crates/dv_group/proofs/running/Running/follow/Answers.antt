@@ -1,10 +1,10 @@
 use Rattle.std.proofs.Common.{rules, ◌≡◌, ◌∙◌, Some, ap, sym}
 use Rattle.std.specs.Option.{option_map}
 use Rattle.dv_value.specs.View.{tree}
-use Rattle.dv_row.specs.RowValueView.{row_value}
-use Rattle.dv_gather.specs.GroupView.{accumulation}
-use Rattle.dv_group.specs.Running.{field_value, moved_by, pushed}
-use Rattle.dv_group.specs.RunningView.{running_seen, values_seen}
+use Rattle.dv_row.specs.Inner.RowValueView.{row_value}
+use Rattle.dv_gather.specs.Inner.GroupView.{accumulation}
+use Rattle.dv_group.specs.Inner.Running.{field_value, moved_by, pushed}
+use Rattle.dv_group.specs.Inner.RunningView.{running_seen, values_seen}
 use Rattle.dv_group.proofs.Bundled.{narrow-seen}
 use Rattle.dv_group.proofs.Pushing.{pushed-moved}
 use Rattle.dv_group.proofs.running.Running.follow.Goals as goal

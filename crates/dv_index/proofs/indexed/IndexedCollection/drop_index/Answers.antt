@@ -1,6 +1,6 @@
 use Rattle.std.proofs.Common.{◌∙◌, List, ap, map, sym, subst}
-use Rattle.dv_index.specs.Change.{AreIndexesOf}
-use Rattle.dv_keyed.specs.Index.{IndexTree, form_of}
+use Rattle.dv_index.specs.Inner.Change.{AreIndexesOf}
+use Rattle.dv_keyed.specs.Inner.Index.{IndexTree, form_of}
 use Rattle.dv_index.proofs.Built.{dropped-whole, forms-kept, kept-indexes}
 use Rattle.dv_index.proofs.indexed.IndexedCollection.drop_index.Goals as goal
 

@@ -1,6 +1,6 @@
 use Rattle.std.proofs.Common.{◌∙◌, List, ap, map}
 use Rattle.dv_keyed.specs.Choice.{chosen}
-use Rattle.dv_keyed.specs.Index.{IndexTree, form_of}
+use Rattle.dv_keyed.specs.Inner.Index.{IndexTree, form_of}
 use Rattle.dv_index.specs.Indexed.{IndexedTree, documents_covered, index_chosen, name_at}
 use Rattle.dv_index.specs.Search.{covered}
 use Rattle.dv_index.proofs.Places.{paths-of-forms}

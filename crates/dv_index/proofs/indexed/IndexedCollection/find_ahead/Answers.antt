@@ -2,7 +2,7 @@ use Rattle.std.proofs.Common.{Bor, ◌≡◌, ◌∙◌, List, ap, filter, map}
 use Rattle.dv_value.specs.Tree.{Field}
 use Rattle.dv_match.specs.Match.{matches}
 use Rattle.dv_path.specs.Parts.{part}
-use Rattle.dv_keyed.specs.Ahead.{is_ahead}
+use Rattle.dv_keyed.specs.Inner.Ahead.{is_ahead}
 use Rattle.dv_index.specs.Indexed.{IndexedTree}
 use Rattle.dv_index.proofs.Foremost.{some-is}
 use Rattle.dv_index.proofs.Lists.{map-kept}

@@ -1,8 +1,8 @@
 use Rattle.std.proofs.Common.{◌∙◌, List, ap, map, sym, subst}
 use Rattle.std.proofs.lemmas.List.{with_items_is}
 use Rattle.std.proofs.lemmas.Result.{on_ok_weaker, on_err_weaker}
-use Rattle.dv_index.specs.Change.{AreIndexesOf}
-use Rattle.dv_keyed.specs.Index.{IndexTree, BeginsWithId, form_of}
+use Rattle.dv_index.specs.Inner.Change.{AreIndexesOf}
+use Rattle.dv_keyed.specs.Inner.Index.{IndexTree, BeginsWithId, form_of}
 use Rattle.dv_index.proofs.Built.{same-length, begins-alike}
 use Rattle.dv_index.proofs.indexes.Indexes.change.Goals as goal
 

@@ -1,9 +1,9 @@
 -- One after the other.
 use Rattle.std.proofs.lemmas.Result.{on_ok_weaker}
 use Rattle.std.specs.BTreeSet.{contains}
-use Rattle.dv_change.specs.Ordered.{gone}
+use Rattle.dv_change.specs.Inner.Ordered.{gone}
 use Rattle.dv_order.specs.Key.{KeyTree, key_order}
-use Rattle.dv_join.specs.Indexed.{row_set, under}
+use Rattle.dv_join.specs.Inner.Indexed.{row_set, under}
 use Rattle.dv_join.proofs.Indexes.{exchanged-under}
 use Rattle.dv_join.proofs.index.Index.exchange.Goals as goal
 

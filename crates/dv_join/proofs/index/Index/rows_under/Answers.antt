@@ -3,8 +3,8 @@ use Rattle.std.proofs.Common.{rules, ◌≡◌, ◌∙◌, ◌∷◌, [], ap, fa
 use Rattle.std.specs.BTreeSet.{union}
 use Rattle.std.specs.Option.{option_copied, unwrap_or}
 use Rattle.dv_order.specs.Key.{KeyTree, key_order}
-use Rattle.dv_join.specs.Indexed.{under}
-use Rattle.dv_join.specs.Listed.{with_each_row}
+use Rattle.dv_join.specs.Inner.Indexed.{under}
+use Rattle.dv_join.specs.Inner.Listed.{with_each_row}
 use Rattle.dv_join.proofs.Indexes.{all_under, all_under-passing}
 use Rattle.dv_join.proofs.Rows.{none-passing}
 use Rattle.dv_join.proofs.index.Index.rows_under.Goals as goal

@@ -2,7 +2,7 @@
 use Rattle.std.proofs.Common.{◌≡◌, []}
 use Rattle.std.specs.BTreeSet.{union}
 use Rattle.dv_order.specs.Key.{key_order}
-use Rattle.dv_join.specs.Indexed.{under}
+use Rattle.dv_join.specs.Inner.Indexed.{under}
 use Rattle.dv_join.proofs.Indexes.{all_under}
 use Rattle.dv_join.proofs.index.Index.rows_under.Given as goal
 

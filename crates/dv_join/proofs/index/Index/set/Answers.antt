@@ -4,7 +4,7 @@ use Rattle.std.proofs.lemmas.Map.Keys.{sorted_tail}
 use Rattle.std.specs.List.Sorted.{IsStrictlySortedBy}
 use Rattle.std.specs.Ordering.{is_eq}
 use Rattle.dv_order.specs.Key.{KeyTree, key_order}
-use Rattle.dv_join.specs.Indexed.{row_set, under}
+use Rattle.dv_join.specs.Inner.Indexed.{row_set, under}
 use Rattle.dv_join.proofs.Indexes.{is_one_of, none-again, one-key}
 use Rattle.dv_join.proofs.index.Index.set.Goals as goal
 

@@ -3,7 +3,7 @@ use Rattle.std.proofs.Common.{◌≡◌, cond}
 use Rattle.std.specs.BTreeSet.{contains}
 use Rattle.std.specs.List.Sorted.{IsStrictlySortedBy}
 use Rattle.dv_order.specs.Key.{KeyTree, key_order}
-use Rattle.dv_join.specs.Indexed.{row_set, under}
+use Rattle.dv_join.specs.Inner.Indexed.{row_set, under}
 use Rattle.dv_join.proofs.Indexes.{is_one_of}
 use Rattle.dv_join.proofs.index.Index.set.Given as goal
 

@@ -4,7 +4,7 @@ use Rattle.std.specs.BTreeMap.{get}
 use Rattle.std.specs.Option.{unwrap_or}
 use Rattle.std.specs.Ordering.{is_eq}
 use Rattle.dv_order.specs.Key.{key_order}
-use Rattle.dv_join.specs.Indexed.{row_set, under}
+use Rattle.dv_join.specs.Inner.Indexed.{row_set, under}
 use Rattle.dv_join.proofs.Indexes.{key-back, set-none, set-some, under-like, under-put}
 use Rattle.dv_join.proofs.index.Index.set_under.Goals as goal
 

@@ -4,9 +4,9 @@ use Rattle.std.proofs.lemmas.Map.Keys.{sorted_tail}
 use Rattle.std.specs.List.Sorted.{IsStrictlySortedBy}
 use Rattle.std.specs.Ordering.{is_eq}
 use Rattle.dv_change.specs.Changes.{Positioned}
-use Rattle.dv_change.specs.Ordered.{gone}
+use Rattle.dv_change.specs.Inner.Ordered.{gone}
 use Rattle.dv_order.specs.Key.{KeyTree, key_order}
-use Rattle.dv_join.specs.Indexed.{under}
+use Rattle.dv_join.specs.Inner.Indexed.{under}
 use Rattle.dv_join.proofs.Indexes.{is_one_of, none-again, one-key}
 use Rattle.dv_join.proofs.index.Index.take_out.Goals as goal
 

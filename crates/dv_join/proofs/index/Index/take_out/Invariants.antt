@@ -2,9 +2,9 @@
 use Rattle.std.proofs.Common.{◌≡◌, ◌&&◌, cond, not}
 use Rattle.std.specs.BTreeSet.{contains}
 use Rattle.std.specs.List.Sorted.{IsStrictlySortedBy}
-use Rattle.dv_change.specs.Ordered.{gone}
+use Rattle.dv_change.specs.Inner.Ordered.{gone}
 use Rattle.dv_order.specs.Key.{KeyTree, key_order}
-use Rattle.dv_join.specs.Indexed.{under}
+use Rattle.dv_join.specs.Inner.Indexed.{under}
 use Rattle.dv_join.proofs.Indexes.{is_one_of}
 use Rattle.dv_join.proofs.index.Index.take_out.Given as goal
 

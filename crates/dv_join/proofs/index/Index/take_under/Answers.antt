@@ -3,7 +3,7 @@ use Rattle.std.proofs.Common.{◌∙◌, [], ap, cond, sym}
 use Rattle.std.specs.BTreeMap.{get}
 use Rattle.std.specs.Option.{unwrap_or}
 use Rattle.dv_order.specs.Key.{key_order}
-use Rattle.dv_join.specs.Indexed.{under}
+use Rattle.dv_join.specs.Inner.Indexed.{under}
 use Rattle.dv_join.proofs.Indexes.{key-back, under-gone}
 use Rattle.dv_join.proofs.index.Index.take_under.Goals as goal
 

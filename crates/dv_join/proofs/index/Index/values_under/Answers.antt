@@ -4,7 +4,7 @@ use Rattle.std.proofs.lemmas.Result.{IfOk-weaker}
 use Rattle.std.specs.Option.{option_copied, unwrap_or}
 use Rattle.dv_change.specs.Changes.{forget}
 use Rattle.dv_gather.specs.Joining.{as_value}
-use Rattle.dv_join.specs.Indexed.{has_any, under}
+use Rattle.dv_join.specs.Inner.Indexed.{has_any, under}
 use Rattle.dv_join.proofs.Indexes.{having-none, having-one, key-alone, no-keys, union-none}
 use Rattle.dv_join.proofs.index.Index.values_under.Goals as goal
 

@@ -1,10 +1,10 @@
 -- One row alone is put among none.
 use Rattle.std.proofs.Common.{rules, ◌≡◌, ◌∙◌, ap, sym, IfOk, Some}
 use Rattle.std.proofs.lemmas.Result.{IfOk-weaker}
-use Rattle.dv_change.specs.Changes.{alone}
-use Rattle.dv_change.specs.Ordered.{put}
+use Rattle.dv_change.specs.Inner.Changes.{alone}
+use Rattle.dv_change.specs.Inner.Ordered.{put}
 use Rattle.dv_join.specs.Placed.{looked_up_at}
-use Rattle.dv_join.specs.Turning.{has_local, if_any}
+use Rattle.dv_join.specs.Inner.Turning.{has_local, if_any}
 use Rattle.dv_join.proofs.operator.LookupOperator.joined_alone.Goals as goal
 
 pub returns : goal.returns

@@ -1,6 +1,6 @@
 -- Nothing is held.
 use Rattle.std.proofs.Common.{refl}
-use Rattle.dv_change.specs.RowLaws.{positioned-none}
+use Rattle.dv_change.specs.Inner.RowLaws.{positioned-none}
 use Rattle.dv_join.proofs.operator.LookupOperator.new.Goals as goal
 
 pub returns-clause-holds : goal.returns-clause-holds

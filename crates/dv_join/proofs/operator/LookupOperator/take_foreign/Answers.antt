@@ -1,17 +1,19 @@
 -- What it tells is what it makes of the rows that have a key of the document that went or of the one that came.
 use Rattle.std.proofs.Common.{◌≡◌, ◌∙◌, filter, refl, subst, sym}
 use Rattle.std.specs.BTreeSet.{union}
-use Rattle.dv_change.specs.Changes.{IsPositioned, Positioned, at, forget, position_changed, row_in, with_change}
-use Rattle.dv_change.specs.DiffLaws.{positioned-changed, positioned-filter}
+use Rattle.dv_change.specs.Changes.{Positioned, at, forget, with_change}
+use Rattle.dv_change.specs.Inner.Changes.{IsPositioned, position_changed, row_in}
+use Rattle.dv_change.specs.Inner.DiffLaws.{positioned-changed, positioned-filter}
 use Rattle.dv_gather.specs.Lookups.{joined_row}
 use Rattle.dv_order.specs.Key.{key_order}
-use Rattle.dv_join.specs.Indexed.{has_any}
+use Rattle.dv_join.specs.Inner.Indexed.{has_any}
 use Rattle.dv_join.specs.Placed.{looked_up_at}
-use Rattle.dv_join.specs.Turning.{first_input, has_foreign, has_local, if_any}
+use Rattle.dv_join.specs.Turning.{first_input}
+use Rattle.dv_join.specs.Inner.Turning.{has_foreign, has_local, if_any}
 use Rattle.dv_join.proofs.Copied.{joined-differs, made-itself}
 use Rattle.dv_join.proofs.Indexes.{index-changed}
 use Rattle.dv_join.proofs.Owed.{foreign-told, touched-by}
-use Rattle.dv_change.specs.Told.{diff_told}
+use Rattle.dv_change.specs.Inner.Told.{diff_told}
 use Rattle.dv_join.proofs.operator.LookupOperator.take_foreign.Goals as goal
 
 pub returns-clause-holds : goal.returns-clause-holds

@@ -1,12 +1,13 @@
 -- What it tells is what it makes of the changed row alone.
 use Rattle.std.proofs.Common.{◌≡◌, ◌∙◌, sym}
-use Rattle.dv_change.specs.Changes.{alone}
-use Rattle.dv_change.specs.DiffLaws.{positioned-changed}
+use Rattle.dv_change.specs.Inner.Changes.{alone}
+use Rattle.dv_change.specs.Inner.DiffLaws.{positioned-changed}
 use Rattle.dv_join.specs.Placed.{looked_up_at}
-use Rattle.dv_join.specs.Turning.{first_input, has_local}
+use Rattle.dv_join.specs.Turning.{first_input}
+use Rattle.dv_join.specs.Inner.Turning.{has_local}
 use Rattle.dv_join.proofs.Indexes.{index-changed}
 use Rattle.dv_join.proofs.Owed.{left-told}
-use Rattle.dv_change.specs.Told.{diff_told}
+use Rattle.dv_change.specs.Inner.Told.{diff_told}
 use Rattle.dv_join.proofs.operator.LookupOperator.take_left.Goals as goal
 
 pub returns-clause-holds : goal.returns-clause-holds

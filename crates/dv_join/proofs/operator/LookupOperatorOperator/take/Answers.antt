@@ -7,12 +7,13 @@ use Rattle.dv_change.specs.Difference.{diff}
 use Rattle.dv_change.specs.Inputs.{HasInput, left_after, others_after}
 use Rattle.dv_change.specs.Raised.{raised}
 use Rattle.dv_change.specs.Work.{owed_by}
-use Rattle.dv_change.specs.Answered.{ok-one}
+use Rattle.dv_change.specs.Inner.Answered.{ok-one}
 use Rattle.dv_join.specs.Placed.{looked_up_at}
-use Rattle.dv_join.specs.Turning.{HoldsJoin, first_input}
+use Rattle.dv_join.specs.Turning.{first_input}
+use Rattle.dv_join.specs.Inner.Turning.{HoldsJoin}
 use Rattle.dv_join.proofs.Owed.{only-one}
-use Rattle.dv_change.specs.Told.{input_rows, told_along, with_old}
-use Rattle.dv_change.specs.ToldLaws.{length-told}
+use Rattle.dv_change.specs.Inner.Told.{input_rows, told_along, with_old}
+use Rattle.dv_change.specs.Inner.ToldLaws.{length-told}
 use Rattle.dv_join.proofs.operator.LookupOperatorOperator.take.Goals as goal
 
 -- what an operator with this look-up makes

@@ -1,8 +1,8 @@
 use Rattle.std.proofs.Common.{◌∙◌, ◌||◌, ◌&&◌, not, ap, sym}
 use Rattle.std.specs.Ordering.{is_eq}
 use Rattle.dv_order.specs.Key.{key_order}
-use Rattle.dv_keyed.specs.Ids.{has_first}
-use Rattle.dv_keyed.specs.Keys.{has_key}
+use Rattle.dv_keyed.specs.Inner.Ids.{has_first}
+use Rattle.dv_keyed.specs.Inner.Keys.{has_key}
 use Rattle.dv_keyed.proofs.Lists.{equal-back}
 use Rattle.dv_keyed.proofs.Firsts.{kept-has, either-without, cond-and-not}
 use Rattle.dv_keyed.proofs.ids.Ids.take_out.Goals as goal

@@ -1,5 +1,5 @@
 use Rattle.std.proofs.Common.{◌∙◌, ap, arith, ltb-false, nat_lt, sym}
-use Rattle.dv_keyed.specs.Pairs.{has_pair}
+use Rattle.dv_keyed.specs.Inner.Pairs.{has_pair}
 use Rattle.dv_keyed.proofs.Noted.{noted-either, noted-still}
 use Rattle.dv_keyed.proofs.multi_index.MultiIndex.add_first.Goals as goal
 

@@ -1,8 +1,8 @@
 use Rattle.std.proofs.Common.{Bor, ◌∙◌, ap, map, subst}
 use Rattle.std.proofs.lemmas.Result.{on_ok_weaker}
 use Rattle.dv_order.specs.Key.{KeyTree}
-use Rattle.dv_keyed.specs.Keys.{has_key}
-use Rattle.dv_keyed.specs.Pairs.{AreNoted}
+use Rattle.dv_keyed.specs.Inner.Keys.{has_key}
+use Rattle.dv_keyed.specs.Inner.Pairs.{AreNoted}
 use Rattle.dv_keyed.proofs.Noted.{found-anyway}
 use Rattle.dv_keyed.proofs.multi_index.MultiIndex.add_several.Goals as goal
 

@@ -2,8 +2,8 @@ use Rattle.std.proofs.Common.{Bor, ◌∙◌, ◌||◌, ◌&&◌, not, ap, sym, 
 use Rattle.std.specs.List.{list_any}
 use Rattle.std.specs.Ordering.{is_eq}
 use Rattle.dv_order.specs.Key.{KeyTree, key_order}
-use Rattle.dv_keyed.specs.Keys.{has_key}
-use Rattle.dv_keyed.specs.Pairs.{has_pair}
+use Rattle.dv_keyed.specs.Inner.Keys.{has_key}
+use Rattle.dv_keyed.specs.Inner.Pairs.{has_pair}
 use Rattle.dv_keyed.proofs.Lists.{any-one-more}
 use Rattle.dv_keyed.proofs.Several.{on-err, added-none, added-more, keys-lent, outside, any-front}
 use Rattle.dv_keyed.proofs.pairs.Pairs.add_each.Goals as goal

@@ -1,8 +1,8 @@
 use Rattle.std.proofs.Common.{Bor, ◌∙◌, map}
 use Rattle.std.specs.Ordering.{is_eq}
 use Rattle.dv_order.specs.Key.{KeyTree, key_order}
-use Rattle.dv_keyed.specs.Keys.{has_key}
-use Rattle.dv_keyed.specs.Pairs.{has_pair}
+use Rattle.dv_keyed.specs.Inner.Keys.{has_key}
+use Rattle.dv_keyed.specs.Inner.Pairs.{has_pair}
 use Rattle.dv_keyed.proofs.Several.{same-id, taken-back}
 use Rattle.dv_keyed.proofs.pairs.Pairs.add_fresh.Goals as goal
 

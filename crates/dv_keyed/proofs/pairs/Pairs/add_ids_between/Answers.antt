@@ -2,8 +2,8 @@ use Rattle.std.proofs.Common.{Bor, ◌∙◌, ◌||◌, ap, sym, filter, map}
 use Rattle.std.proofs.lemmas.List.Folds.{list_any-append}
 use Rattle.std.specs.BTreeMap.Range.{range_contains}
 use Rattle.dv_order.specs.Key.{KeyTree, key_order}
-use Rattle.dv_keyed.specs.Keys.{has_key}
-use Rattle.dv_keyed.specs.Pairs.{Pair, has_id, pairs_of}
+use Rattle.dv_keyed.specs.Inner.Keys.{has_key}
+use Rattle.dv_keyed.specs.Inner.Pairs.{Pair, has_id, pairs_of}
 use Rattle.dv_keyed.proofs.Lists.{or-assoc}
 use Rattle.dv_keyed.proofs.Ranges.{ids-of-entry, pairs-between}
 use Rattle.dv_keyed.proofs.pairs.Pairs.add_ids_between.Goals as goal

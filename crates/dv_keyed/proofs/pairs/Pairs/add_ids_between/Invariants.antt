@@ -1,8 +1,8 @@
 use Rattle.std.proofs.Common.{◌≡◌, ◌||◌, filter, map}
 use Rattle.std.specs.BTreeMap.Range.{range_contains}
 use Rattle.dv_order.specs.Key.{KeyTree, key_order}
-use Rattle.dv_keyed.specs.Keys.{has_key}
-use Rattle.dv_keyed.specs.Pairs.{has_id, pairs_of}
+use Rattle.dv_keyed.specs.Inner.Keys.{has_key}
+use Rattle.dv_keyed.specs.Inner.Pairs.{has_id, pairs_of}
 use Rattle.dv_keyed.proofs.pairs.Pairs.add_ids_between.Given as goal
 
 -- what stands under the keys that are left is still to be added

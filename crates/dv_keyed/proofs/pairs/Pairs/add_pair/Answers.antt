@@ -2,8 +2,8 @@ use Rattle.std.proofs.Common.{◌∙◌, ◌||◌, ◌&&◌, ap, sym}
 use Rattle.std.proofs.lemmas.Result.{on_ok_weaker, on_err_weaker}
 use Rattle.std.specs.Ordering.{is_eq}
 use Rattle.dv_order.specs.Key.{key_order}
-use Rattle.dv_keyed.specs.Pairs.{has_pair}
-use Rattle.dv_keyed.specs.Ids.{has_in}
+use Rattle.dv_keyed.specs.Inner.Pairs.{has_pair}
+use Rattle.dv_keyed.specs.Inner.Ids.{has_in}
 use Rattle.dv_keyed.proofs.Entries.{pair-found, pair-kept, pair-written}
 use Rattle.dv_keyed.proofs.pairs.Pairs.add_pair.Goals as goal
 

@@ -1,6 +1,6 @@
 use Rattle.std.proofs.Common.{◌∙◌, ap, sym}
-use Rattle.dv_keyed.specs.Pairs.{has_pair}
-use Rattle.dv_keyed.specs.Ids.{has_in}
+use Rattle.dv_keyed.specs.Inner.Pairs.{has_pair}
+use Rattle.dv_keyed.specs.Inner.Ids.{has_in}
 use Rattle.dv_keyed.proofs.Entries.{pair-found}
 use Rattle.dv_keyed.proofs.pairs.Pairs.has.Goals as goal
 

@@ -3,8 +3,8 @@ use Rattle.std.specs.List.{list_any}
 use Rattle.std.specs.Map.{lookup}
 use Rattle.std.specs.BTreeMap.{is_at}
 use Rattle.dv_order.specs.Key.{key_order}
-use Rattle.dv_keyed.specs.Ids.{is_another}
-use Rattle.dv_keyed.specs.Pairs.{has_another_at}
+use Rattle.dv_keyed.specs.Inner.Ids.{is_another}
+use Rattle.dv_keyed.specs.Inner.Pairs.{has_another_at}
 use Rattle.dv_keyed.proofs.Entries.{another-found, some-in}
 use Rattle.dv_keyed.proofs.pairs.Pairs.has_another.Goals as goal
 

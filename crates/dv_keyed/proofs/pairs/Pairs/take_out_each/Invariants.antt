@@ -2,7 +2,7 @@ use Rattle.std.proofs.Common.{Bor, ◌≡◌, ◌&&◌, not, take}
 use Rattle.std.specs.List.{list_any}
 use Rattle.std.specs.Ordering.{is_eq}
 use Rattle.dv_order.specs.Key.{KeyTree, key_order}
-use Rattle.dv_keyed.specs.Pairs.{has_pair}
+use Rattle.dv_keyed.specs.Inner.Pairs.{has_pair}
 use Rattle.dv_keyed.proofs.pairs.Pairs.take_out_each.Given as goal
 
 abbrev pub invariant-loop-key : goal.invariant-loop-key

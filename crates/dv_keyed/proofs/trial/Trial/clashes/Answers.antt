@@ -1,8 +1,8 @@
 use Rattle.std.proofs.Common.{◌∙◌, ◌||◌, ap, sym, List}
 use Rattle.std.specs.List.{list_any}
 use Rattle.std.proofs.lemmas.List.Folds.{list_any-append}
-use Rattle.dv_keyed.specs.Keys.{has_key}
-use Rattle.dv_keyed.specs.Pairs.{Pair, has_another_at, is_under_another, pairs_without}
+use Rattle.dv_keyed.specs.Inner.Keys.{has_key}
+use Rattle.dv_keyed.specs.Inner.Pairs.{Pair, has_another_at, is_under_another, pairs_without}
 use Rattle.dv_keyed.proofs.Gone.{each-key}
 use Rattle.dv_keyed.proofs.trial.Trial.clashes.Goals as goal
 

@@ -2,8 +2,8 @@ use Rattle.std.proofs.Common.{Bor, ◌∙◌, ◌||◌, ◌&&◌, ap, map}
 use Rattle.std.proofs.lemmas.Result.{on_ok_weaker}
 use Rattle.std.specs.Ordering.{is_eq}
 use Rattle.dv_order.specs.Key.{KeyTree, key_order}
-use Rattle.dv_keyed.specs.Keys.{has_key}
-use Rattle.dv_keyed.specs.Pairs.{has_pair}
+use Rattle.dv_keyed.specs.Inner.Keys.{has_key}
+use Rattle.dv_keyed.specs.Inner.Pairs.{has_pair}
 use Rattle.dv_keyed.proofs.Left.{keys-left}
 use Rattle.dv_keyed.proofs.trial.Trial.exchange.Goals as goal
 

@@ -1,5 +1,5 @@
 use Rattle.std.proofs.Common.{subst₂, sym}
-use Rattle.dv_match.specs.Choices.{AreChoicesInOrder}
+use Rattle.dv_match.specs.Inner.Choices.{AreChoicesInOrder}
 use Rattle.dv_match.proofs.choices.Choices.ascending.Goals as goal
 
 pub returns : goal.returns

@@ -1,6 +1,6 @@
 use Rattle.std.proofs.Common.{◌∷◌, ◌∙◌, [], map, take, take_all, Some, ap, subst, sym}
 use Rattle.dv_value.specs.View.{tree}
-use Rattle.dv_match.specs.Blocks.{Marked}
+use Rattle.dv_match.specs.Inner.Blocks.{Marked}
 use Rattle.dv_match.proofs.Marked.{marked-none, marked-more, elements-more}
 use Rattle.dv_match.proofs.marks.Marks.with_each.Goals as goal
 

@@ -1,6 +1,6 @@
 use Rattle.std.proofs.Common.{map, take, Some}
 use Rattle.dv_value.specs.View.{tree}
-use Rattle.dv_match.specs.Blocks.{Marked}
+use Rattle.dv_match.specs.Inner.Blocks.{Marked}
 use Rattle.dv_match.proofs.marks.Marks.with_each.Given as goal
 
 abbrev pub invariant-loop-element : goal.invariant-loop-element

@@ -1,6 +1,6 @@
 use Rattle.std.proofs.Common.{◌∷◌, [], map, Some, subst, sym}
 use Rattle.dv_candidates.specs.View.{seen}
-use Rattle.dv_match.specs.Blocks.{Marked}
+use Rattle.dv_match.specs.Inner.Blocks.{Marked}
 use Rattle.dv_match.proofs.Arrays.{array-parts}
 use Rattle.dv_match.proofs.Marked.{marked-more}
 use Rattle.dv_match.proofs.marks.Marks.with_elements.Goals as goal

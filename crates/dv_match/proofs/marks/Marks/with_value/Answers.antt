@@ -1,7 +1,7 @@
 use Rattle.std.proofs.Common.{Some, None, sym, arith}
 use Rattle.std.proofs.Math.Bool.{or-false}
 use Rattle.dv_value.specs.View.{tree}
-use Rattle.dv_match.specs.Blocks.{has}
+use Rattle.dv_match.specs.Inner.Blocks.{has}
 use Rattle.dv_match.proofs.Marked.{marked-one}
 use Rattle.dv_match.proofs.marks.Marks.with_value.Goals as goal
 

@@ -1,6 +1,6 @@
 use Rattle.std.proofs.Common.{◌≡◌, Err, inr, rules}
 use Rattle.dv_value.specs.View.{tree}
-use Rattle.dv_row.specs.EachLaws.{gives-fault}
+use Rattle.dv_row.specs.Inner.EachLaws.{gives-fault}
 use Rattle.dv_pipe.proofs.Pipelines.{many-fault, many, few-fault, few-stages}
 use Rattle.dv_pipe.proofs.pipeline.Pipeline.parse.Goals as goal
 

@@ -1,7 +1,7 @@
 use Rattle.std.proofs.Common.{◌≡◌, ◌∙◌, ap, sym, subst}
 use Rattle.std.specs.Prelude.{IfOk}
 use Rattle.dv_sort.specs.Sorting.{front}
-use Rattle.dv_pipe.specs.Parts.{ended}
+use Rattle.dv_pipe.specs.Inner.Parts.{ended}
 use Rattle.dv_pipe.specs.Sources.{rows_referred}
 use Rattle.dv_pipe.proofs.Steps.{through-none}
 use Rattle.dv_pipe.proofs.run.End.rows.Goals as goal

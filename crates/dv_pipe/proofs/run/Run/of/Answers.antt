@@ -1,6 +1,6 @@
 use Rattle.std.proofs.Common.{◌∙◌, ap, sym, arith}
 use Rattle.std.specs.List.{flat_map}
-use Rattle.dv_pipe.specs.Parts.{passed, rows_of_part}
+use Rattle.dv_pipe.specs.Inner.Parts.{passed, rows_of_part}
 use Rattle.dv_pipe.specs.Sources.{lists_of}
 use Rattle.dv_pipe.specs.Stages.{through}
 use Rattle.dv_pipe.proofs.Steps.{through-none, step_more}

@@ -1,6 +1,6 @@
 use Rattle.std.proofs.Common.{◌≡◌, ◌≤◌, List, length}
 use Rattle.std.specs.List.{flat_map}
-use Rattle.dv_pipe.specs.Parts.{passed}
+use Rattle.dv_pipe.specs.Inner.Parts.{passed}
 use Rattle.dv_pipe.specs.Sources.{Row, lists_of}
 use Rattle.dv_pipe.specs.Stages.{through}
 use Rattle.dv_pipe.proofs.run.Run.of.Given as goal

@@ -1,6 +1,6 @@
 use Rattle.std.proofs.Common.{◌≡◌, sym, subst, length, rules}
 use Rattle.std.specs.Prelude.{IfOk}
-use Rattle.dv_pipe.specs.Parts.{ended}
+use Rattle.dv_pipe.specs.Inner.Parts.{ended}
 use Rattle.dv_pipe.specs.Sources.{rows_referred}
 use Rattle.dv_pipe.proofs.Steps.{no-steps}
 use Rattle.dv_pipe.proofs.run.Run.rows.Goals as goal

@@ -1,5 +1,5 @@
 use Rattle.std.proofs.Common.{◌≡◌, ◌∙◌, ◌+◌, ap, sym, drop, Some, arith}
-use Rattle.dv_row.specs.Turns.{left_behind, with_entered}
+use Rattle.dv_row.specs.Inner.Turns.{left_behind, with_entered}
 use Rattle.dv_row.proofs.Turning.{around-past}
 use Rattle.dv_row.proofs.level.Level.with_inner.Goals as goal
 use Rattle.dv_row.proofs.level.Level.with_inner.Goals.{then-place-len+in_ok-push_field, else-place-len}

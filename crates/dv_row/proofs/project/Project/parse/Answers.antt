@@ -4,7 +4,7 @@ use Rattle.dv_value.specs.Results.{◌>>=◌}
 use Rattle.dv_row.specs.ProjectParsing.{project_in, members_in, nothing_asked, project_form}
 use Rattle.dv_row.proofs.Items.{some-fields}
 use Rattle.dv_row.proofs.Members.{project-some}
-use Rattle.dv_row.specs.EachLaws.{gives-fault}
+use Rattle.dv_row.specs.Inner.EachLaws.{gives-fault}
 use Rattle.dv_row.proofs.project.Project.parse.Goals as goal
 
 pub returns-in_err-asked : goal.returns-in_err-asked

@@ -2,7 +2,7 @@ use Rattle.std.proofs.Common.{◌∙◌, ap, sym, subst, refl, rules, of_calls, 
 use Rattle.std.proofs.lemmas.Fn.{always_returns_same}
 use Rattle.std.specs.Ordering.{is_lt, is_le}
 use Rattle.dv_row.specs.Projecting.{paths_behind}
-use Rattle.dv_row.specs.Ways.{Ascend}
+use Rattle.dv_row.specs.Inner.Ways.{Ascend}
 use Rattle.dv_row.proofs.Ordered.{stands, parted-strictly, parted-loosely, ascend-drop, all-taken, behind-found, found-ascends, found-none, found-long}
 use Rattle.dv_row.proofs.ways.Ways.behind.Goals as goal
 use Rattle.dv_row.proofs.ways.Ways.behind.Goals.{in_default-via-in-Some+else-depth-components, in_default-via-in_default}

@@ -3,7 +3,7 @@ use Rattle.std.proofs.lemmas.List.{drop_all, take_all, length-take-le}
 use Rattle.std.proofs.lemmas.Result.{err_from_is_err_and}
 use Rattle.std.specs.Io.KnownBytes.{Consumes}
 use Rattle.dv_streams.specs.Stream.{once_more}
-use Rattle.dv_scripts.specs.Pieces.{StopsIn, TakesPiece}
+use Rattle.dv_scripts.specs.Inner.Pieces.{StopsIn, TakesPiece}
 use Rattle.dv_scripts.specs.Script.{standing_of}
 use Rattle.dv_scripts.proofs.Scripts.{asked, asked_most, asked_once_more, at_end, at_failure, at_limit, few_asked, last_stops, line_left, never_read, no_more, none_asked, not_flushed, nothing_read, one_more, read_more, read_stops}
 use Rattle.dv_scripts.proofs.script.Progress.read.Goals as goal

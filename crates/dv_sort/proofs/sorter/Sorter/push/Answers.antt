@@ -2,9 +2,10 @@ use Rattle.std.proofs.Common.{◌≡◌, ◌∙◌, ap, sym, true, false, subst,
 use Rattle.std.proofs.lemmas.List.Elements.{All-push}
 use Rattle.std.specs.Option.{option_map}
 use Rattle.dv_sort.specs.declared.row.Row.{Row}
-use Rattle.dv_sort.specs.Bar.{IsBar, is_behind}
+use Rattle.dv_sort.specs.Inner.Bar.{IsBar, is_behind}
 use Rattle.dv_sort.specs.Front.{with_row}
-use Rattle.dv_sort.specs.Keys.{AreKeyed, HasKeysOf, documents}
+use Rattle.dv_sort.specs.Keys.{documents}
+use Rattle.dv_sort.specs.Inner.Keys.{AreKeyed, HasKeysOf}
 use Rattle.dv_sort.proofs.Bars.{bar-kept, behind-bar}
 use Rattle.dv_sort.proofs.Kept.{documents-push, pushed}
 use Rattle.dv_sort.proofs.sorter.Sorter.push.Goals as goal

@@ -2,7 +2,7 @@ use Rattle.std.proofs.Common.{◌≡◌, ◌∙◌, Ok, ap, sym}
 use Rattle.dv_value.specs.Names.{value_under}
 use Rattle.dv_value.specs.View.{tree}
 use Rattle.dv_path.specs.Slots.{slot_of}
-use Rattle.dv_update.specs.Outcome.{value_by}
+use Rattle.dv_update.specs.Inner.Outcome.{value_by}
 use Rattle.dv_update.specs.View.{operation}
 use Rattle.dv_update.proofs.OneField.{as_value}
 use Rattle.dv_update.proofs.form.Operation.outcome_under.Goals as goal

@@ -3,7 +3,7 @@ use Rattle.std.proofs.lemmas.Grind.{common_steps}
 use Rattle.std.specs.Option.{IfSome}
 use Rattle.dv_value.specs.Tree.{Field}
 use Rattle.dv_value.specs.Names.{bare}
-use Rattle.dv_value.specs.Places.{IsNameIndexOf}
+use Rattle.dv_value.specs.Inner.Places.{IsNameIndexOf}
 use Rattle.dv_value.proofs.Named.{AreNamed-push}
 use Rattle.dv_value.proofs.name_list.Names.add.Goals as goal
 

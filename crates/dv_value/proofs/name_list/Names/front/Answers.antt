@@ -2,7 +2,7 @@ use Rattle.std.proofs.Common.{◌≡◌, ℕ, List, take, map, arith, subst}
 use Rattle.std.proofs.lemmas.Grind.{common_steps}
 use Rattle.std.specs.Option.{IfSome}
 use Rattle.dv_value.specs.Names.{bare}
-use Rattle.dv_value.specs.Places.{IsNameIndexOf}
+use Rattle.dv_value.specs.Inner.Places.{IsNameIndexOf}
 use Rattle.dv_value.proofs.Named.{AreNamed-take}
 use Rattle.dv_value.proofs.name_list.Names.front.Goals as goal
 

@@ -3,7 +3,7 @@ use Rattle.std.specs.Prelude.{remove}
 use Rattle.std.proofs.lemmas.Grind.{common_steps}
 use Rattle.std.specs.Option.{IfSome}
 use Rattle.dv_value.specs.Names.{bare}
-use Rattle.dv_value.specs.Places.{IsNameIndexOf}
+use Rattle.dv_value.specs.Inner.Places.{IsNameIndexOf}
 use Rattle.dv_value.proofs.Named.{AreNamed-take}
 use Rattle.dv_value.proofs.Changed.{AreNamed-remove, remove_front}
 use Rattle.dv_value.proofs.name_list.Names.front_without.Goals as goal

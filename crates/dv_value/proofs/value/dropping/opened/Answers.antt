@@ -1,7 +1,8 @@
 -- What stands inside weighs less, and the others weigh one more in an array.
 use Rattle.std.proofs.Common.{◌∙◌, ap, arith}
 use Rattle.dv_value.specs.declared.value.Value.TheVariants.{Array}
-use Rattle.dv_value.specs.Tree.{elements_of, elements_weight}
+use Rattle.dv_value.specs.Tree.{elements_of}
+use Rattle.dv_value.specs.Inner.Tree.{elements_weight}
 use Rattle.dv_value.proofs.Dropped.{values_weight, last_weighs}
 use Rattle.dv_value.proofs.value.dropping.opened.Goals as goal
 

@@ -1,5 +1,5 @@
 use Rattle.std.proofs.Common.{◌+◌, ◌≤◌}
-use Rattle.dv_value.specs.Tree.{weight}
+use Rattle.dv_value.specs.Inner.Tree.{weight}
 use Rattle.dv_value.specs.View.{tree}
 use Rattle.dv_value.proofs.Dropped.{values_weight}
 use Rattle.dv_value.proofs.value.dropping.opened.Given as goal

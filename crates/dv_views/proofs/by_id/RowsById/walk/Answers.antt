@@ -2,7 +2,7 @@ use Rattle.std.proofs.Common.{◌∙◌, List, ap, filter}
 use Rattle.std.specs.BTreeMap.Range.{range_contains}
 use Rattle.dv_order.specs.Key.{key_order}
 use Rattle.dv_coll.specs.Collection.{id_key}
-use Rattle.dv_coll.specs.Walk.{walked}
+use Rattle.dv_coll.specs.Inner.Walk.{walked}
 use Rattle.dv_pipe.specs.Sources.{Row}
 use Rattle.dv_views.proofs.Ranges.{found_between, runs_forward}
 use Rattle.dv_views.proofs.by_id.RowsById.walk.Goals as goal

@@ -1,9 +1,9 @@
 -- The names so far are those of live views, or of none.
 use Rattle.std.proofs.Common.{take}
 use Rattle.std.specs.List.{AllByRecursion}
-use Rattle.dv_views.specs.Ground.{IsLiveView}
-use Rattle.dv_views.specs.Older.{views_before}
-use Rattle.dv_views.specs.Views.{view_under}
+use Rattle.dv_views.specs.Inner.Ground.{IsLiveView}
+use Rattle.dv_views.specs.Inner.Older.{views_before}
+use Rattle.dv_views.specs.Inner.Views.{view_under}
 use Rattle.dv_views.proofs.passing.Passing.are_live.Given as goal
 
 abbrev pub invariant-names : goal.invariant-names

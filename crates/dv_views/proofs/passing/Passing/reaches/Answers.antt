@@ -1,6 +1,6 @@
 use Rattle.std.proofs.Common.{◌≡◌, ◌+◌, ◌||◌, Bool, true, false, drop, is_some, ap, sym, ◌∙◌}
 use Rattle.std.specs.List.{list_any}
-use Rattle.dv_views.specs.Older.{told_found}
+use Rattle.dv_views.specs.Inner.Older.{told_found}
 use Rattle.dv_views.proofs.Marked.{any_next}
 use Rattle.dv_views.proofs.passing.Passing.reaches.Goals as goal
 

@@ -1,7 +1,7 @@
 -- None of the names so far is reached.
 use Rattle.std.proofs.Common.{◌≡◌, drop, is_some}
 use Rattle.std.specs.List.{list_any}
-use Rattle.dv_views.specs.Older.{told_found}
+use Rattle.dv_views.specs.Inner.Older.{told_found}
 use Rattle.dv_views.proofs.passing.Passing.reaches.Given as goal
 
 abbrev pub invariant-names : goal.invariant-names

@@ -3,8 +3,8 @@ use Rattle.std.proofs.lemmas.List.{take_all}
 use Rattle.dv_change.specs.declared.change.Change.{Change}
 use Rattle.dv_change.specs.declared.input.Input.TheVariants.{Named}
 use Rattle.dv_views.specs.Flow.{arriving, arriving_at_lists}
-use Rattle.dv_views.specs.Keeping.{Turns}
-use Rattle.dv_views.specs.Older.{told_found}
+use Rattle.dv_views.specs.Inner.Keeping.{Turns}
+use Rattle.dv_views.specs.Inner.Older.{told_found}
 use Rattle.dv_views.proofs.Marked.{take_count, take_last, there_at}
 use Rattle.dv_views.proofs.Rolling.{turns_list}
 use Rattle.dv_views.proofs.passing.Passing.taken_by_lists.Goals as goal

@@ -1,8 +1,8 @@
 -- What came to the lists so far was taken in.
 use Rattle.std.proofs.Common.{take}
 use Rattle.dv_views.specs.Flow.{arriving_at_lists}
-use Rattle.dv_views.specs.Keeping.{Turns}
-use Rattle.dv_views.specs.Older.{told_found}
+use Rattle.dv_views.specs.Inner.Keeping.{Turns}
+use Rattle.dv_views.specs.Inner.Older.{told_found}
 use Rattle.dv_views.proofs.passing.Passing.taken_by_lists.Given as goal
 
 abbrev pub invariant-lists : goal.invariant-lists

@@ -1,6 +1,6 @@
 use Rattle.std.proofs.Common.{ap, ◌∙◌, sym}
 use Rattle.dv_views.specs.Flow.{told_at}
-use Rattle.dv_views.specs.Older.{told_else}
+use Rattle.dv_views.specs.Inner.Older.{told_else}
 use Rattle.dv_views.proofs.Before.{told_here, told_nowhere}
 use Rattle.dv_views.proofs.passing.Passing.told.Goals as goal
 

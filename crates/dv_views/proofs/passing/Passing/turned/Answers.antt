@@ -3,11 +3,11 @@ use Rattle.std.specs.List.{AllByRecursion}
 use Rattle.dv_change.specs.declared.change.Change.{Change}
 use Rattle.dv_change.specs.declared.input.Input.TheVariants.{Left}
 use Rattle.dv_views.specs.Flow.{arriving, arriving_at_lists}
-use Rattle.dv_views.specs.Ground.{IsLiveView}
-use Rattle.dv_views.specs.Keeping.{Turns}
-use Rattle.dv_views.specs.Older.{told_found, views_before}
+use Rattle.dv_views.specs.Inner.Ground.{IsLiveView}
+use Rattle.dv_views.specs.Inner.Keeping.{Turns}
+use Rattle.dv_views.specs.Inner.Older.{told_found, views_before}
 use Rattle.dv_views.specs.Placed.{lookups_of}
-use Rattle.dv_views.specs.Views.{view_under}
+use Rattle.dv_views.specs.Inner.Views.{view_under}
 use Rattle.dv_views.proofs.Rolling.{lookups_count, turns_then}
 use Rattle.dv_views.proofs.passing.Passing.turned.Goals as goal
 

@@ -4,14 +4,15 @@ use Rattle.std.specs.String.{string_bytes, string_eq}
 use Rattle.indexmap.proofs.CallerLemmas.{insert_entry-new}
 use Rattle.dv_pipe.specs.Sources.{lists_of}
 use Rattle.dv_pipe.specs.Stages.{is_read}
-use Rattle.dv_views.specs.Body.{Body}
+use Rattle.dv_views.specs.Inner.Body.{Body}
 use Rattle.dv_views.specs.Forms.{height_over, heights, is_read_by, names_read}
-use Rattle.dv_views.specs.Ground.{IsBuilt}
-use Rattle.dv_views.specs.Made.{IsAdded, IsNoStale}
-use Rattle.dv_views.specs.Keeping.{kept_seen}
-use Rattle.dv_views.specs.Older.{Entries, views}
-use Rattle.dv_views.specs.Seen.{HaveHeights, IsSoundRegistry, view_seen, entry_view}
-use Rattle.dv_views.specs.Views.{AreNamedApart, AreRight, View, Views, view_form, has_view, view_under, live}
+use Rattle.dv_views.specs.Inner.Ground.{IsBuilt}
+use Rattle.dv_views.specs.Inner.Made.{IsAdded, IsNoStale}
+use Rattle.dv_views.specs.Inner.Keeping.{kept_seen}
+use Rattle.dv_views.specs.Inner.Older.{Entries, views}
+use Rattle.dv_views.specs.Inner.Seen.{HaveHeights, IsSoundRegistry, view_seen, entry_view}
+use Rattle.dv_views.specs.Views.{View, live}
+use Rattle.dv_views.specs.Inner.Views.{AreNamedApart, AreRight, Views, view_form, has_view, view_under}
 use Rattle.dv_views.proofs.Entries.{named_apart, none_there, seen_last}
 use Rattle.dv_views.proofs.Heights.{forms_of, heights_added}
 use Rattle.dv_views.proofs.Refreshing.{is_added, right_added, sound_added, views_all}

@@ -2,7 +2,7 @@ use Rattle.std.proofs.Common.{List, subst, take, sym, ap, ◌∙◌, ◌++◌, �
 use Rattle.std.proofs.lemmas.List.{take_more}
 use Rattle.dv_change.specs.declared.change.Change.{Change}
 use Rattle.dv_views.specs.Flow.{told_at}
-use Rattle.dv_views.specs.Turned.{HaveTaken}
+use Rattle.dv_views.specs.Inner.Turned.{HaveTaken}
 use Rattle.dv_views.proofs.Behind.{HaveFollowed, follow_more, follow_none}
 use Rattle.dv_views.proofs.registry.Registry.apply.Goals as goal
 

@@ -2,8 +2,8 @@ use Rattle.std.proofs.Common.{◌≡◌, ◌||◌, ℕ, false, List, map, None, 
 use Rattle.dv_pipe.specs.Sources.{lists_of}
 use Rattle.dv_pipe.specs.Stages.{is_read}
 use Rattle.dv_views.specs.Forms.{ViewForm, fault_of_new, is_read_by, names_read, needed}
-use Rattle.dv_views.specs.Made.{AreAlike}
-use Rattle.dv_views.specs.Views.{AreRefreshed, AreRight, view_form}
+use Rattle.dv_views.specs.Inner.Made.{AreAlike}
+use Rattle.dv_views.specs.Inner.Views.{AreRefreshed, AreRight, view_form}
 use Rattle.dv_views.proofs.Needed.{asked_needed}
 use Rattle.dv_views.proofs.Refreshing.{alike_reads, fresh_reads, no_fault, none_refreshed, ordered_reads, refused_with, same_called, same_forms, where_refused}
 use Rattle.dv_views.proofs.registry.Registry.create.Goals as goal

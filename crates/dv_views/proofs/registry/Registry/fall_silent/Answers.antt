@@ -1,9 +1,9 @@
 use Rattle.std.proofs.Common.{ap, map, subst, sym, ◌∙◌}
 use Rattle.indexmap.proofs.CallerLemmas.{index_map_len-with_value_at}
-use Rattle.dv_views.specs.Body.{Body}
+use Rattle.dv_views.specs.Inner.Body.{Body}
 use Rattle.dv_views.specs.Forms.{heights}
-use Rattle.dv_views.specs.Seen.{HaveHeights, IsSoundRegistry, view_seen}
-use Rattle.dv_views.specs.Views.{Views, view_form}
+use Rattle.dv_views.specs.Inner.Seen.{HaveHeights, IsSoundRegistry, view_seen}
+use Rattle.dv_views.specs.Inner.Views.{Views, view_form}
 use Rattle.dv_views.proofs.Heights.{heights_written}
 use Rattle.dv_views.proofs.Marked.{views_silent}
 use Rattle.dv_views.proofs.registry.Registry.fall_silent.Goals as goal

@@ -2,9 +2,9 @@
 use Rattle.std.proofs.Common.{◌≡◌, map}
 use Rattle.indexmap.specs.IndexMap.{index_map_len}
 use Rattle.dv_views.specs.Forms.{heights}
-use Rattle.dv_views.specs.Older.{views}
-use Rattle.dv_views.specs.Seen.{HaveHeights}
-use Rattle.dv_views.specs.Views.{view_form}
+use Rattle.dv_views.specs.Inner.Older.{views}
+use Rattle.dv_views.specs.Inner.Seen.{HaveHeights}
+use Rattle.dv_views.specs.Inner.Views.{view_form}
 use Rattle.dv_views.proofs.registry.Registry.fall_silent.Given as goal
 
 abbrev pub invariant-views : goal.invariant-views

@@ -1,7 +1,7 @@
 use Rattle.std.proofs.Common.{◌≡◌, ◌<◌, ◌≤◌, true, false, length, arith}
 use Rattle.dv_pipe.specs.Stages.{is_read}
 use Rattle.dv_views.specs.Forms.{most_views}
-use Rattle.dv_views.specs.Views.{has_view, reads_name}
+use Rattle.dv_views.specs.Inner.Views.{has_view, reads_name}
 use Rattle.dv_views.proofs.Heights.{called_before, no_fault, read_before, too_high, too_many}
 use Rattle.dv_views.proofs.Right.{or-left, or-right}
 use Rattle.dv_views.proofs.registry.Registry.fault_of_new.Goals as goal

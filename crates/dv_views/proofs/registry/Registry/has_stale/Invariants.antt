@@ -1,7 +1,7 @@
 -- None of the views so far is stale.
 use Rattle.std.proofs.Common.{◌≡◌}
 use Rattle.std.specs.List.{list_any}
-use Rattle.dv_views.specs.Views.{is_stale}
+use Rattle.dv_views.specs.Inner.Views.{is_stale}
 use Rattle.dv_views.proofs.registry.Registry.has_stale.Given as goal
 
 abbrev pub invariant-views : goal.invariant-views

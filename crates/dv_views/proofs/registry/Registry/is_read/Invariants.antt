@@ -1,7 +1,7 @@
 use Rattle.std.proofs.Common.{◌≡◌}
 use Rattle.std.specs.List.{list_any}
 use Rattle.dv_pipe.specs.Stages.{is_read}
-use Rattle.dv_views.specs.Views.{reads_name}
+use Rattle.dv_views.specs.Inner.Views.{reads_name}
 use Rattle.dv_views.proofs.registry.Registry.is_read.Given as goal
 
 abbrev pub invariant-views : goal.invariant-views

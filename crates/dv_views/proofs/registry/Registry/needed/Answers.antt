@@ -1,7 +1,7 @@
 use Rattle.std.proofs.Common.{◌≡◌, true, false, map, subst, sym, arith, ◌∙◌}
 use Rattle.std.specs.String.{string_bytes}
 use Rattle.dv_views.specs.Forms.{AreFounded, is_name_among}
-use Rattle.dv_views.specs.Views.{Views, view_form}
+use Rattle.dv_views.specs.Inner.Views.{Views, view_form}
 use Rattle.dv_views.proofs.Heights.{needed_closed, needed_step}
 use Rattle.dv_views.proofs.registry.Registry.needed.Goals as goal
 

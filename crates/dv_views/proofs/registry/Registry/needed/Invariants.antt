@@ -1,7 +1,7 @@
 -- The names so far are needed for the first ones by the views that were asked, the youngest first.
 use Rattle.std.proofs.Common.{◌≡◌, ◌≤◌, drop, length, map}
 use Rattle.dv_views.specs.Forms.{needed}
-use Rattle.dv_views.specs.Views.{view_form}
+use Rattle.dv_views.specs.Inner.Views.{view_form}
 use Rattle.dv_views.proofs.registry.Registry.needed.Given as goal
 
 abbrev pub invariant-views : goal.invariant-views

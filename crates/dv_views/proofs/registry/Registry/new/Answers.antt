@@ -1,8 +1,8 @@
 use Rattle.std.proofs.Common.{sym, subst, map}
 use Rattle.dv_views.specs.Forms.{AreFounded, heights}
-use Rattle.dv_views.specs.Older.{Entries, views}
-use Rattle.dv_views.specs.Seen.{HaveHeights}
-use Rattle.dv_views.specs.Views.{AreOverLive, view_form, no_distance}
+use Rattle.dv_views.specs.Inner.Older.{Entries, views}
+use Rattle.dv_views.specs.Inner.Seen.{HaveHeights}
+use Rattle.dv_views.specs.Inner.Views.{AreOverLive, view_form, no_distance}
 use Rattle.dv_views.proofs.Entries.{named_apart}
 use Rattle.dv_views.proofs.WellKept.{AreWellKept}
 use Rattle.dv_views.proofs.registry.Registry.new.Goals as goal

@@ -4,8 +4,8 @@ use Rattle.std.specs.List.{AllByRecursion}
 use Rattle.dv_pipe.specs.Sources.{lists_of}
 use Rattle.dv_pipe.specs.Stages.{Lists}
 use Rattle.dv_views.specs.Forms.{is_name_among}
-use Rattle.dv_views.specs.Made.{AreAlike}
-use Rattle.dv_views.specs.Views.{ArePartlyRefreshed, AreRight, is_stale}
+use Rattle.dv_views.specs.Inner.Made.{AreAlike}
+use Rattle.dv_views.specs.Inner.Views.{ArePartlyRefreshed, AreRight, is_stale}
 use Rattle.dv_views.proofs.registry.Registry.refresh.Given as goal
 
 abbrev pub invariant-views : goal.invariant-views

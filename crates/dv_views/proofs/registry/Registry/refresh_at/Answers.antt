@@ -4,14 +4,15 @@ use Rattle.std.specs.String.{string_bytes}
 use Rattle.indexmap.specs.IndexMap.{set_value_at}
 use Rattle.dv_pipe.specs.Sources.{lists_of}
 use Rattle.dv_pipe.specs.declared.stage.Stage.{Stage}
-use Rattle.dv_views.specs.Body.{Body}
+use Rattle.dv_views.specs.Inner.Body.{Body}
 use Rattle.dv_views.specs.Forms.{IsClosed, ViewForm, heights, is_name_among, names_read}
-use Rattle.dv_views.specs.Ground.{IsBuilt}
-use Rattle.dv_views.specs.Made.{IsNoStale, IsRefreshedAt}
-use Rattle.dv_views.specs.Keeping.{IsSoundLive, kept_seen}
-use Rattle.dv_views.specs.Older.{views, views_before}
-use Rattle.dv_views.specs.Seen.{HaveHeights, IsSoundRegistry, view_seen}
-use Rattle.dv_views.specs.Views.{AreInOrder, AreRight, Views, view_form, view_under, is_stale, live}
+use Rattle.dv_views.specs.Inner.Ground.{IsBuilt}
+use Rattle.dv_views.specs.Inner.Made.{IsNoStale, IsRefreshedAt}
+use Rattle.dv_views.specs.Inner.Keeping.{IsSoundLive, kept_seen}
+use Rattle.dv_views.specs.Inner.Older.{views, views_before}
+use Rattle.dv_views.specs.Inner.Seen.{HaveHeights, IsSoundRegistry, view_seen}
+use Rattle.dv_views.specs.Views.{live}
+use Rattle.dv_views.specs.Inner.Views.{AreInOrder, AreRight, Views, view_form, view_under, is_stale}
 use Rattle.dv_views.proofs.Heights.{heights_written}
 use Rattle.dv_views.proofs.Joining.{fresh_built}
 use Rattle.dv_views.proofs.Refreshing.{forms_set, fresh_reads, keeping, left_at, ordered_reads, reads_listed, refreshed_at, replaces, right_refreshed, same_there, sound_set, view_there, views_kept, views_take}

@@ -1,8 +1,8 @@
 use Rattle.std.proofs.Common.{◌≡◌, sym, subst, ap, is_some, map, ◌∙◌, false}
 use Rattle.dv_views.specs.Forms.{AreFounded, heights}
-use Rattle.dv_views.specs.Older.{is_called, views}
-use Rattle.dv_views.specs.Seen.{HaveHeights}
-use Rattle.dv_views.specs.Views.{AreOverLive, Views, view_form, no_distance, reads_name, views_without}
+use Rattle.dv_views.specs.Inner.Older.{is_called, views}
+use Rattle.dv_views.specs.Inner.Seen.{HaveHeights}
+use Rattle.dv_views.specs.Inner.Views.{AreOverLive, Views, view_form, no_distance, reads_name, views_without}
 use Rattle.dv_views.proofs.Entries.{named_apart, taken_out, there}
 use Rattle.dv_views.proofs.Removing.{founded_without, heights_removed, live_without}
 use Rattle.dv_views.proofs.WellKept.{AreWellKept, kept_removed}

@@ -4,12 +4,12 @@ use Rattle.std.specs.Option.{option_and_then}
 use Rattle.dv_change.specs.Changes.{forget}
 use Rattle.dv_coll.specs.Collection.{HasId}
 use Rattle.dv_pipe.specs.Stages.{evaluated}
-use Rattle.dv_views.specs.ById.{AreAtIds}
+use Rattle.dv_views.specs.Inner.ById.{AreAtIds}
 use Rattle.dv_views.specs.Forms.{places_over, rows_over}
-use Rattle.dv_views.specs.Older.{place_of_name, views}
+use Rattle.dv_views.specs.Inner.Older.{place_of_name, views}
 use Rattle.dv_views.specs.Placed.{list_places}
-use Rattle.dv_views.specs.Seen.{view_seen}
-use Rattle.dv_views.specs.Views.{AreRight, Views, kept_rows, view_form, view_under}
+use Rattle.dv_views.specs.Inner.Seen.{view_seen}
+use Rattle.dv_views.specs.Inner.Views.{AreRight, Views, kept_rows, view_form, view_under}
 use Rattle.dv_views.proofs.Based.{entries_at_ids, entries_positioned, right_at}
 use Rattle.dv_views.proofs.Before.{place_within, view_before}
 use Rattle.dv_views.proofs.ById.{positioned_at_ids}

@@ -1,10 +1,10 @@
 use Rattle.std.proofs.Common.{◌<◌, List, subst, sym, ap, length, map, ◌∙◌, arith}
 use Rattle.dv_views.specs.Flow.{told_at}
 use Rattle.dv_views.specs.Forms.{ViewForm, heights}
-use Rattle.dv_views.specs.Older.{views}
-use Rattle.dv_views.specs.Seen.{HaveHeights, IsSoundRegistry}
-use Rattle.dv_views.specs.Turned.{HaveTaken}
-use Rattle.dv_views.specs.Views.{Views, view_form}
+use Rattle.dv_views.specs.Inner.Older.{views}
+use Rattle.dv_views.specs.Inner.Seen.{HaveHeights, IsSoundRegistry}
+use Rattle.dv_views.specs.Inner.Turned.{HaveTaken}
+use Rattle.dv_views.specs.Inner.Views.{Views, view_form}
 use Rattle.dv_views.proofs.OneBehind.{forms_after, founded_after, over_after}
 use Rattle.dv_views.proofs.Heights.{heights_written}
 use Rattle.dv_views.proofs.Marked.{all_taken, apart_written, kept_there, length_written, taken_next}

@@ -3,9 +3,9 @@ use Rattle.std.proofs.Common.{◌≡◌, ◌≤◌, length, map}
 use Rattle.indexmap.specs.IndexMap.{index_map_len}
 use Rattle.dv_views.specs.Flow.{told_at}
 use Rattle.dv_views.specs.Forms.{heights}
-use Rattle.dv_views.specs.Older.{views}
-use Rattle.dv_views.specs.Seen.{HaveHeights}
-use Rattle.dv_views.specs.Views.{AreNamedApart, view_form, no_distance}
+use Rattle.dv_views.specs.Inner.Older.{views}
+use Rattle.dv_views.specs.Inner.Seen.{HaveHeights}
+use Rattle.dv_views.specs.Inner.Views.{AreNamedApart, view_form, no_distance}
 use Rattle.dv_views.proofs.Marked.{HaveFirst}
 use Rattle.dv_views.proofs.WellKept.{AreWellKept}
 use Rattle.dv_views.proofs.registry.Registry.take.Given as goal

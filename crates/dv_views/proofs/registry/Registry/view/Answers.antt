@@ -1,6 +1,6 @@
 use Rattle.std.proofs.Common.{ap, ◌∙◌}
 use Rattle.std.specs.Option.{option_map}
-use Rattle.dv_views.specs.Seen.{view_seen}
+use Rattle.dv_views.specs.Inner.Seen.{view_seen}
 use Rattle.dv_views.proofs.Entries.{copied, found_seen}
 use Rattle.dv_views.proofs.registry.Registry.view.Goals as goal
 

@@ -3,7 +3,7 @@ use Rattle.std.proofs.Common.{◌≡◌, ◌+◌, length, subst, sym}
 use Rattle.std.specs.Prelude.{OnOk}
 use Rattle.dv_change.specs.Raised.{raised}
 use Rattle.dv_change.specs.Work.{owed_by}
-use Rattle.dv_views.specs.Turning.{turner_left, turner_makes, turner_others}
+use Rattle.dv_views.specs.Inner.Turning.{turner_left, turner_makes, turner_others}
 use Rattle.dv_views.specs.declared.turner.Turner.{Turner}
 use Rattle.dv_views.specs.declared.turner.Turner.TheVariants.{Simple, Lookup}
 use Rattle.dv_views.proofs.turner.TurnerTurn.change.Goals as goal

@@ -1,0 +1,21 @@
+-- Definitions and lemmas that need not be believed: invariants, codings, and words of bodies and proofs.
+pub mod Told
+pub mod StateCode
+pub mod View
+pub mod ScanParts
+pub mod Parts
+pub mod IndexParts
+pub mod ComingParts
+pub mod Equalities
+pub mod Asked
+pub mod EffectView
+pub mod RowsView
+pub mod SearchedView
+pub mod StatsView
+pub mod SourceParts
+pub mod Fronts
+pub mod Behind
+pub mod CatalogParts
+pub mod StateLaws
+pub mod ScanLaws
+pub mod EffectLaws

@@ -1,0 +1,20 @@
+-- Definitions and lemmas that need not be believed: invariants, codings, and words of bodies and proofs.
+pub mod PositionLaws
+pub mod PartCodes
+pub mod Places
+pub mod PlaceLaws
+pub mod Lents
+pub mod Changes
+pub mod Beginning
+pub mod DiffLaws
+pub mod Answered
+pub mod Ordered
+pub mod RowLaws
+pub mod Work
+pub mod Telling
+pub mod Told
+pub mod ToldLaws
+pub mod Fed
+pub mod Linked
+pub mod OrderedView
+pub mod Examples

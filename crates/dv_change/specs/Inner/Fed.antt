@@ -1,0 +1,89 @@
+-- Changes that operators take in, one operator behind the other.
+use Rattle.std.specs.Prelude.{◌≡◌, ◌≤◌, ◌+◌, ℕ, List, [], ◌∷◌, ◌++◌, ◌-◌, length, nat_lt, if◌then◌else◌, ⊤}
+use Rattle.std.specs.List.{AllByRecursion}
+use Rattle.dv_change.specs.declared.change.Change.{Change}
+use Rattle.dv_change.specs.declared.input.Input.{Input}
+use Rattle.dv_change.specs.declared.input.Input.TheVariants.{Left, Named}
+use Rattle.dv_change.specs.declared.taking.Taken.{Taken}
+use Rattle.dv_change.specs.Changes.{Positioned, with_changes}
+use Rattle.dv_change.specs.Inner.Changes.{IsExactChange}
+use Rattle.dv_change.specs.Inputs.{left_after}
+use Rattle.dv_change.specs.Raised.{raised}
+use Rattle.dv_change.specs.Inner.Told.{list_at, told_along, with_old}
+use Rattle.dv_change.specs.Work.{Form, handed, pass, pass_in, stage_rows, through_forms, work, work_in}
+use Rattle.dv_change.specs.Inner.Work.{HasAny, forms_after}
+
+-- an operator that makes rows of rows has taken in its first ones, by changes that put them in; what it tells leads to what it makes
+pub record IsFilled (makes : Positioned → Positioned) (holds : Positioned → Type 0) (changes : List Change) (made : List Taken) : Type 0 where
+  pub held : holds (with_changes [] changes)
+  pub outs : List Change
+  pub exact : AllByRecursion IsExactChange outs
+  pub told : made ≡ told_along [] outs
+  pub leads : with_changes [] outs ≡ makes (with_changes [] changes)
+
+-- it has taken in changes of its rows
+pub record IsFed (makes : Positioned → Positioned) (holds : Positioned → Type 0) (left : Positioned) (changes : List Change) (before now : List Taken) (first after : ℕ) : Type 0 where
+  pub held : holds (with_changes left changes)
+  pub out : now ≡ before ++ told_along (makes left) (handed makes left changes)
+  pub ticks : after ≡ raised first (length changes + length (handed makes left changes))
+
+-- it is about to take in some, and so far all is as it should be
+pub record IsUnderway (makes : Positioned → Positioned) (holds : Positioned → Type 0) (items : List Taken) (left : Positioned) (changes : List Change) (before now : List Taken) (first after : ℕ) : Type 0 where
+  pub rows : Positioned
+  pub rest : List Change
+  pub are : items ≡ told_along rows rest
+  pub exact : AllByRecursion IsExactChange rest
+  pub held : holds rows
+  pub all : with_changes rows rest ≡ with_changes left changes
+  pub out : now ++ told_along (makes rows) (handed makes rows rest) ≡ before ++ told_along (makes left) (handed makes left changes)
+  pub ticks : raised after (length rest + length (handed makes rows rest)) ≡ raised first (length changes + length (handed makes left changes))
+  pub no_fewer : first ≤ after
+
+-- the list at a place, where the lists that stages look into are counted through all of them
+abbrev pub rows_named : ℕ → List Form → Positioned
+rows_named i [] = []
+rows_named i (form ∷ forms) = if nat_lt i (length form.named) then list_at i form.named else rows_named (i - length form.named) forms
+
+abbrev pub rows_in : Input → List Form → Positioned → Positioned
+rows_in Left forms rows = rows
+rows_in (Named i) forms rows = rows_named i forms
+
+-- a change of an input of stages, told with what stood there
+pub record ComesIn (input : Input) (taken : Taken) (change : Change) (forms : List Form) (rows : Positioned) : Type 0 where
+  pub there : HasAny input forms
+  pub told : taken ≡ with_old (rows_in input forms rows) change
+  pub exact : IsExactChange change
+
+-- of operators: what they make of the lists that they look into and of rows, and which of these they have taken in
+module _ {O : Type 0} (makes : O → List Positioned → Positioned → Positioned) (holds : O → List Positioned → Positioned → Type 0) where
+  -- the operators are of these forms; the first one has taken in these rows, each other one what the one before it makes
+  abbrev pub AreHeld : List O → List Form → Positioned → Type 0
+  AreHeld [] [] rows = ⊤
+  AreHeld [] (form ∷ forms) rows = ⊥
+  AreHeld (o ∷ operators) [] rows = ⊥
+  AreHeld (o ∷ operators) (form ∷ forms) rows = (makes o ≡ form.makes) × holds o form.named rows × AreHeld operators forms (stage_rows form rows)
+
+  -- the operators are of these forms, and have taken in no rows
+  abbrev pub AreFresh : List O → List Form → Type 0
+  AreFresh [] [] = ⊤
+  AreFresh [] (form ∷ forms) = ⊥
+  AreFresh (o ∷ operators) [] = ⊥
+  AreFresh (o ∷ operators) (form ∷ forms) = (makes o ≡ form.makes) × holds o form.named [] × AreFresh operators forms
+
+  -- changes went through them
+  pub record IsPassed (operators : List O) (forms : List Form) (rows : Positioned) (changes : List Change) (before now : List Taken) (first after : ℕ) : Type 0 where
+    pub held : AreHeld operators forms (with_changes rows changes)
+    pub out : now ≡ before ++ told_along (through_forms forms rows) (pass forms rows changes)
+    pub ticks : after ≡ raised first (work forms rows changes)
+    pub leads : with_changes (through_forms forms rows) (pass forms rows changes) ≡ through_forms forms (with_changes rows changes)
+
+  -- a change of an input went through them
+  pub record IsPassedIn (input : Input) (change : Change) (operators : List O) (forms : List Form) (rows : Positioned) (before now : List Taken) (first after : ℕ) : Type 0 where
+    pub held : AreHeld operators (forms_after input change forms) (left_after input change rows)
+    pub out : now ≡ before ++ told_along (through_forms forms rows) (pass_in input change forms rows)
+    pub ticks : after ≡ raised first (work_in input change forms rows)
+    pub leads : with_changes (through_forms forms rows) (pass_in input change forms rows) ≡ through_forms (forms_after input change forms) (left_after input change rows)
+
+  -- and these rows come out of the last one
+  abbrev pub HasMade : List O → Positioned → List Form → Positioned → Type 0
+  HasMade operators out forms rows = AreHeld operators forms rows × (out ≡ through_forms forms rows)

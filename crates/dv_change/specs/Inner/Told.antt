@@ -1,0 +1,71 @@
+-- Changes that tell what stood at their positions.
+use Rattle.std.specs.Prelude.{◌≡◌, ℕ, zero, suc, List, [], ◌∷◌, ◌++◌, Option, None, Some, map}
+use Rattle.std.specs.List.{AllByRecursion, filter}
+use Rattle.dv_value.specs.Tree.{Field}
+use Rattle.dv_change.specs.declared.change.Change.{Change}
+use Rattle.dv_change.specs.declared.change.Change.TheVariants.{Put, Gone}
+use Rattle.dv_change.specs.declared.input.Input.{Input}
+use Rattle.dv_change.specs.declared.input.Input.TheVariants.{Left, Named}
+use Rattle.dv_change.specs.declared.taking.Taken.{Taken}
+use Rattle.dv_change.specs.Changes.{Positioned, at, with_change}
+use Rattle.dv_change.specs.Inner.Changes.{IsExactChange, IsPositioned, position_changed, row_in}
+use Rattle.dv_change.specs.Inner.DiffLaws.{row_differs, went}
+use Rattle.dv_change.specs.Inputs.{HasInput}
+use Rattle.dv_change.specs.Positions.{PosTree}
+
+-- a change of rows, with the row that stood at its position
+abbrev pub with_old : Positioned → Change → Taken
+with_old rows change = record { pos = position_changed change; old = at (position_changed change) rows; new = row_in change }
+
+-- changes of rows, one after the other, each with the row that stood at its position
+abbrev pub told_along : Positioned → List Change → List Taken
+told_along rows [] = []
+told_along rows (change ∷ changes) = with_old rows change ∷ told_along (with_change rows change) changes
+
+-- the change that is told
+abbrev pub change_to : PosTree → Option (List Field) → Change
+change_to pos None = Gone pos
+change_to pos (Some row) = Put pos row
+
+abbrev pub change_told : Taken → Change
+change_told taken = change_to taken.pos taken.new
+
+abbrev pub changes_told : List Taken → List Change
+changes_told all = map change_told all
+
+-- the rows of one list that go, and those of another one that come, each with what stood at its position
+abbrev pub gone_told : PosTree × List Field → Taken
+gone_told e = record { pos = e.0; old = Some e.1; new = None }
+
+abbrev pub put_told : Positioned → PosTree × List Field → Taken
+put_told old e = record { pos = e.0; old = at e.0 old; new = Some e.1 }
+
+abbrev pub gones_told : Positioned → Positioned → List Taken
+gones_told old new = map gone_told (filter (went new) old)
+
+abbrev pub puts_told : Positioned → Positioned → List Taken
+puts_told old new = map (put_told old) (filter (row_differs old) new)
+
+abbrev pub diff_told : Positioned → Positioned → List Taken
+diff_told old new = gones_told old new ++ puts_told old new
+
+-- the list of an input
+abbrev pub list_at : ℕ → List Positioned → Positioned
+list_at i [] = []
+list_at zero (rows ∷ others) = rows
+list_at (suc i) (rows ∷ others) = list_at i others
+
+abbrev pub input_rows : Input → List Positioned → Positioned → Positioned
+input_rows Left others left = left
+input_rows (Named i) others left = list_at i others
+
+-- a change of an input, told with what stood there
+pub record ComesTo (input : Input) (taken : Taken) (change : Change) (others : List Positioned) (left : Positioned) : Type 0 where
+  pub there : HasInput input others
+  pub told : taken ≡ with_old (input_rows input others left) change
+  pub exact : IsExactChange change
+
+-- where there are no lists, all are positioned
+pub no_lists : (others : List Positioned) → others ≡ [] → AllByRecursion (λ rows. IsPositioned rows) others
+no_lists [] none = tt
+no_lists (rows ∷ others) none = absurd cc

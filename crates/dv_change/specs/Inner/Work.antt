@@ -1,0 +1,26 @@
+-- Of `Work`, what only bodies and proofs need.
+use Rattle.std.specs.Prelude.{ℕ, ◌+◌, ◌-◌, List, [], ◌∷◌, ◌++◌, length, if◌then◌else◌, nat_lt, ◌<◌, ⊤}
+use Rattle.dv_change.specs.declared.change.Change.{Change}
+use Rattle.dv_change.specs.declared.input.Input.{Input}
+use Rattle.dv_change.specs.declared.input.Input.TheVariants.{Left, Named}
+use Rattle.dv_change.specs.Inputs.{input_changed_at}
+use Rattle.dv_change.specs.Work.{Form, makes, named}
+
+-- how many lists the stages look into
+abbrev pub named_in : List Form → ℕ
+named_in [] = 0
+named_in (form ∷ forms) = length form.named + named_in forms
+
+-- a list is there for the input
+abbrev pub HasAny : Input → List Form → Type 0
+HasAny Left forms = ⊤
+HasAny (Named i) forms = i < named_in forms
+
+abbrev pub forms_named : ℕ → Change → List Form → List Form
+forms_named i change [] = []
+forms_named i change (form ∷ forms) = if nat_lt i (length form.named) then record { makes = form.makes; named = input_changed_at i change form.named } ∷ forms else form ∷ forms_named (i - length form.named) change forms
+
+-- the stages, after a change of an input
+abbrev pub forms_after : Input → Change → List Form → List Form
+forms_after Left change forms = forms
+forms_after (Named i) change forms = forms_named i change forms

@@ -1,0 +1,5 @@
+-- Definitions and lemmas that need not be believed: invariants, codings, and words of bodies and proofs.
+pub mod Needed
+pub mod Sound
+pub mod View
+pub mod ListsView

@@ -1,0 +1,24 @@
+-- A stage that makes its rows of each row by itself: what it has taken in.
+use Rattle.std.specs.Prelude.{◌≡◌, List, [], map}
+use Rattle.dv_change.specs.Changes.{Positioned}
+use Rattle.dv_change.specs.Inner.Changes.{IsPositioned}
+use Rattle.dv_flow.specs.declared.by_row.RowOperator.{RowOperator}
+use Rattle.dv_flow.specs.declared.row_turn.RowTurn.{RowTurn}
+
+module _ {S : Type 0} where
+  -- the operator keeps no row: it may have taken in any at exact positions, in their order, and no list
+  pub record HoldsRows (o : RowOperator S) (others : List Positioned) (left : Positioned) : Type 0 where
+    pub positioned : IsPositioned left
+    pub none : others ≡ []
+
+  -- the stage of a turn
+  abbrev pub rows_stage : RowTurn S → S
+  rows_stage t = t.keeping.operator.stage
+
+  -- the rows that it has taken in
+  abbrev pub rows_left : RowTurn S → Positioned
+  rows_left t = t.keeping.rows.entries
+
+  -- they stand at exact positions, in their order
+  abbrev pub IsSoundRows : RowTurn S → Type 0
+  IsSoundRows t = HoldsRows t.keeping.operator (map (λ m. m.entries) t.keeping.lists.items) (rows_left t)

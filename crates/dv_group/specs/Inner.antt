@@ -1,0 +1,8 @@
+-- Definitions and lemmas that need not be believed: invariants, codings, and words of bodies and proofs.
+pub mod Members
+pub mod Held
+pub mod Turned
+pub mod Grouped
+pub mod Running
+pub mod RunningView
+pub mod Room

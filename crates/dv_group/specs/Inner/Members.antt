@@ -1,0 +1,139 @@
+-- Rows by their keys, and the rows of the groups of some keys: words of bodies.
+use Rattle.std.specs.Prelude.{◌≡◌, Bool, false, List, [], ◌∷◌, Option, Some, None, cond, filter, fold, ⊤}
+use Rattle.std.specs.List.{AllByRecursion}
+use Rattle.std.specs.Option.{option_map}
+use Rattle.std.specs.Ordering.{is_eq}
+use Rattle.std.specs.Map.{lookup}
+use Rattle.std.specs.BTreeMap.{is_at}
+use Rattle.dv_order.specs.Order.{canon}
+use Rattle.dv_order.specs.Key.{KeyTree, key_order, value}
+use Rattle.dv_row.specs.Row.{Row}
+use Rattle.dv_change.specs.declared.position.Part.TheVariants.{Up}
+use Rattle.dv_change.specs.declared.taking.Taken.{Taken}
+use Rattle.dv_change.specs.Changes.{Positioned, forget}
+use Rattle.dv_change.specs.Inner.Ordered.{gone, put}
+use Rattle.dv_change.specs.Positions.{PosTree}
+use Rattle.dv_gather.specs.Grouping.{Grouping, key_in, row_shown}
+use Rattle.dv_group.specs.declared.kept.Kept.{Kept}
+use Rattle.dv_group.specs.declared.shift.Shift.{Shift}
+use Rattle.dv_group.specs.declared.shift.Shifts.{Shifts}
+use Rattle.dv_group.specs.declared.shift.Telling.{Telling}
+use Rattle.dv_group.specs.declared.shift.Telling.TheVariants.{Told, Untold}
+use Rattle.dv_group.specs.Inner.Room.{IsBundle}
+
+-- the key of a row
+abbrev pub row_key : Grouping → Row → KeyTree
+row_key g d = value (canon (key_in g d))
+
+-- whether a row has a key
+abbrev pub row_has_key : Grouping → KeyTree → Row → Bool
+row_has_key g k d = is_eq (key_order k (row_key g d))
+
+-- the rows that have a key
+abbrev pub rows_with : Grouping → KeyTree → Positioned → Positioned
+rows_with g k rows = filter (λ e. row_has_key g k e.1) rows
+
+-- groups under keys
+abbrev pub KeptGroups : Type 0
+KeptGroups = List (KeyTree × Kept)
+
+-- the rows of a group, where there is one
+abbrev pub rows_in : Option Kept → Positioned
+rows_in None = []
+rows_in (Some kept) = kept.bundle.members
+
+-- the rows under a key
+abbrev pub group_members : KeyTree → KeptGroups → Positioned
+group_members k es = rows_in (lookup (is_at (key_order k)) es)
+
+-- a row that is made is that of these rows
+abbrev pub IsRowOf : Grouping → Positioned → Option Row → Type 0
+IsRowOf g rows None = ⊤
+IsRowOf g rows (Some row) = Some row ≡ row_shown g (forget rows)
+
+-- a group is sound, and so is its row
+pub record IsKept (g : Grouping) (kept : Kept) : Type 0 where
+  pub bundle : IsBundle g.fields kept.bundle
+  pub row : IsRowOf g kept.bundle.members kept.row
+
+-- each group is sound
+abbrev pub AreBundles : Grouping → KeptGroups → Type 0
+AreBundles g es = AllByRecursion (λ e. IsKept g e.1) es
+
+-- under each key stand the rows that have it
+abbrev pub AreMembers : Grouping → (KeyTree → Positioned) → Positioned → Type 0
+AreMembers g under rows = (k : KeyTree) → under k ≡ rows_with g k rows
+
+-- whether there is a key, and it is equal to k
+abbrev pub is_key : KeyTree → Option KeyTree → Bool
+is_key k None = false
+is_key k (Some l) = is_eq (key_order k l)
+
+-- whether there are two keys, and they are equal
+abbrev pub are_one : Option KeyTree → Option KeyTree → Bool
+are_one None other = false
+are_one (Some k) other = is_key k other
+
+-- rows with one more, where there is one
+abbrev pub put_some : PosTree → Option Row → Positioned → Positioned
+put_some pos None rows = rows
+put_some pos (Some d) rows = put pos d rows
+
+-- rows with this one at a position, or with none there
+abbrev pub set_at : PosTree → Option Row → Positioned → Positioned
+set_at pos None rows = gone pos rows
+set_at pos (Some d) rows = put pos d rows
+
+-- rows with that of the group of a key, where there is a key and the group has rows; under keys stand these
+abbrev pub with_shown : Grouping → (KeyTree → Positioned) → Option KeyTree → Positioned → Positioned
+with_shown g under None rows = rows
+with_shown g under (Some k) rows = put_some (Up k ∷ []) (row_shown g (forget (under k))) rows
+
+-- the rows of the groups of two keys
+abbrev pub shown_of : Grouping → (KeyTree → Positioned) → Option KeyTree → Option KeyTree → Positioned
+shown_of g under key other = with_shown g under other (with_shown g under key [])
+
+-- what stands under k, where a row goes from a position under one key, and one comes to it under another
+abbrev pub moved : PosTree → Option KeyTree → Option KeyTree → Option Row → KeyTree → Positioned → Positioned
+moved pos key other new k rows = cond (is_key k other) (set_at pos new (cond (is_key k key) (gone pos rows) rows)) (cond (is_key k key) (gone pos rows) rows)
+
+-- the key of a row, where there is one
+abbrev pub own_key : Grouping → Option Row → Option KeyTree
+own_key g row = option_map (row_key g) row
+
+-- what stands under k after a change that is told, and after some, one after the other
+abbrev pub moved_as : Grouping → KeyTree → Positioned → Taken → Positioned
+moved_as g k rows taken = moved taken.pos (own_key g taken.old) (own_key g taken.new) taken.new k rows
+
+abbrev pub moved_all : Grouping → KeyTree → Positioned → List Taken → Positioned
+moved_all g k rows all = fold (moved_as g k) rows all
+
+-- the rows of the groups of which a change that is told takes a row, or gives one to
+abbrev pub shown_as : Grouping → KeptGroups → Taken → Positioned
+shown_as g es taken = shown_of g (λ k. group_members k es) (own_key g taken.old) (own_key g taken.new)
+
+-- ---- the rows of groups before a change and after it
+
+-- the row of a group of these rows, where it is told
+abbrev pub IsTold : Telling → Grouping → Positioned → Option Row → Type 0
+IsTold Untold g rows row = row ≡ None
+IsTold (Told lender) g rows row = row ≡ row_shown g (forget rows)
+
+-- the rows of a group before a change of its rows, and after it
+abbrev pub IsShift : Telling → Grouping → Positioned → Positioned → Shift → Type 0
+IsShift telling g was now shift = IsTold telling g was shift.before × IsTold telling g now shift.after
+
+-- the same of the group of a key, where there is a key
+abbrev pub IsShiftAt : Telling → Grouping → (KeyTree → Positioned) → (KeyTree → Positioned) → Option KeyTree → Shift → Type 0
+IsShiftAt telling g was now None shift = ⊤
+IsShiftAt telling g was now (Some k) shift = IsShift telling g (was k) (now k) shift
+
+-- rows with the one of a key, where there are both
+abbrev pub with_row : Option KeyTree → Option Row → Positioned → Positioned
+with_row None row rows = rows
+with_row (Some k) row rows = put_some (Up k ∷ []) row rows
+
+-- the rows of the groups of two keys before a change and after it, where they are told
+abbrev pub AreShifts : Telling → Grouping → (KeyTree → Positioned) → (KeyTree → Positioned) → Option KeyTree → Option KeyTree → Shifts → Type 0
+AreShifts Untold g was now key other shifts = ⊤
+AreShifts (Told lender) g was now key other shifts = (shifts.before ≡ shown_of g was key other) × (shifts.after ≡ shown_of g now key other)

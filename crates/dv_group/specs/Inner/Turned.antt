@@ -1,0 +1,19 @@
+-- $group, kept by changes: what it has taken in.
+use Rattle.std.specs.Prelude.{map}
+use Rattle.dv_change.specs.Changes.{Positioned}
+use Rattle.dv_gather.specs.Grouping.{Grouping}
+use Rattle.dv_group.specs.Inner.Held.{HoldsGroups}
+use Rattle.dv_group.specs.Inner.Members.{AreBundles}
+use Rattle.dv_group.specs.declared.group_turn.GroupTurn.{GroupTurn}
+
+-- what it groups by, and what it tells of each group
+abbrev pub grouping_of : GroupTurn → Grouping
+grouping_of t = t.keeping.operator.group
+
+-- the rows that it has taken in
+abbrev pub rows_left : GroupTurn → Positioned
+rows_left t = t.keeping.rows.entries
+
+-- its rows stand at exact positions, in their order, each group has those with its key, and what has come of their values
+abbrev pub IsSoundGroups : GroupTurn → Type 0
+IsSoundGroups t = AreBundles (grouping_of t) t.keeping.operator.groups.entries × HoldsGroups t.keeping.operator (map (λ m. m.entries) t.keeping.lists.items) (rows_left t)

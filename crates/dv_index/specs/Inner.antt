@@ -1,0 +1,9 @@
+-- Definitions and lemmas that need not be believed: invariants, codings, and words of bodies and proofs.
+pub mod Through
+pub mod Search
+pub mod InDirection
+pub mod Ahead
+pub mod View
+pub mod Indexed
+pub mod Change
+pub mod Examples

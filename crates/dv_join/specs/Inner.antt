@@ -1,0 +1,7 @@
+-- Definitions and lemmas that need not be believed: invariants, codings, and words of bodies and proofs.
+pub mod Placed
+pub mod Indexed
+pub mod Turning
+pub mod Listed
+pub mod Bounds
+pub mod Copied

@@ -1,0 +1,11 @@
+-- Definitions and lemmas that need not be believed: invariants, codings, and words of bodies and proofs.
+pub mod Keys
+pub mod Pairs
+pub mod Ids
+pub mod Index
+pub mod Within
+pub mod View
+pub mod Ends
+pub mod Ahead
+pub mod Interval
+pub mod Examples

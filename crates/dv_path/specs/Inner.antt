@@ -1,0 +1,5 @@
+-- Definitions and lemmas that need not be believed: invariants, codings, and words of bodies and proofs.
+pub mod GatheredKeys
+pub mod Apart
+pub mod Groups
+pub mod GroupView

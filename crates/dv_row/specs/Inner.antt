@@ -1,0 +1,17 @@
+-- Definitions and lemmas that need not be believed: invariants, codings, and words of bodies and proofs.
+pub mod AskedView
+pub mod Conflicts
+pub mod Crossings
+pub mod EachLaws
+pub mod Examples
+pub mod ExpressionCode
+pub mod ExpressionFalls
+pub mod ExpressionView
+pub mod Fault
+pub mod RowValueView
+pub mod Shown
+pub mod Turns
+pub mod UnwoundRows
+pub mod Valid
+pub mod ValidRows
+pub mod Ways

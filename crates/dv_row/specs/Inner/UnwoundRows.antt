@@ -1,0 +1,13 @@
+-- The rows of an $unwind by what they are made of.
+use Rattle.std.specs.Prelude.{List, [], ◌∷◌, map, Some, None}
+use Rattle.dv_value.specs.View.{tree}
+use Rattle.dv_row.specs.Inner.Crossings.{set_on_way}
+use Rattle.dv_row.specs.declared.unwound_rows.Origin.{Origin}
+use Rattle.dv_row.specs.declared.unwound_rows.Origin.TheVariants.{Nothing, Itself, Emptied, Elements}
+use Rattle.dv_row.specs.Row.{Row}
+
+abbrev pub rows_of_origin : Origin → List Row
+rows_of_origin Nothing = []
+rows_of_origin (Itself row) = row.now ∷ []
+rows_of_origin (Emptied way) = set_on_way way None ∷ []
+rows_of_origin (Elements way elements) = map (λ v. set_on_way way (Some (tree v))) elements.now

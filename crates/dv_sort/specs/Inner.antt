@@ -1,0 +1,4 @@
+-- Definitions and lemmas that need not be believed: invariants, codings, and words of bodies and proofs.
+pub mod Front
+pub mod Keys
+pub mod Bar

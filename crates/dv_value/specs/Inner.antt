@@ -1,0 +1,10 @@
+-- Definitions and lemmas that need not be believed: invariants, codings, and words of bodies and proofs.
+pub mod Tree
+pub mod TreeCode
+pub mod ViewFalls
+pub mod Kept
+pub mod Places
+pub mod Spelled
+pub mod Weight
+pub mod Put
+pub mod Removing

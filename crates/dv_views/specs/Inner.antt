@@ -1,0 +1,21 @@
+-- Definitions and lemmas that need not be believed: invariants, codings, and words of bodies and proofs.
+pub mod ById
+pub mod Views
+pub mod Changed
+pub mod Counted
+pub mod Made
+pub mod Examples
+pub mod Fault
+pub mod Code
+pub mod Body
+pub mod Turning
+pub mod Turned
+pub mod Older
+pub mod Ground
+pub mod Passing
+pub mod Filled
+pub mod Keeping
+pub mod Seen
+pub mod Based
+pub mod MarkView
+pub mod Inside

@@ -1,0 +1,70 @@
+-- Views as ghost values, one to one: so a proof can tell two of them apart.
+use Rattle.std.specs.Prelude.{◌≡◌, ℕ, List, Option, Some, None, refl}
+use Rattle.std.specs.Coded.{Coded, coded_ℕ, coded_list, coded_option, coded×, code_by}
+use Rattle.dv_value.specs.Inner.TreeCode.{coded_tree}
+use Rattle.dv_pipe.specs.Sources.{Row}
+use Rattle.dv_pipe.specs.contracts.pipeline.Pipeline as pipelines
+use Rattle.dv_pipe.specs.declared.stage.Stage.{Stage}
+use Rattle.dv_change.specs.contracts.position.Pos as positions
+use Rattle.dv_change.specs.declared.change.Change.{Change}
+use Rattle.dv_change.specs.declared.change.Change.TheVariants.{Gone, Put}
+use Rattle.dv_change.specs.Changes.{Positioned}
+use Rattle.dv_change.specs.Inner.Changes.{position_changed, row_in}
+use Rattle.dv_change.specs.Positions.{PosTree}
+use Rattle.dv_views.specs.Inner.Body.{Body}
+use Rattle.dv_views.specs.Views.{Kept, ViewMark, Taken, View, live, stale}
+use Rattle.dv_views.specs.Inner.Views.{Views}
+
+abbrev pub coded_name : Coded (List ℕ)
+coded_name = coded_list coded_ℕ
+
+abbrev pub coded_view_rows : Coded (List Row)
+coded_view_rows = coded_list (coded_list (coded× coded_name coded_tree))
+
+-- rows at positions
+abbrev pub coded_positioned : Coded Positioned
+coded_positioned = coded_list (coded× positions.the_row.coded (coded_list (coded× coded_name coded_tree)))
+
+abbrev pub coded_taken : Coded Taken
+coded_taken = code_by (Positioned × List Positioned) (coded× coded_positioned (coded_list coded_positioned)) (λ t. (t.left, t.named)) (λ p. record { left = p.0; named = p.1 }) (λ _. refl)
+
+abbrev pub coded_kept : Coded Kept
+coded_kept = code_by (Taken × (List Row × ℕ)) (coded× coded_taken (coded× coded_view_rows coded_ℕ)) (λ k. (k.taken, (k.rows, k.ticks))) (λ p. record { taken = p.0; rows = p.1.0; ticks = p.1.1 }) (λ _. refl)
+
+-- what is kept, if anything is
+abbrev pub mark_of : Option Kept → ViewMark
+mark_of None = stale
+mark_of (Some kept) = live kept
+
+abbrev pub mark_parts : ViewMark → Option Kept
+mark_parts (live kept) = Some kept
+mark_parts stale = None
+
+pub mark-back : (m : ViewMark) → mark_of (mark_parts m) ≡ m
+mark-back (live kept) = refl
+mark-back stale = refl
+
+abbrev pub coded_view_mark : Coded ViewMark
+coded_view_mark = code_by (Option Kept) (coded_option coded_kept) mark_parts mark_of mark-back
+
+abbrev change_of : PosTree × Option Row → Change
+change_of (pos, None) = Gone pos
+change_of (pos, Some row) = Put pos row
+
+pub change-back : (c : Change) → change_of (position_changed c, row_in c) ≡ c
+change-back (Put pos row) = refl
+change-back (Gone pos) = refl
+
+abbrev pub coded_change : Coded Change
+coded_change = code_by (PosTree × Option Row) (coded× positions.the_row.coded (coded_option (coded_list (coded× coded_name coded_tree)))) (λ c. (position_changed c, row_in c)) change_of change-back
+
+abbrev pub coded_body : Coded Body
+coded_body =
+    code_by (List ℕ × (List Stage × (ℕ × (ViewMark × Option (List Change))))) (coded× coded_name (coded× pipelines.the_row.coded (coded× coded_ℕ (coded× coded_view_mark (coded_option (coded_list coded_change))))))
+    (λ b. (b.source, (b.stages, (b.height, (b.mark, b.told))))) (λ p. record { source = p.0; stages = p.1.0; height = p.1.1.0; mark = p.1.1.1.0; told = p.1.1.1.1 }) (λ _. refl)
+
+abbrev pub coded_kept_view : Coded View
+coded_kept_view = code_by (List ℕ × (List ℕ × (List Stage × ViewMark))) (coded× coded_name (coded× coded_name (coded× pipelines.the_row.coded coded_view_mark))) (λ v. (v.name, (v.source, (v.stages, v.mark)))) (λ p. record { name = p.0; source = p.1.0; stages = p.1.1.0; mark = p.1.1.1 }) (λ _. refl)
+
+abbrev pub coded_views : Coded Views
+coded_views = coded_list coded_kept_view

@@ -1,0 +1,36 @@
+-- Views that come, and lists over which they are made.
+use Rattle.std.specs.Prelude.{◌≡◌, ℕ, zero, suc, true, false, List, [], ◌∷◌, ◌++◌, map, Option, Some, None, ⊤}
+use Rattle.dv_pipe.specs.declared.stage.Stage.{Stage}
+use Rattle.dv_pipe.specs.Stages.{Lists}
+use Rattle.dv_views.specs.Forms.{is_name_among, names_read, needed}
+use Rattle.dv_views.specs.Views.{View}
+use Rattle.dv_views.specs.Inner.Views.{AreRefreshed, IsJustMade, IsPartlyRefreshed, Views, view_form, is_stale}
+
+-- lists that hold the same under some names
+abbrev pub AreAlike : List (List ℕ) → Lists → Lists → Type 0
+AreAlike names lists others = (name : List ℕ) → is_name_among name names ≡ true → lists name ≡ others name
+
+-- a view more, which was just made
+pub record IsAdded (name source : List ℕ) (stages : List Stage) (before after : Views) : Type 0 where
+  pub view : View
+  pub form : view_form view ≡ record { name = name; source = source; stages = stages }
+  pub fresh : IsJustMade view.mark
+  pub last : after ≡ before ++ view ∷ []
+
+-- behind the stale ones that it needs were made anew
+pub record IsCreated (name source : List ℕ) (stages : List Stage) (before after : Views) : Type 0 where
+  pub refreshed : Views
+  pub read : AreRefreshed (needed (map view_form before) (names_read stages source)) before refreshed
+  pub added : IsAdded name source stages refreshed after
+
+-- no view, or one that isn't stale
+abbrev pub IsNoStale : Option View → Type 0
+IsNoStale None = ⊤
+IsNoStale (Some v) = is_stale v.mark ≡ false
+
+-- the view at a place is made anew where it is stale and of one of these names, and the others are as they were
+abbrev pub IsRefreshedAt : ℕ → List (List ℕ) → Views → Views → Type 0
+IsRefreshedAt place names [] after = after ≡ []
+IsRefreshedAt place names (v ∷ before) [] = ⊥
+IsRefreshedAt zero names (v ∷ before) (w ∷ after) = IsPartlyRefreshed names v w × (is_name_among v.name names ≡ true → is_stale w.mark ≡ false) × (after ≡ before)
+IsRefreshedAt (suc place) names (v ∷ before) (w ∷ after) = (w ≡ v) × IsRefreshedAt place names before after

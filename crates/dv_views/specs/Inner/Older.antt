@@ -1,0 +1,52 @@
+-- Entries of views, of which some stand before a place: words of bodies.
+use Rattle.std.specs.Prelude.{ℕ, suc, Bool, List, [], ◌∷◌, take, map, Option, None, Some, if◌then◌else◌}
+use Rattle.std.specs.Option.{option_map}
+use Rattle.std.specs.declared.string.String.{String}
+use Rattle.std.specs.String.{string_bytes}
+use Rattle.std.specs.Str.{bytes_eq}
+use Rattle.dv_change.specs.declared.change.Change.{Change}
+use Rattle.dv_views.specs.Inner.Body.{Body}
+use Rattle.dv_views.specs.Flow.{Told, told_at, flow_with_told}
+use Rattle.dv_views.specs.Inner.Seen.{entry_view}
+use Rattle.dv_views.specs.Inner.Views.{Views}
+
+abbrev pub Entries : Type 0 → Type 0
+Entries Y = List (String Y × Body)
+
+-- what a look-up by a name asks of a key
+abbrev pub is_called : {Y : Type 0} → List ℕ → String Y → Bool
+is_called name k = bytes_eq name (string_bytes k)
+
+abbrev pub views : {Y : Type 0} → Entries Y → Views
+views es = map entry_view es
+
+-- the place of the first entry of a name
+abbrev pub place_of_name : {Y : Type 0} → List ℕ → Entries Y → Option ℕ
+place_of_name name [] = None
+place_of_name name (e ∷ es) = if is_called name e.0 then Some 0 else option_map suc (place_of_name name es)
+
+-- the views before a place
+abbrev pub views_before : {Y : Type 0} → ℕ → Entries Y → Views
+views_before place es = views (take place es)
+
+-- what views tell of a change, beside what is told already
+abbrev pub told_over : {Y : Type 0} → Told → Entries Y → Told
+told_over told [] = told
+told_over told (e ∷ es) = told_over (flow_with_told (string_bytes e.0) e.1.told told) es
+
+-- what is told under each name to the view at a place
+abbrev pub told_before : {Y : Type 0} → List ℕ → List Change → ℕ → Entries Y → Told
+told_before namespace changes place es = told_over (told_at namespace changes) (take place es)
+
+-- what the first view of a name tells
+abbrev pub told_named : {Y : Type 0} → List ℕ → Entries Y → Option (Option (List Change))
+told_named name [] = None
+told_named name (e ∷ es) = if is_called name e.0 then Some e.1.told else told_named name es
+
+abbrev pub told_else : Option (Option (List Change)) → Option (List Change) → Option (List Change)
+told_else None other = other
+told_else (Some told) other = told
+
+-- what is told under a name to the view at a place, as it is looked up
+abbrev pub told_found : {Y : Type 0} → List ℕ → List Change → ℕ → Entries Y → Told
+told_found namespace changes place es name = told_else (told_named name (take place es)) (told_at namespace changes name)
