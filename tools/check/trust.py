@@ -29,7 +29,8 @@ class Given:
 
     def __init__(self):
         lines = [line.split() for line in GIVEN.read_text().split("\n") if line and not line.startswith("#")]
-        self.doors = [words[1] for words in lines if words[0] == "door"]
+        self.program = [words[1] for words in lines if words[0] == "program"]
+        self.doors = self.program + [words[1] for words in lines if words[0] == "door"]
         self.examples = {words[1] for words in lines if words[0] == "examples"}
         self.forced = {(Module(*words[1:3]), Module(*words[3:5])) for words in lines if words[0] == "forced"}
 
@@ -40,12 +41,25 @@ class Trust:
     def __init__(self, root=ROOT):
         self.given, self.all = Given(), Everything(root)
         self.causes = {}
-        self.believed = self._believed()
+        self.believed = self._believed(self.given.doors)
+        self.lines = self._lines()
 
-    def _believed(self):
+    def _lines(self):
+        return sum(count(self.parts(file)[0]) for file in self.all.files.values())
+
+    def of_program(self):
+        """How many lines the user of the program alone has to believe."""
+        causes, believed = self.causes, self.believed
+        self.causes = {}
+        self.believed = self._believed(self.given.program)
+        lines = self._lines()
+        self.causes, self.believed = causes, believed
+        return lines
+
+    def _believed(self, doors):
         left = []
         for name in self.all.crates:
-            if name in self.given.doors:
+            if name in doors:
                 for clause in contracts.Crate(self.all.root, name).clauses():
                     left += [(pair, clause) for pair in self.all.named(words_of(clause.text), clause.imports)]
         while left:
@@ -327,14 +341,23 @@ def page(trust):
 WRITTEN = "<!-- tools/check/trust.py --definitions writes this page -->"
 BEGINNING = """# Definitions
 
-This page lists what a user has to believe: the definitions that contracts and laws are written in, in reading order, each with the
-comment above it. All other definitions and lemmas are in folders `Inner`; they are proved, or serve proofs.
+This page lists what a user has to believe: the definitions that contracts and laws are written in, by crate and file, in reading
+order, each with the comment above it. Each file names the part of the public standard that it restates. All other definitions and
+lemmas are in folders `Inner`: they are proved, or serve only proofs.
+
+The definitions know lists of bytes, trees of values and lists of documents. They know no buffer and no allocator. Three words take
+a change or an outcome as the code has it (`with_field_changed`, `with_field_changed_in`, `outcome_seen`); no theorem on commands or
+bytes mentions them. Positions and changes say what an operator owes and counts. So they appear in what marks count, and in
+`AreRight`, which says that live views have their rows. A definition that reads a form gives it, or the first fault in written order.
+
+A file `View` says what types in memory represent. `Gives` in a crate says that a call returns what is defined, or that memory ran
+out; so does `UnlessWanting` of a refusal, `Leaves` of a state, and `Makes` of a statement.
 """
 
 
 def definitions(trust):
     """The text of docs/DEFINITIONS.md."""
-    lines = [BEGINNING]
+    lines = [re.sub(r"(?<=\S)\n(?=\S)", " ", BEGINNING)]
     for crate, modules in trust.all.listed.items():
         parts = [part for part in (definitions_of(trust, module) for module in modules if not trust.all.files[module].is_inner) if part]
         if parts:
@@ -354,12 +377,17 @@ def definitions_of(trust, module):
     silent = []
     for item in items:
         if item.comment:
-            lines.append("- %s: %s." % (", ".join("`%s`" % name for name in item.heads), item.comment.rstrip(".")))
+            lines.append("- %s: %s." % (", ".join("`%s`" % name for name in item.heads), small(item.comment.rstrip("."))))
         else:
             silent += item.heads
     if silent:
         lines.append("- %s" % ", ".join("`%s`" % name for name in silent))
     return "\n".join(lines) + "\n"
+
+
+def small(text):
+    """A sentence as it stands behind a colon."""
+    return text if text[1:2].isupper() else text[:1].lower() + text[1:]
 
 
 def show(trust):
@@ -379,9 +407,8 @@ def show(trust):
         print("%-16s %6d %6d %6d %6d" % (crate, row["files", 0], row["lines", 0], row["files", 1], row["lines", 1]))
         for key, number in row.items():
             total[key] += number
-    believed = [item for file in everything.files.values() for item in trust.parts(file)[0]]
     print("%-16s %6d %6d %6d %6d" % ("all", total["files", 0], total["lines", 0], total["files", 1], total["lines", 1]))
-    print("to believe: %d lines of definitions, with their comments and without imports" % count(believed))
+    print("to believe: %d lines of definitions, with their comments and without imports; %d for the program alone" % (trust.lines, trust.of_program()))
     for module, kind in plan.kinds.items():
         if kind == "split":
             outer, inner = trust.parts(everything.files[module])
