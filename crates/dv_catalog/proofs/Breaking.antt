@@ -3,7 +3,7 @@ use Rattle.std.proofs.Common.{◌≡◌, ◌||◌, ◌&&◌, Bool, true, false, 
 use Rattle.std.specs.List.{list_any}
 use Rattle.dv_value.specs.Tree.{Field}
 use Rattle.dv_coll.specs.Collection.{found, id_key, removed}
-use Rattle.dv_fields.specs.declared.refusal.Refusal.TheVariants.{DuplicateKey}
+use Rattle.dv_refusal.specs.declared.refusal.Refusal.TheVariants.{DuplicateKey}
 use Rattle.dv_keyed.specs.Index.{IndexForm}
 use Rattle.dv_index.specs.Unique.{clashes, is_key_taken, replacing_clashes}
 use Rattle.dv_order.specs.Key.{KeyTree}

@@ -13,15 +13,15 @@ use Rattle.std.specs.declared.string.String.{String}
 use Rattle.std.specs.String.{string_bytes, string_cmp}
 use Rattle.dv_value.specs.Tree.{Field}
 use Rattle.dv_catalog.specs.Inner.StateLaws.{same_namespaces, get-insert, get-remove}
-use Rattle.dv_fields.specs.declared.refusal.Refusal.{Refusal}
-use Rattle.dv_fields.specs.declared.refusal.Refusal.TheVariants.{WantOfMemory}
+use Rattle.dv_refusal.specs.declared.refusal.Refusal.{Refusal}
+use Rattle.dv_refusal.specs.declared.refusal.Refusal.TheVariants.{WantOfMemory}
 use Rattle.dv_catalog.specs.Changes.{Change, Effect, apply, done_to, put, with_changes, with_put}
 use Rattle.dv_catalog.specs.Effects.{put_new}
 use Rattle.dv_catalog.specs.State.{Collection, Standing, Namespaces, collection_at, collection_of, with_documents}
 use Rattle.dv_index.specs.Indexed.{empty_indexed}
 use Rattle.dv_catalog.specs.Inner.View.{standing_seen, standing_by_namespace}
 use Rattle.dv_catalog.specs.Inner.Parts.{Makes, one_changed}
-use Rattle.dv_catalog.specs.declared.stopped.Stopped.{Stopped}
+use Rattle.dv_catalog.specs.declared.failure.Stopped.{Stopped}
 use Rattle.dv_catalog.proofs.Stopping.{stops_before}
 
 seen-updated : (b : Bool) (c : Collection) (before : Option Collection) → option_map standing_seen (cond b (Some c) before) ≡ cond b (Some (standing_seen c)) (option_map standing_seen before)

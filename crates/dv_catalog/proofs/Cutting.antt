@@ -1,9 +1,9 @@
 -- Statements that are cut.
 use Rattle.std.proofs.Common.{◌≡◌, ◌≤◌, ◌⊎◌, inl, inr, ℕ, List, [], length, map, take, Result, Err, refl, sym, ap, subst, ◌∙◌}
-use Rattle.dv_fields.specs.declared.refusal.Refusal.{Refusal}
-use Rattle.dv_fields.specs.declared.refusal.Refusal.TheVariants.{WantOfMemory}
-use Rattle.dv_catalog.specs.declared.counted.Counted.{Counted}
-use Rattle.dv_catalog.specs.declared.stopped.Stopped.{Stopped}
+use Rattle.dv_refusal.specs.declared.refusal.Refusal.{Refusal}
+use Rattle.dv_refusal.specs.declared.refusal.Refusal.TheVariants.{WantOfMemory}
+use Rattle.dv_catalog.specs.declared.counts.Counted.{Counted}
+use Rattle.dv_catalog.specs.declared.failure.Stopped.{Stopped}
 use Rattle.dv_catalog.specs.Changes.{Change, Effect, Statement, apply, changes_of, done_to}
 use Rattle.dv_catalog.specs.Inner.EffectView.{AreFirst}
 use Rattle.dv_catalog.specs.Marks.{AreMarkedBy, Marked}

@@ -18,8 +18,8 @@ use Rattle.dv_catalog.specs.Changes.{Change, Effect, put, gone, apply, changes_o
 use Rattle.dv_catalog.specs.Inner.EffectView.{AreAble, ArePlaced, BeginsWithId, IsAble, IsPlaced}
 use Rattle.dv_catalog.specs.Effects.{put_new}
 use Rattle.dv_coll.specs.Collection.{found, id_key}
-use Rattle.dv_fields.specs.declared.refusal.Refusal.{Refusal}
-use Rattle.dv_fields.specs.declared.refusal.Refusal.TheVariants.{DuplicateKey}
+use Rattle.dv_refusal.specs.declared.refusal.Refusal.{Refusal}
+use Rattle.dv_refusal.specs.declared.refusal.Refusal.TheVariants.{DuplicateKey}
 use Rattle.dv_catalog.specs.State.{AreOrdered, Collection, Namespaces, Standing, collection, collection_at, collection_of, documents_of, is_collection, is_view, lists_of}
 use Rattle.dv_catalog.specs.Inner.StateLaws.{get-insert}
 use Rattle.dv_catalog.specs.Told.{told}

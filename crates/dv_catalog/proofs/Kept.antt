@@ -5,7 +5,7 @@ use Rattle.std.specs.Str.{bytes_eq}
 use Rattle.dv_value.specs.Tree.{Field}
 use Rattle.dv_change.specs.declared.change.Change as flow
 use Rattle.dv_command.specs.Asked.{ViewOn}
-use Rattle.dv_fields.specs.declared.refusal.Refusal.TheVariants.{NamespaceExists, NamespaceNotFound, ReadByView}
+use Rattle.dv_refusal.specs.declared.refusal.Refusal.TheVariants.{NamespaceExists, NamespaceNotFound, ReadByView}
 use Rattle.dv_change.specs.declared.change.Change.TheVariants.{Gone}
 use Rattle.dv_views.specs.Inner.Changed.{gone_each}
 use Rattle.dv_views.specs.Placed.{own_position}

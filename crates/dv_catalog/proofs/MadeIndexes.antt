@@ -3,8 +3,8 @@ use Rattle.std.proofs.Common.{◌≡◌, ◌⊎◌, inl, inr, ℕ, Bool, true, f
 use Rattle.std.proofs.lemmas.Slice.Eq.{bytes_eq-Decides}
 use Rattle.std.specs.FinMap as finite
 use Rattle.std.specs.Str.{bytes_eq}
-use Rattle.dv_fields.specs.declared.refusal.Refusal.{Refusal}
-use Rattle.dv_fields.specs.declared.refusal.Refusal.TheVariants.{NamespaceNotFound, OnView, WantOfMemory}
+use Rattle.dv_refusal.specs.declared.refusal.Refusal.{Refusal}
+use Rattle.dv_refusal.specs.declared.refusal.Refusal.TheVariants.{NamespaceNotFound, OnView, WantOfMemory}
 use Rattle.dv_keyed.specs.Index.{IndexForm}
 use Rattle.dv_views.specs.Inner.Views.{Views, view_form}
 use Rattle.dv_catalog.specs.declared.indexing.IndexCounts.{IndexCounts}

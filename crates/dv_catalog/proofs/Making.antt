@@ -3,8 +3,8 @@ use Rattle.std.proofs.Common.{◌≡◌, ◌⊎◌, inl, inr, ◌||◌, not, ℕ
 use Rattle.std.proofs.lemmas.Slice.Eq.{bytes_eq-Decides}
 use Rattle.std.specs.List.{list_any}
 use Rattle.std.specs.Str.{bytes_eq}
-use Rattle.dv_fields.specs.declared.refusal.Refusal.{Refusal}
-use Rattle.dv_fields.specs.declared.refusal.Refusal.TheVariants.{WantOfMemory}
+use Rattle.dv_refusal.specs.declared.refusal.Refusal.{Refusal}
+use Rattle.dv_refusal.specs.declared.refusal.Refusal.TheVariants.{WantOfMemory}
 use Rattle.dv_pipe.specs.declared.stage.Stage.{Stage}
 use Rattle.dv_views.specs.Forms.{ViewForm, fault_of_new, names_read, needed}
 use Rattle.dv_views.specs.Inner.Made.{IsCreated}

@@ -2,12 +2,12 @@
 use Rattle.std.proofs.Common.{◌≡◌, ◌<◌, ◌≤◌, arith, take-take, ◌+◌, ◌++◌, ◌⊎◌, inl, inr, ℕ, Bool, true, is_some, if◌then◌else◌, zero, suc, List, [], ◌∷◌, length, map, take, drop, drop-cons, add-one, get_or, Result, Err, refl, sym, ap, subst, ◌∙◌, append_assoc, length-append}
 use Rattle.std.proofs.lemmas.List.{map_push}
 use Rattle.dv_value.specs.Tree.{Field}
-use Rattle.dv_fields.specs.declared.refusal.Refusal.{Refusal}
-use Rattle.dv_fields.specs.declared.refusal.Refusal.TheVariants.{WantOfMemory}
+use Rattle.dv_refusal.specs.declared.refusal.Refusal.{Refusal}
+use Rattle.dv_refusal.specs.declared.refusal.Refusal.TheVariants.{WantOfMemory}
 use Rattle.dv_index.specs.Indexed.{IndexedTree}
 use Rattle.dv_index.specs.Inner.Indexed.{with_documents}
-use Rattle.dv_catalog.specs.declared.counted.Counted.{Counted}
-use Rattle.dv_catalog.specs.declared.stopped.Stopped.{Stopped}
+use Rattle.dv_catalog.specs.declared.counts.Counted.{Counted}
+use Rattle.dv_catalog.specs.declared.failure.Stopped.{Stopped}
 use Rattle.dv_catalog.specs.Changes.{Change, Effect, apply, changes_of, with_change, with_changes, with_put}
 use Rattle.dv_coll.specs.Collection.{found, id_key, inserted, replaced}
 use Rattle.dv_catalog.specs.Inner.EffectView.{AreFirst, ArePlaced}

@@ -16,7 +16,7 @@ use Rattle.dv_catalog.proofs.Keys.{AreThere, all_there}
 use Rattle.dv_update.specs.Update as form
 use Rattle.dv_command.specs.Entries.{Updating}
 use Rattle.dv_value.specs.Results.{◌>>=◌}
-use Rattle.dv_fields.specs.declared.refusal.Refusal.{Refusal}
+use Rattle.dv_refusal.specs.declared.refusal.Refusal.{Refusal}
 use Rattle.dv_catalog.specs.Changes.{Change, put, Effect}
 use Rattle.dv_catalog.specs.Effects.{all_or_first}
 use Rattle.dv_catalog.specs.Scan.{matching}

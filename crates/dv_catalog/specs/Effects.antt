@@ -5,10 +5,10 @@ use Rattle.dv_coll.specs.Collection.{id_key, found}
 use Rattle.dv_update.specs.Apply.{applied}
 use Rattle.dv_order.specs.Same.{same_fields}
 use Rattle.dv_update.specs.Update as form
-use Rattle.dv_fields.specs.declared.refusal.Refusal.{Refusal}
-use Rattle.dv_fields.specs.declared.refusal.Refusal.TheVariants.{DuplicateKey}
+use Rattle.dv_refusal.specs.declared.refusal.Refusal.{Refusal}
+use Rattle.dv_refusal.specs.declared.refusal.Refusal.TheVariants.{DuplicateKey}
 use Rattle.dv_command.specs.Entries.{Deletion, Updating}
-use Rattle.dv_fields.specs.Refusals.{refused_by, update_refusal}
+use Rattle.dv_refusal.specs.Refusals.{refused_by, update_refusal}
 use Rattle.dv_value.specs.Results.{◌>>=◌}
 use Rattle.dv_catalog.specs.Changes.{Effect, Statement, gone, put}
 use Rattle.dv_catalog.specs.Scan.{matching}

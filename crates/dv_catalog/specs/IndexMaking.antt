@@ -6,8 +6,8 @@ use Rattle.std.specs.FinMap as finite
 use Rattle.std.specs.Bool.{beq}
 use Rattle.std.specs.List.{list_any}
 use Rattle.std.specs.Str.{bytes_eq}
-use Rattle.dv_fields.specs.declared.refusal.Refusal.{Refusal}
-use Rattle.dv_fields.specs.declared.refusal.Refusal.TheVariants.{BadValue, DuplicateKey, NamespaceNotFound, IndexNotFound, ConflictingUpdateOperators, OnView, LimitReached}
+use Rattle.dv_refusal.specs.declared.refusal.Refusal.{Refusal}
+use Rattle.dv_refusal.specs.declared.refusal.Refusal.TheVariants.{BadValue, DuplicateKey, NamespaceNotFound, IndexNotFound, ConflictingUpdateOperators, OnView, LimitReached}
 use Rattle.dv_value.specs.Results.{◌>>=◌}
 use Rattle.dv_keyed.specs.Choice.{same_path}
 use Rattle.dv_keyed.specs.Index.{IndexForm, id_form}

@@ -6,8 +6,8 @@ use Rattle.dv_pipe.specs.declared.stage.Stage.{Stage}
 use Rattle.dv_pipe.specs.Stages.{evaluated}
 use Rattle.dv_value.specs.Tree.{Field}
 use Rattle.dv_command.specs.Asked.{ViewOn}
-use Rattle.dv_fields.specs.declared.refusal.Refusal.{Refusal}
-use Rattle.dv_fields.specs.declared.refusal.Refusal.TheVariants.{NamespaceExists, NamespaceNotFound, ReadByView, LimitReached, WantOfMemory}
+use Rattle.dv_refusal.specs.declared.refusal.Refusal.{Refusal}
+use Rattle.dv_refusal.specs.declared.refusal.Refusal.TheVariants.{NamespaceExists, NamespaceNotFound, ReadByView, LimitReached, WantOfMemory}
 use Rattle.dv_views.specs.declared.fault.ViewFault.{ViewFault}
 use Rattle.dv_views.specs.declared.fault.ViewFault.TheVariants as faults
 use Rattle.dv_views.specs.Forms.{ViewForm, fault_of_new, is_read_by}

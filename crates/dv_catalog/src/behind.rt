@@ -12,8 +12,8 @@ ghost use Rattle.dv_pipe.specs.Stages.{through};
 ghost use Rattle.dv_views.specs.Inner.Views.{AreRight};
 
 use crate::collections::Collections;
-use crate::searched::{Searched, first_found, searched_in};
 use crate::sources::rows_under;
+use crate::standing::{Searched, first_found, searched_in};
 use dv_pipe::{Lookup, Sources, Stage, filter_of_joined, laws, references, rows_through};
 use dv_value::{Document, NoMemory};
 use dv_views::{Registry, beside, lookups_of};

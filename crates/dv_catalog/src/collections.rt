@@ -1,7 +1,7 @@
 //! The collections by their namespaces.
 
 ghost use Rattle.std.specs.Prelude.{◌≡◌, ◌≤◌, [], None, length, map, take, OnErr, OnOk, IfOk, if◌then◌else◌};
-ghost use Rattle.dv_fields.specs.declared.refusal.Refusal.TheVariants.{NamespaceNotFound};
+ghost use Rattle.dv_refusal.specs.declared.refusal.Refusal.TheVariants.{NamespaceNotFound};
 ghost use Rattle.std.specs.FinMap as finite;
 ghost use Rattle.std.specs.Option.{option_map};
 ghost use Rattle.dv_coll.specs.Collection.{HasId};
@@ -16,10 +16,10 @@ ghost use Rattle.dv_catalog.specs.Inner.View.{standing_seen};
 ghost use Rattle.dv_keyed.specs.Inner.View.{form_of_new};
 
 use crate::effect::Changes;
+use crate::failure::Stopped;
 use crate::indexing::{IndexCounts, create_each, drop_named};
 use crate::insert::put_new;
 use crate::rows::Rows;
-use crate::stopped::Stopped;
 use dv_command::Refusal;
 use dv_index::{IndexedCollection, NewIndex};
 use dv_value::{Document, NoMemory};

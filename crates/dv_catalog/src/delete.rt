@@ -11,8 +11,8 @@ ghost use Rattle.dv_catalog.specs.State.{AreOrdered};
 ghost use Rattle.dv_index.specs.Inner.Indexed.{with_documents};
 ghost use Rattle.dv_pipe.specs.Sources.{rows_referred};
 
-use crate::chosen::chosen;
 use crate::effect::{Changes, Effect};
+use crate::selection::chosen;
 use dv_coll::laws;
 use dv_command::Deletion;
 use dv_index::IndexedCollection;

@@ -15,7 +15,7 @@ ghost use Rattle.dv_views.specs.Inner.Views.{AreRight};
 use crate::behind::rows_behind;
 use crate::collections::Collections;
 use crate::scan::in_sort;
-use crate::searched::{first_found, searched_in};
+use crate::standing::{first_found, searched_in};
 use dv_match::Filter;
 use dv_path::SortSpec;
 use dv_pipe::{Stage, references};

@@ -3,7 +3,7 @@
 ghost use Rattle.std.specs.Prelude.{◌≡◌, ◌++◌, ◌||◌, map, length, IfOk};
 ghost use Rattle.std.specs.List.{list_any};
 ghost use Rattle.std.specs.Str.{bytes_eq};
-ghost use Rattle.dv_fields.specs.Refusals.{UnlessWanting};
+ghost use Rattle.dv_refusal.specs.Refusals.{UnlessWanting};
 ghost use Rattle.dv_keyed.specs.Choice.{same_path as is_same_path};
 ghost use Rattle.dv_keyed.specs.Index.{id_form};
 ghost use Rattle.dv_keyed.specs.Inner.Index.{form_of};
@@ -13,7 +13,7 @@ ghost use Rattle.dv_catalog.specs.Inner.ComingParts.{joined};
 ghost use Rattle.dv_catalog.specs.Inner.IndexParts.{collection_so};
 ghost use Rattle.dv_catalog.specs.Inner.Parts.{Leaves};
 
-use crate::coming::{Coming, text_of};
+use crate::pending_indexes::{Coming, text_of};
 use dv_candidates::Path;
 use dv_command::Refusal;
 use dv_index::{Index, IndexedCollection, NewIndex, same_path};

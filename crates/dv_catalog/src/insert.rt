@@ -2,7 +2,7 @@
 
 ghost use Rattle.std.specs.Prelude.{◌≡◌, ◌∷◌, [], OnErr, OnOk};
 ghost use Rattle.dv_coll.specs.Collection.{HasId};
-ghost use Rattle.dv_fields.specs.Refusals.{UnlessWanting};
+ghost use Rattle.dv_refusal.specs.Refusals.{UnlessWanting};
 ghost use Rattle.dv_catalog.specs.Changes.{done_to, put, with_put};
 ghost use Rattle.dv_catalog.specs.Effects as effects;
 ghost use Rattle.dv_index.specs.Inner.Indexed.{with_documents};

@@ -17,7 +17,7 @@ ghost use Rattle.dv_catalog.specs.Scan.{matching};
 
 use crate::asked::{Asked, asked_of_rows};
 use crate::rows::Rows;
-use crate::searched::first_matching;
+use crate::standing::first_matching;
 use dv_index::laws;
 use dv_keyed::{Interval, in_order, lent};
 use dv_match::Filter;

@@ -7,7 +7,7 @@ ghost use Rattle.dv_catalog.specs.Inner.EffectView.{AreAble, BeginsWithId};
 ghost use Rattle.dv_catalog.specs.State.{AreOrdered, is_view};
 ghost use Rattle.dv_catalog.specs.Told.{told};
 ghost use Rattle.dv_catalog.specs.Views.{reads_name, with_view};
-ghost use Rattle.dv_fields.specs.declared.refusal.Refusal.TheVariants.{LimitReached};
+ghost use Rattle.dv_refusal.specs.declared.refusal.Refusal.TheVariants.{LimitReached};
 ghost use Rattle.dv_pipe.specs.Stages.{is_read};
 ghost use Rattle.dv_views.specs.Changed.{documents_changed};
 ghost use Rattle.dv_views.specs.Inner.Changed.{AreMade};

@@ -10,7 +10,7 @@ ghost use Rattle.dv_sort.specs.Sorting.{front, stable};
 
 use crate::ahead::first_by_index;
 use crate::by_id::{first_by_id, first_rows_by_id};
-use crate::searched::{Searched, first_found};
+use crate::standing::{Searched, first_found};
 use dv_command::Find;
 use dv_index::IndexedCollection;
 use dv_match::Filter;

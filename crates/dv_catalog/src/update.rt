@@ -4,7 +4,7 @@ ghost use Rattle.std.specs.Prelude.{◌≡◌, ◌≤◌, ◌++◌, ◌∷◌, �
 ghost use Rattle.std.specs.Str.{bytes_eq};
 ghost use Rattle.dv_value.specs.Names.{has_zero};
 ghost use Rattle.dv_coll.specs.Collection.{HasId, found, id_key, replaced};
-ghost use Rattle.dv_fields.specs.Refusals.{UnlessWanting};
+ghost use Rattle.dv_refusal.specs.Refusals.{UnlessWanting};
 ghost use Rattle.dv_command.specs.Inner.View.{updating_seen};
 ghost use Rattle.dv_catalog.specs.Changes.{breaks, done_to, put, with_changes};
 ghost use Rattle.dv_catalog.specs.Effects as effects;
@@ -18,8 +18,8 @@ ghost use Rattle.dv_update.specs.Outcome as outcomes;
 ghost use Rattle.dv_update.specs.Parsing.{Gives};
 ghost use Rattle.dv_update.specs.UpdateView as seen;
 
-use crate::chosen::chosen;
 use crate::effect::{Changes, Effect, Updated, Updates};
+use crate::selection::chosen;
 use dv_coll::laws;
 use dv_command::{Refusal, Updating};
 use dv_index::{IndexedCollection, Replacing};

@@ -1,3 +1,6 @@
+mod Lists
+pub mod Checks
+pub mod Among
 mod Lengths
 mod SoundFields
 mod Sounding

@@ -8,10 +8,10 @@ use Rattle.std.proofs.lemmas.List.{length-take-le, take_all}
 use Rattle.dv_value.specs.Names.{value_under}
 use Rattle.dv_value.specs.Results.{◌>>=◌}
 use Rattle.dv_value.specs.Tree.{Tree, Field}
-use Rattle.dv_fields.specs.Fields.{boolean_under, text_under}
-use Rattle.dv_fields.specs.Namespaces.{namespace}
-use Rattle.dv_fields.specs.declared.refusal.Refusal.{Refusal}
-use Rattle.dv_fields.specs.declared.refusal.Refusal.TheVariants.{FailedToParse}
+use Rattle.dv_command.specs.Fields.{boolean_under, text_under}
+use Rattle.dv_command.specs.Namespaces.{namespace}
+use Rattle.dv_refusal.specs.declared.refusal.Refusal.{Refusal}
+use Rattle.dv_refusal.specs.declared.refusal.Refusal.TheVariants.{FailedToParse}
 use Rattle.dv_command.specs.declared.asking.WriteKind.{WriteKind}
 use Rattle.dv_command.specs.declared.asking.WriteKind.TheVariants as writes
 use Rattle.dv_command.specs.declared.command.Command.{Command}

@@ -10,20 +10,20 @@ use Rattle.dv_value.specs.Tree.{Tree, int32, int64, string, document, array, Fie
 use Rattle.dv_pipe.specs.StageParsing as pipelines
 use Rattle.dv_pipe.specs.declared.stage.Stage.{Stage}
 use Rattle.dv_command.specs.Asked.{Find, find_in, first_batch_size, explained_by, ViewOn, ViewFields, view_fields_in, view_of, check_count, statement_limit}
-use Rattle.dv_fields.specs.Fields.{update_in, document_under, check_fields, first_name, text_field, document_in, array_field, integer_in, each_document, documents_in, required, text_under, boolean_under, natural_under}
+use Rattle.dv_command.specs.Fields.{update_in, document_under, check_fields, first_name, text_field, document_in, array_field, integer_in, each_document, documents_in, required, text_under, boolean_under, natural_under}
 use Rattle.dv_command.specs.Tables.{index_table}
 use Rattle.dv_command.specs.Lists.{CommandLists, list_under, in_either}
 use Rattle.dv_command.specs.Forms.{filter_under, sort_under, stages_asked}
 use Rattle.dv_command.specs.Entries.{IndexAsked, index_asked, key_path, check_index_name, longest_index_name}
-use Rattle.dv_fields.specs.Kinds as kinds
-use Rattle.dv_fields.specs.Namespaces.{database_in, namespace, dotted, is_database_name, is_collection_name, longest_namespace}
-use Rattle.dv_fields.specs.Refusals.{refused_by, pipeline_refusal}
+use Rattle.dv_command.specs.Kinds as kinds
+use Rattle.dv_command.specs.Namespaces.{database_in, namespace, dotted, is_database_name, is_collection_name, longest_namespace}
+use Rattle.dv_refusal.specs.Refusals.{refused_by, pipeline_refusal}
 use Rattle.dv_value.specs.Results.{◌>>=◌, each}
 use Rattle.dv_command.specs.Sound.{AreSpellable, IsIndexName, IsSoundPipeline}
 use Rattle.dv_command.specs.Inner.Sound.{AreValidLists, AreIds, AreIndexes, IsNamespace, IsSoundViewAsked}
 use Rattle.dv_command.proofs.Lengths.{array_long}
-use Rattle.dv_fields.specs.declared.refusal.Refusal.{Refusal}
-use Rattle.dv_fields.specs.declared.refusal.Refusal.TheVariants.{BadValue, CommandNotFound, LimitReached}
+use Rattle.dv_refusal.specs.declared.refusal.Refusal.{Refusal}
+use Rattle.dv_refusal.specs.declared.refusal.Refusal.TheVariants.{BadValue, CommandNotFound, LimitReached}
 
 pub record Succeeds {A B : Type 0} (first : Result A Refusal) (rest : A → Result B Refusal) (end : B) : Type 0 where
   pub given : A

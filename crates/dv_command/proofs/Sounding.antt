@@ -11,17 +11,17 @@ use Rattle.dv_command.specs.declared.asking.WriteKind.{WriteKind}
 use Rattle.dv_command.specs.declared.asking.WriteKind.TheVariants as writes
 use Rattle.dv_command.specs.declared.names.CommandName.{CommandName}
 use Rattle.dv_command.specs.declared.names.CommandName.TheVariants as names
-use Rattle.dv_fields.specs.Fields as reading
-use Rattle.dv_fields.specs.Fields.{Table, update_under, document_under, check_fields, integer_in, text_under, array_under, boolean_under, integer_under, integers_under, natural_under}
+use Rattle.dv_command.specs.Fields as reading
+use Rattle.dv_command.specs.Fields.{Table, update_under, document_under, check_fields, integer_in, text_under, array_under, boolean_under, integer_under, integers_under, natural_under}
 use Rattle.dv_command.specs.Tables.{updating_table, write_table, find_fields, find_table, aggregate_table, get_more_table, kill_cursors_table, create_table, drop_table, create_indexes_table, drop_indexes_table, explain_table, view_stats_table}
 use Rattle.dv_command.specs.Lists.{CommandLists, check_no_list, check_only, list_under, listed_documents}
 use Rattle.dv_command.specs.Forms.{filter_of, stages_asked}
 use Rattle.dv_command.specs.Forms as forms
 use Rattle.dv_command.specs.Entries as entries
 use Rattle.dv_command.specs.Entries.{Updating, index_asked}
-use Rattle.dv_fields.specs.Kinds as kinds
-use Rattle.dv_fields.specs.Namespaces.{database, namespace}
-use Rattle.dv_fields.specs.Refusals.{update_refusal}
+use Rattle.dv_command.specs.Kinds as kinds
+use Rattle.dv_command.specs.Namespaces.{database, namespace}
+use Rattle.dv_refusal.specs.Refusals.{update_refusal}
 use Rattle.dv_value.specs.Results.{each}
 use Rattle.dv_command.specs.Inner.Sound.{AreValidLists, IsNamespace, IsSoundRequest, IsSoundUpdate}
 use Rattle.dv_command.proofs.Lengths.{FieldsAdd, under_long}

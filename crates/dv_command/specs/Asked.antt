@@ -6,14 +6,14 @@ use Rattle.dv_value.specs.Tree.{Tree, Field}
 use Rattle.dv_path.specs.SortSpec.{Part}
 use Rattle.dv_match.specs.Filter.{Members}
 use Rattle.dv_pipe.specs.declared.stage.Stage.{Stage}
-use Rattle.dv_fields.specs.declared.refusal.Refusal.{Refusal}
-use Rattle.dv_fields.specs.declared.refusal.Refusal.TheVariants.{FailedToParse, CommandNotFound, LimitReached}
-use Rattle.dv_fields.specs.Refusals.{refusal_of}
+use Rattle.dv_refusal.specs.declared.refusal.Refusal.{Refusal}
+use Rattle.dv_refusal.specs.declared.refusal.Refusal.TheVariants.{FailedToParse, CommandNotFound, LimitReached}
+use Rattle.dv_refusal.specs.Refusals.{refusal_of}
 use Rattle.dv_value.specs.Results.{◌>>=◌, each}
-use Rattle.dv_fields.specs.Kinds as kinds
-use Rattle.dv_fields.specs.Fields as reading
-use Rattle.dv_fields.specs.Fields.{Table, first_name, check_fields, text_field, array_field, text_under, array_under, boolean_under, document_under, document_or_none, integer_under, integers_under, natural_under}
-use Rattle.dv_fields.specs.Namespaces.{database, namespace}
+use Rattle.dv_command.specs.Kinds as kinds
+use Rattle.dv_command.specs.Fields as reading
+use Rattle.dv_command.specs.Fields.{Table, first_name, check_fields, text_field, array_field, text_under, array_under, boolean_under, document_under, document_or_none, integer_under, integers_under, natural_under}
+use Rattle.dv_command.specs.Namespaces.{database, namespace}
 use Rattle.dv_command.specs.declared.command.Command.{Command}
 use Rattle.dv_command.specs.declared.command.Command.TheVariants.{Sections, Invalid}
 use Rattle.dv_command.specs.declared.asking.WriteKind.{WriteKind}

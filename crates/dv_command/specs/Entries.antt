@@ -6,11 +6,11 @@ use Rattle.dv_candidates.specs.Path.{path_of}
 use Rattle.dv_path.specs.SortSpec.{direction_of}
 use Rattle.dv_match.specs.Filter.{Members}
 use Rattle.dv_update.specs.Update.{Update}
-use Rattle.dv_fields.specs.declared.refusal.Refusal.{Refusal}
-use Rattle.dv_fields.specs.declared.refusal.Refusal.TheVariants.{BadValue, FailedToParse}
+use Rattle.dv_refusal.specs.declared.refusal.Refusal.{Refusal}
+use Rattle.dv_refusal.specs.declared.refusal.Refusal.TheVariants.{BadValue, FailedToParse}
 use Rattle.dv_value.specs.Results.{◌>>=◌}
-use Rattle.dv_fields.specs.Kinds as kinds
-use Rattle.dv_fields.specs.Fields.{check_fields, boolean_under, document_under, only_first_under, text_under, update_under}
+use Rattle.dv_command.specs.Kinds as kinds
+use Rattle.dv_command.specs.Fields.{check_fields, boolean_under, document_under, only_first_under, text_under, update_under}
 use Rattle.dv_command.specs.Tables.{deletion_table, updating_table, index_table}
 use Rattle.dv_command.specs.Forms.{filter_of, update_asked, is_replacement, or_bad_value}
 

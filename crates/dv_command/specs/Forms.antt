@@ -10,11 +10,11 @@ use Rattle.dv_update.specs.Update.{Update}
 use Rattle.dv_update.specs.Parsing as updates
 use Rattle.dv_pipe.specs.StageParsing as pipelines
 use Rattle.dv_pipe.specs.declared.stage.Stage.{Stage}
-use Rattle.dv_fields.specs.declared.refusal.Refusal.{Refusal}
-use Rattle.dv_fields.specs.declared.refusal.Refusal.TheVariants.{BadValue}
-use Rattle.dv_fields.specs.Refusals.{refused_by, filter_refusal, update_refusal, pipeline_refusal}
+use Rattle.dv_refusal.specs.declared.refusal.Refusal.{Refusal}
+use Rattle.dv_refusal.specs.declared.refusal.Refusal.TheVariants.{BadValue}
+use Rattle.dv_refusal.specs.Refusals.{refused_by, filter_refusal, update_refusal, pipeline_refusal}
 use Rattle.dv_value.specs.Results.{◌>>=◌}
-use Rattle.dv_fields.specs.Fields.{document_or_none, first_name}
+use Rattle.dv_command.specs.Fields.{document_or_none, first_name}
 
 -- the filter that a document is
 abbrev pub filter_of : List Field → Result Members Refusal

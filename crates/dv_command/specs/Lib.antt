@@ -1,3 +1,6 @@
+pub mod Namespaces
+pub mod Kinds
+pub mod Fields
 pub mod Replies
 pub mod Tables
 pub mod Lists

@@ -2,9 +2,9 @@
 -- beside them, the versions of the wire, and the reply to a viewStats are this server's own.
 use Rattle.std.specs.Prelude.{ℕ, ◌^◌, ◌-◌, min, Bool, List, [], ◌∷◌, ◌++◌, Option, Some, None, pos, true, false, codes, nat_lt, if◌then◌else◌}
 use Rattle.dv_value.specs.Tree.{Tree, string, int32, int64, boolean, document, array, Field, fields_of, elements_of}
-use Rattle.dv_fields.specs.declared.refusal.Refusal.{Refusal}
-use Rattle.dv_fields.specs.declared.refusal.Refusal.TheVariants.{WantOfMemory}
-use Rattle.dv_fields.specs.Refusals.{code, code_name, message_of}
+use Rattle.dv_refusal.specs.declared.refusal.Refusal.{Refusal}
+use Rattle.dv_refusal.specs.declared.refusal.Refusal.TheVariants.{WantOfMemory}
+use Rattle.dv_refusal.specs.Refusals.{code, code_name, message_of}
 
 -- a document as a value
 abbrev pub document_of : List Field → Tree

@@ -1,9 +1,9 @@
 -- Which fields commands and their entries may have (MongoDB manual, "insert", "update", "delete", "find", "aggregate", "getMore", "killCursors", "create", "drop",
 -- "createIndexes", "dropIndexes", "explain"). Which of the manual's fields are there yet, and the command viewStats, are this server's own.
 use Rattle.std.specs.Prelude.{ℕ, List, [], ◌∷◌, codes}
-use Rattle.dv_fields.specs.Kinds.{Kind}
-use Rattle.dv_fields.specs.Kinds as kinds
-use Rattle.dv_fields.specs.Fields.{Table}
+use Rattle.dv_command.specs.Kinds.{Kind}
+use Rattle.dv_command.specs.Kinds as kinds
+use Rattle.dv_command.specs.Fields.{Table}
 
 -- the database is looked at by itself, before the other fields
 abbrev pub database_field : List ℕ × Kind

@@ -3,8 +3,8 @@
 ghost use Rattle.std.specs.Prelude.{◌≤◌, length};
 ghost use Rattle.dv_command.specs.Asked.{statement_limit};
 
+use crate::documents::Documents;
 use dv_candidates::Path;
-use dv_fields::Documents;
 use dv_match::Filter;
 use dv_path::SortSpec;
 use dv_pipe::Pipeline;

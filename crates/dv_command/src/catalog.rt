@@ -5,7 +5,7 @@ ghost use Rattle.std.specs.Option.{option_map};
 ghost use Rattle.dv_command.specs.Asked as asking;
 ghost use Rattle.dv_command.specs.Entries as entered;
 ghost use Rattle.dv_command.specs.Inner.View.{asked_seen, index_seen, view_fields_seen, view_on_seen};
-ghost use Rattle.dv_fields.specs.Refusals.{UnlessWanting};
+ghost use Rattle.dv_refusal.specs.Refusals.{UnlessWanting};
 ghost use Rattle.dv_value.specs.Results.{each};
 
 use crate::asking::{
@@ -14,15 +14,16 @@ use crate::asking::{
 };
 use crate::checked::checked_database;
 use crate::command::DocumentLists;
+use crate::documents::Documents;
 use crate::entries::index_of;
+use crate::fields::{documents_under, text_under};
 use crate::forms::pipeline_of;
-use crate::rules::{
+use crate::namespaces::namespace;
+use crate::tables::{
     CREATE_INDEXES_RULES, CREATE_RULES, DROP_INDEXES_RULES, DROP_RULES, VIEW_STATS_RULES,
 };
-use dv_fields::fields::{documents_under, text_under};
-use dv_fields::namespaces::namespace;
-use dv_fields::values::{array_of, text_of};
-use dv_fields::{Documents, Refusal};
+use crate::values::{array_of, text_of};
+use dv_refusal::Refusal;
 use dv_value::Document;
 use std::alloc::Global;
 

@@ -2,13 +2,13 @@
 
 ghost use Rattle.std.specs.Prelude.{◌≡◌, Ok, Err, MatchResult, map};
 ghost use Rattle.dv_command.specs.Asked as asking;
-ghost use Rattle.dv_fields.specs.Inner.View.{rule_seen};
+ghost use Rattle.dv_command.specs.Inner.RulesView.{rule_seen};
 
 use crate::command::DocumentLists;
 use crate::lists::check_none;
-use dv_fields::namespaces::database;
-use dv_fields::rules::check_fields;
-use dv_fields::{Place, Refusal, Rule};
+use crate::namespaces::database;
+use crate::rules::{Place, Rule, check_fields};
+use dv_refusal::Refusal;
 use dv_value::Document;
 
 /// The database of a command, whose fields are looked at.

@@ -6,19 +6,17 @@ ghost use Rattle.dv_candidates.specs.Path as paths;
 ghost use Rattle.dv_path.specs.SortSpec.{direction_of, direction_of_number};
 ghost use Rattle.dv_command.specs.Forms.{or_bad_value};
 ghost use Rattle.dv_command.specs.Entries as entries;
-ghost use Rattle.dv_fields.specs.Refusals.{UnlessWanting};
+ghost use Rattle.dv_refusal.specs.Refusals.{UnlessWanting};
 ghost use Rattle.dv_command.specs.Inner.View.{deletion_seen, index_seen, updating_seen};
 
 use crate::asking::IndexAsked;
+use crate::fields::{boolean_under, document_under, only_first_under, text_under, update_under};
 use crate::forms::{filter_of, is_replacement, update_of};
-use crate::rules::{DELETION_RULES, INDEX_RULES, UPDATING_RULES};
+use crate::rules::{Place, check_fields};
+use crate::tables::{DELETION_RULES, INDEX_RULES, UPDATING_RULES};
 use dv_candidates::{Path, PathFault};
-use dv_fields::fields::{
-    boolean_under, document_under, only_first_under, text_under, update_under,
-};
-use dv_fields::rules::check_fields;
-use dv_fields::{Place, Refusal};
 use dv_match::Filter;
+use dv_refusal::Refusal;
 use dv_update::Update;
 use dv_value::{Document, Str, Value};
 use std::alloc::Global;

@@ -3,14 +3,14 @@
 ghost use Rattle.std.specs.Prelude.{◌≡◌};
 ghost use Rattle.dv_update.specs.UpdateView.{update};
 ghost use Rattle.dv_command.specs.Forms as forms;
-ghost use Rattle.dv_fields.specs.Refusals.{UnlessWanting};
+ghost use Rattle.dv_refusal.specs.Refusals.{UnlessWanting};
 ghost use Rattle.dv_command.specs.Inner.View.{sort_seen};
 
-use dv_fields::Refusal;
-use dv_fields::fields::{document_or, first_name};
+use crate::fields::{document_or, first_name};
 use dv_match::Filter;
 use dv_path::SortSpec;
 use dv_pipe::Pipeline;
+use dv_refusal::Refusal;
 use dv_update::Update;
 use dv_value::{Document, List, begins_with_dollar};
 use std::alloc::Global;

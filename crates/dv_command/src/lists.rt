@@ -4,8 +4,9 @@ ghost use Rattle.std.specs.Prelude.{◌≡◌, Ok, Err, MatchResult};
 ghost use Rattle.dv_command.specs.Lists as defined;
 
 use crate::command::DocumentLists;
-use dv_fields::values::documents_of;
-use dv_fields::{Documents, Refusal};
+use crate::documents::Documents;
+use crate::values::documents_of;
+use dv_refusal::Refusal;
 use dv_value::Document;
 
 /// Looks at the lists beside the body of a command that has none: one is refused with `FailedToParse`.

@@ -2,17 +2,17 @@
 
 ghost use Rattle.dv_command.specs.Asked as asking;
 ghost use Rattle.dv_command.specs.Inner.View.{asked_seen};
-ghost use Rattle.dv_fields.specs.Refusals.{UnlessWanting};
+ghost use Rattle.dv_refusal.specs.Refusals.{UnlessWanting};
 
 use crate::asking::{Asked, WriteKind};
 use crate::catalog::{create_indexes_of, create_of, drop_indexes_of, drop_of, view_stats_of};
 use crate::command::{Command, DocumentLists};
+use crate::fields::first_name;
 use crate::names::{CommandName, command_named};
+use crate::namespaces::database;
 use crate::reads::{aggregate_of, explain_of, find_of, get_more_of, kill_cursors_of};
 use crate::statements::write_of;
-use dv_fields::Refusal;
-use dv_fields::fields::first_name;
-use dv_fields::namespaces::database;
+use dv_refusal::Refusal;
 use dv_value::Document;
 use std::alloc::Global;
 

@@ -3,22 +3,22 @@
 ghost use Rattle.std.specs.Prelude.{◌≡◌, Ok, Err, MatchResult};
 ghost use Rattle.dv_command.specs.Asked as asking;
 ghost use Rattle.dv_command.specs.Inner.View.{asked_seen, find_seen};
-ghost use Rattle.dv_fields.specs.Refusals.{UnlessWanting};
+ghost use Rattle.dv_refusal.specs.Refusals.{UnlessWanting};
 
 use crate::asking::{Aggregate, Asked, Explain, Find, GetMore, KillCursors};
 use crate::checked::checked_database;
 use crate::command::DocumentLists;
-use crate::forms::{filter_under, pipeline_of, sort_under};
-use crate::rules::{
-    AGGREGATE_RULES, EXPLAIN_RULES, EXPLAINED_RULES, FIND_RULES, GET_MORE_RULES, KILL_CURSORS_RULES,
-};
-use dv_fields::fields::{
+use crate::fields::{
     array_under, boolean_under, document_or, document_under, first_name, integer_under,
     integers_under, natural_under, text_under,
 };
-use dv_fields::namespaces::{database, namespace};
-use dv_fields::rules::check_fields;
-use dv_fields::{Place, Refusal};
+use crate::forms::{filter_under, pipeline_of, sort_under};
+use crate::namespaces::{database, namespace};
+use crate::rules::{Place, check_fields};
+use crate::tables::{
+    AGGREGATE_RULES, EXPLAIN_RULES, EXPLAINED_RULES, FIND_RULES, GET_MORE_RULES, KILL_CURSORS_RULES,
+};
+use dv_refusal::Refusal;
 use dv_value::Document;
 use std::alloc::Global;
 

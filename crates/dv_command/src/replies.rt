@@ -10,7 +10,7 @@ ghost use Rattle.dv_value.specs.View.{tree};
 ghost use Rattle.dv_command.specs.Replies as replies;
 
 use crate::reply_names::ReplyNames;
-use dv_fields::Refusal;
+use dv_refusal::Refusal;
 use dv_value::{Document, List, NoMemory, Str, Value};
 use std::alloc::{AllocError, Global};
 

@@ -1,144 +1,225 @@
-//! Which fields commands and their entries may have.
+//! Which fields there may be in a command and in its entries, and what they hold.
 
 ghost use Rattle.std.specs.Prelude.{◌≡◌, map};
-ghost use Rattle.dv_command.specs.Tables as tables;
-ghost use Rattle.dv_fields.specs.Inner.View.{rule_seen};
+ghost use Rattle.std.specs.List.{list_all};
+ghost use Rattle.std.specs.Option.{option_map};
+ghost use Rattle.dv_value.specs.View.{tree};
+ghost use Rattle.dv_command.specs.Inner.DocumentsView.{is_integer};
+ghost use Rattle.dv_command.specs.Fields as defined;
+ghost use Rattle.dv_command.specs.Kinds as kinds;
+ghost use Rattle.dv_command.specs.Inner.RulesView.{kind_seen, place_seen, rule_seen};
 
-use dv_fields::{Kind, Rule};
+use crate::values::{
+    array_of, boolean_of, document_of, documents_of, integer_of, natural_of, only_first_of,
+    text_of, update_of,
+};
+use dv_refusal::Refusal;
+use dv_value::{Document, Value};
 
-/// The database, which is looked at by itself.
-const DATABASE: Rule = Rule("$db", Kind::Anything);
+/// Where fields are.
+#[derive(Clone, Copy)]
+pub(crate) enum Place {
+    /// In a command, in which some are ignored.
+    Command,
+    /// In an entry of its list.
+    Entry,
+}
 
-/// The fields of a find.
-pub(crate) const FIND_RULES: [Rule; 9] = [
-    DATABASE,
-    FIND,
-    FILTER,
-    SORT,
-    SKIP,
-    LIMIT,
-    BATCH_SIZE,
-    SINGLE_BATCH,
-    PROJECTION,
-];
+/// What the value of a field has to be.
+#[derive(Clone, Copy)]
+pub(crate) enum Kind {
+    Anything,
+    Text,
+    Boolean,
+    Document,
+    /// An array of documents.
+    Documents,
+    Array,
+    /// An integer of either width.
+    Integer,
+    /// An array of integers of either width.
+    Integers,
+    /// An integer of either width, from 0.
+    Natural,
+    /// How many documents a statement deletes: 0 for all that match, 1 for the first.
+    HowMany,
+    /// An update; a list of stages isn't one yet.
+    Update,
+    /// A boolean, and only false yet.
+    OnlyFalse,
+    /// A document without fields, and nothing else yet.
+    EmptyDocument,
+    /// A document with one field at most; more aren't taken yet.
+    Single,
+    /// How the rows of an answer come: a document that may say how many there are in a batch.
+    Cursor,
+}
 
-/// The fields of a find that is explained.
-pub(crate) const EXPLAINED_RULES: [Rule; 8] = [
-    FIND,
-    FILTER,
-    SORT,
-    SKIP,
-    LIMIT,
-    BATCH_SIZE,
-    SINGLE_BATCH,
-    PROJECTION,
-];
+/// A field that there may be: its name, and what its value has to be.
+#[derive(Clone, Copy)]
+pub(crate) struct Rule(pub &'static str, pub Kind);
 
-const FIND: Rule = Rule("find", Kind::Text);
-
-const FILTER: Rule = Rule("filter", Kind::Document);
-
-const SORT: Rule = Rule("sort", Kind::Document);
-
-const SKIP: Rule = Rule("skip", Kind::Natural);
-
-const LIMIT: Rule = Rule("limit", Kind::Natural);
-
-const BATCH_SIZE: Rule = Rule("batchSize", Kind::Natural);
-
-const SINGLE_BATCH: Rule = Rule("singleBatch", Kind::Boolean);
-
-const PROJECTION: Rule = Rule("projection", Kind::EmptyDocument);
-
-/// The fields of an explain; what is explained is looked at by itself.
-pub(crate) const EXPLAIN_RULES: [Rule; 3] = [
-    DATABASE,
-    Rule("explain", Kind::Anything),
-    Rule("verbosity", Kind::Anything),
-];
-
-/// The fields of an aggregation.
-pub(crate) const AGGREGATE_RULES: [Rule; 5] = [
-    DATABASE,
-    Rule("aggregate", Kind::Text),
-    Rule("pipeline", Kind::Array),
-    Rule("cursor", Kind::Cursor),
-    Rule("allowDiskUse", Kind::Anything),
-];
-
-/// The fields of what takes the next rows of a cursor.
-pub(crate) const GET_MORE_RULES: [Rule; 4] = [
-    DATABASE,
-    Rule("getMore", Kind::Integer),
-    Rule("collection", Kind::Text),
-    BATCH_SIZE,
-];
-
-/// The fields of what ends cursors.
-pub(crate) const KILL_CURSORS_RULES: [Rule; 3] = [
-    DATABASE,
-    Rule("killCursors", Kind::Text),
-    Rule("cursors", Kind::Integers),
-];
-
-/// The fields of what makes a collection or a view.
-pub(crate) const CREATE_RULES: [Rule; 4] = [
-    DATABASE,
-    Rule("create", Kind::Text),
-    Rule("viewOn", Kind::Text),
-    Rule("pipeline", Kind::Array),
-];
-
-/// The fields of a drop.
-pub(crate) const DROP_RULES: [Rule; 2] = [DATABASE, Rule("drop", Kind::Text)];
-
-/// The fields of what makes indexes.
-pub(crate) const CREATE_INDEXES_RULES: [Rule; 3] = [
-    DATABASE,
-    Rule("createIndexes", Kind::Text),
-    Rule("indexes", Kind::Documents),
-];
-
-/// The fields of what takes indexes out.
-pub(crate) const DROP_INDEXES_RULES: [Rule; 3] = [
-    DATABASE,
-    Rule("dropIndexes", Kind::Text),
-    Rule("index", Kind::Text),
-];
-
-/// The fields of what asks how a view stands.
-pub(crate) const VIEW_STATS_RULES: [Rule; 2] = [DATABASE, Rule("viewStats", Kind::Text)];
-
-/// The fields of an entry of a delete.
-pub(crate) const DELETION_RULES: [Rule; 2] = [
-    Rule("q", Kind::Document),
-    Rule("limit", Kind::HowMany),
-];
-
-/// The fields of an entry of an update.
-pub(crate) const UPDATING_RULES: [Rule; 4] = [
-    Rule("q", Kind::Document),
-    Rule("u", Kind::Update),
-    Rule("multi", Kind::Boolean),
-    Rule("upsert", Kind::OnlyFalse),
-];
-
-/// The fields of an entry of what makes indexes.
-pub(crate) const INDEX_RULES: [Rule; 4] = [
-    Rule("key", Kind::Single),
-    Rule("name", Kind::Text),
-    Rule("v", Kind::Anything),
-    Rule("unique", Kind::Boolean),
-];
-
-/// The fields of a command of statements, by its name and that of their list.
-pub fn write_rules(command: &'static str, list: &'static str) -> [Rule; 4]
-    ensures { map rule_seen result ≡ tables.write_table command.now list.now }
+/// Checks fields in written order. The first one is returned that is unknown (`FailedToParse`) or has a value of another kind:
+/// `TypeMismatch` if the value is of another type, and `BadValue` if it is a number out of its rules. For a value that may only be
+/// an empty document, or false, and isn't, `FailedToParse` is returned.
+pub(crate) fn check_fields(place: Place, rules: &[Rule], document: &Document) -> Result<(), Refusal>
+    ensures { result ≡ defined.check_fields (place_seen place) (map rule_seen rules.now) document.now }
 {
-    [
-        DATABASE,
-        Rule(command, Kind::Text),
-        Rule(list, Kind::Documents),
-        Rule("ordered", Kind::Boolean),
-    ]
+    'fields: for index in 0..document.len() {
+        if let Some((name, value)) = document.entry(index) {
+            check_field(place, rules, name, value)?;
+        }
+    }
+    Ok(())
+}
+
+/// Looks at one field.
+fn check_field(place: Place, rules: &[Rule], name: &str, value: &Value) -> Result<(), Refusal>
+    ensures { result ≡ defined.check_field (place_seen place) (map rule_seen rules.now) (name.now, tree value.now) }
+{
+    if is_ignored(place, name) {
+        return Ok(());
+    }
+    match kind_in(rules, name) {
+        Some(kind) => check_value(kind, value),
+        None => Err(Refusal::FailedToParse),
+    }
+}
+
+/// Whether a field of the name is ignored, whatever it holds: some are in every command.
+fn is_ignored(place: Place, name: &str) -> bool
+    ensures { result ≡ defined.is_ignored (place_seen place) name.now }
+{
+    match place {
+        Place::Command => is_ignored_in_commands(name),
+        Place::Entry => false,
+    }
+}
+
+fn is_ignored_in_commands(name: &str) -> bool
+    ensures { result ≡ defined.is_listed_name name.now defined.ignored_names }
+{
+    // By length, so that a name is compared with few others.
+    match name.len() {
+        4 => name == "lsid",
+        7 => name == "comment",
+        9 => matches!(name, "maxTimeMS" | "apiStrict"),
+        10 => name == "apiVersion",
+        11 => name == "readConcern",
+        12 => matches!(name, "$clusterTime" | "writeConcern"),
+        15 => name == "$readPreference",
+        20 => name == "apiDeprecationErrors",
+        24 => name == "bypassDocumentValidation",
+        _ => false,
+    }
+}
+
+/// What the rules say of a field of the name; `None` where there is no such field.
+fn kind_in(rules: &[Rule], name: &str) -> Option<Kind>
+    ensures { option_map kind_seen result ≡ defined.kind_in (map rule_seen rules.now) name.now }
+{
+    'rules: for rule in rules {
+        if name == rule.0 {
+            return Some(rule.1);
+        }
+    }
+    None
+}
+
+/// Looks at a value that has to be of the kind.
+fn check_value(kind: Kind, value: &Value) -> Result<(), Refusal>
+    ensures { result ≡ defined.check_value (kind_seen kind) (tree value.now) }
+{
+    match kind {
+        Kind::Anything => Ok(()),
+        Kind::Text => text_of(value).map(|_| ()),
+        Kind::Boolean => boolean_of(value).map(|_| ()),
+        Kind::Document => document_of(value).map(|_| ()),
+        Kind::Documents => documents_of(value).map(|_| ()),
+        Kind::Array => array_of(value).map(|_| ()),
+        Kind::Integer => integer_of(value).map(|_| ()),
+        Kind::Integers => check_integers(value),
+        Kind::Natural => natural_of(value).map(|_| ()),
+        Kind::HowMany => only_first_of(value).map(|_| ()),
+        Kind::Update => update_of(value).map(|_| ()),
+        Kind::OnlyFalse => check_false(value),
+        Kind::EmptyDocument => check_empty(value),
+        Kind::Single => check_single(document_of(value)?),
+        Kind::Cursor => check_cursor(document_of(value)?),
+    }
+}
+
+/// Looks at a value that may only be false.
+fn check_false(value: &Value) -> Result<(), Refusal>
+    ensures { result ≡ defined.check_value kinds.only_false (tree value.now) }
+{
+    if boolean_of(value)? {
+        Err(Refusal::FailedToParse)
+    } else {
+        Ok(())
+    }
+}
+
+/// Looks at a value that may only be a document without fields.
+#[tactic(auto, using(crate::proofs::Checks::some_fields))]
+fn check_empty(value: &Value) -> Result<(), Refusal>
+    ensures { result ≡ defined.check_empty (tree value.now) }
+{
+    match value {
+        Value::Doc(document) if document.is_empty() => Ok(()),
+        _ => Err(Refusal::FailedToParse),
+    }
+}
+
+/// Looks at an array that may only hold integers.
+fn check_integers(value: &Value) -> Result<(), Refusal>
+    ensures { result ≡ defined.check_value kinds.integers (tree value.now) }
+{
+    if are_integers(array_of(value)?.as_slice()) {
+        Ok(())
+    } else {
+        Err(Refusal::TypeMismatch)
+    }
+}
+
+/// Whether all values are integers, of either width.
+fn are_integers(values: &[Value]) -> bool
+    ensures { result ≡ list_all is_integer values.now }
+{
+    values
+        .iter()
+        .all(|value| matches!(value, Value::Int32(_) | Value::Int64(_)))
+}
+
+/// Looks at fields of which there may be one at most.
+#[tactic(auto, using(crate::proofs::Checks::several_fields))]
+fn check_single(fields: &Document) -> Result<(), Refusal>
+    ensures { result ≡ defined.check_single fields.now }
+{
+    if fields.len() <= 1 {
+        Ok(())
+    } else {
+        Err(Refusal::FailedToParse)
+    }
+}
+
+/// Looks at the fields that say how the rows of an answer come: there may be one, the number of rows in a batch.
+fn check_cursor(fields: &Document) -> Result<(), Refusal>
+    ensures { result ≡ defined.check_cursor fields.now }
+{
+    if let Some((name, value)) = fields.entry(0) {
+        check_batch_size(name, value)?;
+    }
+    check_single(fields)
+}
+
+/// Looks at a field that may only be the number of rows in a batch.
+fn check_batch_size(name: &str, value: &Value) -> Result<(), Refusal>
+    ensures { result ≡ defined.check_batch_size (name.now, tree value.now) }
+{
+    if name == "batchSize" {
+        natural_of(value).map(|_| ())
+    } else {
+        Err(Refusal::FailedToParse)
+    }
 }

@@ -2,16 +2,16 @@
 
 ghost use Rattle.dv_command.specs.Asked as asking;
 ghost use Rattle.dv_command.specs.Inner.View.{asked_seen};
-ghost use Rattle.dv_fields.specs.Refusals.{UnlessWanting};
+ghost use Rattle.dv_refusal.specs.Refusals.{UnlessWanting};
 
 use crate::asking::{Asked, Write, WriteKind};
 use crate::checked::looked_database;
 use crate::command::DocumentLists;
+use crate::fields::{boolean_under, text_under};
 use crate::lists::{check_only, documents_under};
-use crate::rules::write_rules;
-use dv_fields::Refusal;
-use dv_fields::fields::{boolean_under, text_under};
-use dv_fields::namespaces::namespace;
+use crate::namespaces::namespace;
+use crate::tables::write_rules;
+use dv_refusal::Refusal;
 use dv_value::Document;
 use std::alloc::Global;
 

@@ -9,7 +9,7 @@ use Rattle.dv_catalog.specs.Effects.{put_new}
 use Rattle.dv_catalog.specs.Marks.{AreMarkedBy}
 use Rattle.dv_catalog.specs.Inner.Parts.{Makes, one_changed}
 use Rattle.dv_catalog.specs.State.{Collection, collection_of, is_view, lists_of}
-use Rattle.dv_catalog.specs.declared.stopped.Stopped.{Stopped}
+use Rattle.dv_catalog.specs.declared.failure.Stopped.{Stopped}
 use Rattle.dv_coll.specs.Collection.{found, id_key}
 use Rattle.dv_command.specs.Asked.{Asked, asked_by}
 use Rattle.dv_command.specs.Asked as asking
@@ -17,11 +17,11 @@ use Rattle.dv_command.specs.Replies.{document_of, refusal_reply, write_error, wr
 use Rattle.dv_command.specs.declared.asking.WriteKind.TheVariants.{Insert}
 use Rattle.dv_command.specs.declared.command.Command.{Command}
 use Rattle.dv_path.specs.Names.{has_dot}
-use Rattle.dv_fields.specs.Namespaces.{is_collection_name, is_database_name, longest_namespace, namespace}
-use Rattle.dv_fields.specs.Namespaces as names
+use Rattle.dv_command.specs.Namespaces.{is_collection_name, is_database_name, longest_namespace, namespace}
+use Rattle.dv_command.specs.Namespaces as names
 use Rattle.dv_value.specs.Results.{◌>>=◌}
-use Rattle.dv_fields.specs.declared.refusal.Refusal.{Refusal}
-use Rattle.dv_fields.specs.declared.refusal.Refusal.TheVariants.{BadValue, DuplicateKey, OnView, WantOfMemory}
+use Rattle.dv_refusal.specs.declared.refusal.Refusal.{Refusal}
+use Rattle.dv_refusal.specs.declared.refusal.Refusal.TheVariants.{BadValue, DuplicateKey, OnView, WantOfMemory}
 use Rattle.dv_core.specs.Load.{IsLoaded, insert_alone, left_by, loaded, namespace_in}
 use Rattle.dv_core.specs.State.{State}
 use Rattle.dv_core.specs.Statements.{WriteCounts, nothing_written, with_result}

@@ -7,11 +7,11 @@ use Rattle.dv_command.specs.Asked.{Asked, hello, ping, find, aggregate, get_more
 use Rattle.dv_command.specs.Asked as asking
 use Rattle.dv_value.specs.Results.{◌>>=◌}
 use Rattle.dv_command.specs.Replies.{reply_of, drop_reply, first_batch_reply, create_indexes_reply, drop_indexes_reply, document_of, count, errors_field}
-use Rattle.dv_fields.specs.declared.refusal.Refusal.TheVariants.{OnView, TooLarge}
+use Rattle.dv_refusal.specs.declared.refusal.Refusal.TheVariants.{OnView, TooLarge}
 use Rattle.dv_command.specs.declared.asking.WriteKind.{WriteKind}
 use Rattle.dv_command.specs.declared.asking.WriteKind.TheVariants.{Insert, Update, Delete}
 use Rattle.dv_command.specs.declared.command.Command.{Command}
-use Rattle.dv_fields.specs.declared.refusal.Refusal.{Refusal}
+use Rattle.dv_refusal.specs.declared.refusal.Refusal.{Refusal}
 use Rattle.dv_core.specs.declared.outcome.Outcome.{Outcome}
 use Rattle.dv_core.specs.declared.outcome.Outcome.TheVariants.{Reply, Wanting, NoReply}
 use Rattle.dv_catalog.specs.Changes.{Effect, Statement, done_to}

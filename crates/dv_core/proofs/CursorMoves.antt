@@ -7,8 +7,8 @@ use Rattle.std.specs.Str.{bytes_eq}
 use Rattle.dv_value.specs.Tree.{Field}
 use Rattle.dv_command.specs.Asked.{Asked, hello, ping, find, aggregate, get_more, kill_cursors, create, drop, create_indexes, drop_indexes, explain, view_stats, asked_by}
 use Rattle.dv_command.specs.Asked as asking
-use Rattle.dv_fields.specs.declared.refusal.Refusal.{Refusal}
-use Rattle.dv_fields.specs.declared.refusal.Refusal.TheVariants.{TooLarge}
+use Rattle.dv_refusal.specs.declared.refusal.Refusal.{Refusal}
+use Rattle.dv_refusal.specs.declared.refusal.Refusal.TheVariants.{TooLarge}
 use Rattle.dv_value.specs.Results.{◌>>=◌}
 use Rattle.dv_catalog.specs.State as stored
 use Rattle.dv_cursor.specs.Batch.{batch, rows_behind}

@@ -4,8 +4,8 @@ use Rattle.dv_value.specs.Tree.{Field}
 use Rattle.dv_command.specs.Asked.{Asked, Aggregate, Find, GetMore, find, aggregate, get_more, asked_by}
 use Rattle.dv_command.specs.Replies.{document_of, first_batch_reply, next_batch_reply}
 use Rattle.dv_command.specs.declared.command.Command.{Command}
-use Rattle.dv_fields.specs.declared.refusal.Refusal.{Refusal}
-use Rattle.dv_fields.specs.declared.refusal.Refusal.TheVariants.{TooLarge}
+use Rattle.dv_refusal.specs.declared.refusal.Refusal.{Refusal}
+use Rattle.dv_refusal.specs.declared.refusal.Refusal.TheVariants.{TooLarge}
 use Rattle.dv_value.specs.Results.{◌>>=◌}
 use Rattle.dv_catalog.specs.Scan.{scan}
 use Rattle.dv_catalog.specs.State as stored

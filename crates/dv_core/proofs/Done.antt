@@ -4,7 +4,7 @@ use Rattle.dv_value.specs.Tree.{Field}
 use Rattle.dv_catalog.specs.Changes.{Change, Effect, Statement, breaks, changes_of, clashes_by, done_to, with_change}
 use Rattle.dv_catalog.specs.Inner.EffectLaws.{done_changes, done_so}
 use Rattle.dv_catalog.specs.State.{Collection}
-use Rattle.dv_fields.specs.declared.refusal.Refusal.{Refusal}
+use Rattle.dv_refusal.specs.declared.refusal.Refusal.{Refusal}
 use Rattle.dv_keyed.specs.Index.{IndexForm}
 
 -- ---- none of two

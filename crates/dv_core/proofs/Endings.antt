@@ -7,8 +7,8 @@ use Rattle.dv_command.specs.Asked.{CreateIndexes, DropIndexes, KillCursors}
 use Rattle.dv_command.specs.Replies.{create_indexes_reply, drop_indexes_reply, kill_cursors_reply}
 use Rattle.dv_cursor.specs.Cursors.{Cursors}
 use Rattle.dv_value.specs.Results.{◌>>=◌}
-use Rattle.dv_fields.specs.declared.refusal.Refusal.{Refusal}
-use Rattle.dv_fields.specs.declared.refusal.Refusal.TheVariants.{WantOfMemory}
+use Rattle.dv_refusal.specs.declared.refusal.Refusal.{Refusal}
+use Rattle.dv_refusal.specs.declared.refusal.Refusal.TheVariants.{WantOfMemory}
 use Rattle.dv_core.specs.declared.outcome.Outcome.{Outcome}
 use Rattle.dv_core.specs.declared.outcome.Outcome.TheVariants.{Reply, NoReply}
 use Rattle.dv_core.specs.Indexes.{form_asked, index_count, indexed, unindexed}

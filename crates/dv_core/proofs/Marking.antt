@@ -4,8 +4,8 @@ use Rattle.dv_catalog.specs.Changes.{Change, Effect, Statement}
 use Rattle.dv_catalog.specs.Marks.{AreMarkedBy, AreMarkedSo, ArePartlyNamed, ArePartlyRead, IsMarkedBy, IsPartlyRead, Mark, Marked, Marks, all_counted, live, mark_counted, mark_read, marks_counted, marks_named, marks_read, marks_without, shares_told, stale}
 use Rattle.dv_catalog.specs.State.{Namespaces, has_name, lists_of, without_view}
 use Rattle.dv_catalog.specs.Inner.Parts.{StandBy}
-use Rattle.dv_catalog.specs.declared.stopped.Stopped.{Stopped}
-use Rattle.dv_fields.specs.declared.refusal.Refusal.{Refusal}
+use Rattle.dv_catalog.specs.declared.failure.Stopped.{Stopped}
+use Rattle.dv_refusal.specs.declared.refusal.Refusal.{Refusal}
 use Rattle.dv_pipe.specs.Stages.{Lists}
 use Rattle.dv_views.specs.Flow.{Share, nothing, shares}
 use Rattle.dv_views.specs.Forms.{ViewForm, is_name_among, needed}

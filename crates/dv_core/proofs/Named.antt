@@ -31,8 +31,8 @@ use Rattle.dv_core.proofs.Changed.{Did, MayWrite, outcome_may}
 use Rattle.dv_core.proofs.Standing.{IsKeptBy, indexes_by, made_stands}
 use Rattle.dv_core.proofs.Texts.{IsUtf8-ascii}
 use Rattle.dv_value.specs.Results.{◌>>=◌}
-use Rattle.dv_fields.specs.declared.refusal.Refusal.{Refusal}
-use Rattle.dv_fields.specs.declared.refusal.Refusal.TheVariants.{BadValue, ConflictingUpdateOperators, DuplicateKey, IndexNotFound, LimitReached}
+use Rattle.dv_refusal.specs.declared.refusal.Refusal.{Refusal}
+use Rattle.dv_refusal.specs.declared.refusal.Refusal.TheVariants.{BadValue, ConflictingUpdateOperators, DuplicateKey, IndexNotFound, LimitReached}
 use Rattle.dv_keyed.specs.Index.{IndexForm, id_form}
 use Rattle.dv_index.specs.Indexed.{index_chosen, is_dropped, name_at, paths_of, without_index}
 use Rattle.dv_keyed.specs.Choice.{chosen}

@@ -20,8 +20,8 @@ use Rattle.dv_command.specs.Inner.Sound.{IsSoundUpdate}
 use Rattle.dv_command.specs.declared.asking.WriteKind.{WriteKind}
 use Rattle.dv_command.specs.declared.asking.WriteKind.TheVariants.{Insert, Update, Delete}
 use Rattle.dv_command.specs.declared.command.Command.{Command}
-use Rattle.dv_fields.specs.declared.refusal.Refusal.{Refusal}
-use Rattle.dv_fields.specs.declared.refusal.Refusal.TheVariants.{BadValue, OnView, TooLarge}
+use Rattle.dv_refusal.specs.declared.refusal.Refusal.{Refusal}
+use Rattle.dv_refusal.specs.declared.refusal.Refusal.TheVariants.{BadValue, OnView, TooLarge}
 use Rattle.dv_core.specs.declared.outcome.Outcome.{Outcome}
 use Rattle.dv_catalog.specs.Changes.{Change, Effect, put, gone, breaks, changes_of, done_to, with_change}
 use Rattle.dv_update.specs.Apply.{applied}

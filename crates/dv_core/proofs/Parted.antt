@@ -5,7 +5,7 @@ use Rattle.std.proofs.lemmas.Str.Pattern.{IsSplitOnceResult, split_once_first}
 use Rattle.dv_value.specs.Names.{has_zero}
 use Rattle.dv_core.specs.Load.{namespace_in}
 use Rattle.dv_path.specs.Names.{has_dot}
-use Rattle.dv_fields.specs.Namespaces.{is_database_name, namespace}
+use Rattle.dv_command.specs.Namespaces.{is_database_name, namespace}
 
 abbrev dot_at : List ℕ → ℕ
 dot_at bs = position_or_len (λ b. b == 46) bs

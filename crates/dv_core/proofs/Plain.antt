@@ -14,13 +14,13 @@ use Rattle.dv_update.specs.declared.fault.UpdateFault.TheVariants as updating
 use Rattle.dv_update.specs.Apply.{applied}
 use Rattle.dv_update.specs.Parsing as updates
 use Rattle.dv_update.specs.Update as form
-use Rattle.dv_fields.specs.declared.refusal.Refusal.{Refusal}
-use Rattle.dv_fields.specs.declared.refusal.Refusal.TheVariants.{InvalidBson, BadValue, FailedToParse, DuplicateKey, TooLarge}
-use Rattle.dv_fields.specs.Refusals.{refused_by, filter_refusal, update_refusal}
+use Rattle.dv_refusal.specs.declared.refusal.Refusal.{Refusal}
+use Rattle.dv_refusal.specs.declared.refusal.Refusal.TheVariants.{InvalidBson, BadValue, FailedToParse, DuplicateKey, TooLarge}
+use Rattle.dv_refusal.specs.Refusals.{refused_by, filter_refusal, update_refusal}
 use Rattle.dv_value.specs.Results.{◌>>=◌, each}
-use Rattle.dv_fields.specs.Kinds.{Kind, FieldPlace}
-use Rattle.dv_fields.specs.Kinds as kinds
-use Rattle.dv_fields.specs.Fields.{Table, update_in, check_false, optional, boolean_under, update_under, text_field, boolean_in, document_in, each_document, documents_in, array_field, integer_in, not_negative, natural_in, one_or_all, only_first_in, check_batch_size, check_cursor, check_empty, check_none, check_single, integers_in, check_value, check_known, check_field, check_fields, is_ignored, kind_in, required, document_under, only_first_under}
+use Rattle.dv_command.specs.Kinds.{Kind, FieldPlace}
+use Rattle.dv_command.specs.Kinds as kinds
+use Rattle.dv_command.specs.Fields.{Table, update_in, check_false, optional, boolean_under, update_under, text_field, boolean_in, document_in, each_document, documents_in, array_field, integer_in, not_negative, natural_in, one_or_all, only_first_in, check_batch_size, check_cursor, check_empty, check_none, check_single, integers_in, check_value, check_known, check_field, check_fields, is_ignored, kind_in, required, document_under, only_first_under}
 use Rattle.dv_command.specs.Tables.{updating_table, deletion_table}
 use Rattle.dv_command.specs.Forms.{filter_of, update_asked, is_replacement}
 use Rattle.dv_command.specs.Entries.{Updating, deletion_of, updating_of, check_multi}

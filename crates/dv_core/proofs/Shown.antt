@@ -19,8 +19,8 @@ use Rattle.dv_cursor.specs.Batch.{batch}
 use Rattle.dv_cursor.specs.Cursors.{Cursor, Cursors, added, advanced, closed, cursor_behind, cursor_over, free_id, place_cmp, rows_to_come, cursor_rows}
 use Rattle.dv_cursor.specs.Inner.Runs.{is_cursor_place}
 use Rattle.dv_value.specs.Results.{◌>>=◌}
-use Rattle.dv_fields.specs.declared.refusal.Refusal.{Refusal}
-use Rattle.dv_fields.specs.declared.refusal.Refusal.TheVariants.{TooLarge}
+use Rattle.dv_refusal.specs.declared.refusal.Refusal.{Refusal}
+use Rattle.dv_refusal.specs.declared.refusal.Refusal.TheVariants.{TooLarge}
 use Rattle.dv_core.specs.Find.{are_too_large, reply_to_find, first_batch, reply_to_aggregate, kept, kept_under, kept_by_cursor, replied}
 use Rattle.dv_core.specs.Load.{loaded}
 use Rattle.dv_core.specs.More.{next_of, cursor_number, rows_asked, rows_wanted, without_cursor, without_cursors}

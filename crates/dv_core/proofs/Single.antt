@@ -5,8 +5,8 @@ use Rattle.dv_value.specs.Spelling.{Fits}
 use Rattle.dv_value.specs.Tree.{Field}
 use Rattle.dv_command.specs.Asked.{Find}
 use Rattle.dv_command.specs.Replies.{document_of, first_batch_reply}
-use Rattle.dv_fields.specs.declared.refusal.Refusal.{Refusal}
-use Rattle.dv_fields.specs.declared.refusal.Refusal.TheVariants.{TooLarge}
+use Rattle.dv_refusal.specs.declared.refusal.Refusal.{Refusal}
+use Rattle.dv_refusal.specs.declared.refusal.Refusal.TheVariants.{TooLarge}
 use Rattle.dv_cursor.specs.Batch.{batch}
 use Rattle.dv_cursor.specs.Cursors.{Cursors}
 use Rattle.dv_catalog.specs.Scan.{limited, matching}

@@ -15,8 +15,8 @@ use Rattle.dv_command.specs.Replies.{document_of, count, long_count, drop_reply,
 use Rattle.dv_value.specs.Results.{◌>>=◌}
 use Rattle.dv_command.specs.declared.command.Command.{Command}
 use Rattle.dv_core.specs.declared.outcome.Outcome.TheVariants.{Wanting}
-use Rattle.dv_fields.specs.declared.refusal.Refusal.{Refusal}
-use Rattle.dv_fields.specs.declared.refusal.Refusal.TheVariants.{BadValue, ConflictingUpdateOperators, DuplicateKey, WantOfMemory, TooLarge, LimitReached, NamespaceNotFound, IndexNotFound, CursorNotFound, NamespaceExists, OnView, ReadByView}
+use Rattle.dv_refusal.specs.declared.refusal.Refusal.{Refusal}
+use Rattle.dv_refusal.specs.declared.refusal.Refusal.TheVariants.{BadValue, ConflictingUpdateOperators, DuplicateKey, WantOfMemory, TooLarge, LimitReached, NamespaceNotFound, IndexNotFound, CursorNotFound, NamespaceExists, OnView, ReadByView}
 use Rattle.dv_catalog.specs.Scan.{scan}
 use Rattle.dv_catalog.specs.IndexMaking.{Explained, Way, over_view, by_index, over_all, explained, indexes_created, indexes_dropped, with_all as with_all_entries, unless_broken, with_entries, with_index, without_named, within_limit}
 use Rattle.dv_views.specs.Forms.{ViewForm}

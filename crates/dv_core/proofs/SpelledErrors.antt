@@ -17,11 +17,11 @@ use Rattle.dv_value.specs.Spelling.{payload, spelling, IsValue, AreFields, AreEl
 use Rattle.dv_value.specs.Tree.{Tree, int32, int64, string, array, Field, fields_of, list_of_fields, elements_of}
 use Rattle.dv_command.specs.Asked as asking
 use Rattle.dv_command.specs.Replies.{document_of, count, reply_of, cut_error, write_error, update_reply, errors_field}
-use Rattle.dv_fields.specs.Refusals.{code, code_name, message_of}
+use Rattle.dv_refusal.specs.Refusals.{code, code_name, message_of}
 use Rattle.dv_command.specs.declared.asking.WriteKind.{WriteKind}
 use Rattle.dv_command.specs.declared.asking.WriteKind.TheVariants.{Insert, Update, Delete}
-use Rattle.dv_fields.specs.declared.refusal.Refusal.{Refusal}
-use Rattle.dv_fields.specs.declared.refusal.Refusal.TheVariants.{BadValue, FailedToParse, TypeMismatch, InvalidBson, PathNotViable, ConflictingUpdateOperators, ImmutableField, CommandNotFound, DuplicateKey, WantOfMemory, TooLarge, LimitReached, NamespaceNotFound, IndexNotFound, CursorNotFound, NamespaceExists, OnView, ReadByView}
+use Rattle.dv_refusal.specs.declared.refusal.Refusal.{Refusal}
+use Rattle.dv_refusal.specs.declared.refusal.Refusal.TheVariants.{BadValue, FailedToParse, TypeMismatch, InvalidBson, PathNotViable, ConflictingUpdateOperators, ImmutableField, CommandNotFound, DuplicateKey, WantOfMemory, TooLarge, LimitReached, NamespaceNotFound, IndexNotFound, CursorNotFound, NamespaceExists, OnView, ReadByView}
 use Rattle.dv_catalog.specs.Changes.{Effect, Statement, done_to}
 use Rattle.dv_views.specs.declared.fault.ViewFault.TheVariants.{NoMemory}
 use Rattle.dv_catalog.specs.State.{Namespaces, collection_of}

@@ -4,8 +4,8 @@ use Rattle.std.specs.Prelude.{codes}
 use Rattle.dv_value.specs.Spelling.{framed, element_spelling, counted, payload, spelling, AreFields}
 use Rattle.dv_value.specs.Tree.{int32, boolean, string, Field, fields_of}
 use Rattle.dv_command.specs.Replies.{hello_reply, refusal_reply}
-use Rattle.dv_fields.specs.Refusals.{code, code_name, message_of}
-use Rattle.dv_fields.specs.declared.refusal.Refusal.{Refusal}
+use Rattle.dv_refusal.specs.Refusals.{code, code_name, message_of}
+use Rattle.dv_refusal.specs.declared.refusal.Refusal.{Refusal}
 use Rattle.dv_core.specs.Sound.{HasSpelling, IsTold}
 use Rattle.dv_core.proofs.Spellings.{spelling-field, spelling-nil, length-int32, length-string}
 use Rattle.dv_core.proofs.SpelledRows.{more_valid, number_valid, ok_fields, ok_valid, spelled}

@@ -13,8 +13,8 @@ use Rattle.dv_core.specs.Indexes.{form_asked}
 use Rattle.dv_core.specs.State as core
 use Rattle.dv_core.proofs.Changed.{Made}
 use Rattle.dv_core.proofs.Made.{views_only}
-use Rattle.dv_fields.specs.declared.refusal.Refusal.{Refusal}
-use Rattle.dv_fields.specs.declared.refusal.Refusal.TheVariants.{NamespaceExists, NamespaceNotFound, OnView, ReadByView}
+use Rattle.dv_refusal.specs.declared.refusal.Refusal.{Refusal}
+use Rattle.dv_refusal.specs.declared.refusal.Refusal.TheVariants.{NamespaceExists, NamespaceNotFound, OnView, ReadByView}
 use Rattle.dv_keyed.specs.Index.{IndexForm}
 use Rattle.dv_index.specs.Indexed.{empty_indexed}
 

@@ -3,8 +3,8 @@ use Rattle.std.proofs.Common.{◌≡◌, ℕ, suc, ◌+◌, ◌<◌, ◌⊎◌, 
 use Rattle.std.specs.declared.alloc.AllocError.{AllocError}
 use Rattle.std.proofs.lemmas.List.{append-nil}
 use Rattle.dv_value.specs.Tree.{Tree, Field}
-use Rattle.dv_fields.specs.declared.refusal.Refusal.{Refusal}
-use Rattle.dv_fields.specs.declared.refusal.Refusal.TheVariants.{WantOfMemory}
+use Rattle.dv_refusal.specs.declared.refusal.Refusal.{Refusal}
+use Rattle.dv_refusal.specs.declared.refusal.Refusal.TheVariants.{WantOfMemory}
 use Rattle.dv_core.specs.declared.outcome.Outcome.TheVariants.{Reply, Wanting, NoReply}
 use Rattle.dv_core.specs.declared.next.Next.{Next}
 use Rattle.dv_core.specs.declared.next.Next.TheVariants.{Due, Ended}
@@ -14,7 +14,7 @@ use Rattle.dv_views.specs.Forms.{ViewForm}
 use Rattle.dv_catalog.specs.Changes.{Change, Effect, Statement, apply, changes_of, done_to}
 use Rattle.dv_core.specs.Statements.{WriteCounts, Written, nothing_written, with_next, with_all, with_result, is_due, next_changes, cut, AreCut, IsCutWrite}
 use Rattle.dv_catalog.specs.Inner.Parts as Parts
-use Rattle.dv_catalog.specs.declared.stopped.Stopped.{Stopped}
+use Rattle.dv_catalog.specs.declared.failure.Stopped.{Stopped}
 use Rattle.dv_command.specs.Replies.{document_of, cut_error}
 use Rattle.dv_core.specs.Marks.{AreMarkedByCut, AreMarkedByEach, due_changes}
 use Rattle.dv_core.specs.Inner.WriteParts.{with_stopped, next_behind, reply_seen, CarriesOutWrite, CutsNext, CutsWrite, DoesNext, NextStep, Notes, WritesOrCuts}

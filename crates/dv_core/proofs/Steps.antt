@@ -10,11 +10,11 @@ use Rattle.dv_cursor.specs.Cursors.{Cursors}
 use Rattle.dv_catalog.specs.Views.{created, dropped}
 use Rattle.dv_command.specs.Asked.{Asked, Create, Drop, asked_by, create, drop}
 use Rattle.dv_command.specs.Asked as asking
-use Rattle.dv_fields.specs.Refusals.{UnlessWanting}
+use Rattle.dv_refusal.specs.Refusals.{UnlessWanting}
 use Rattle.dv_value.specs.Results.{◌>>=◌}
 use Rattle.dv_command.specs.declared.command.Command.{Command}
-use Rattle.dv_fields.specs.declared.refusal.Refusal.{Refusal}
-use Rattle.dv_fields.specs.declared.refusal.Refusal.TheVariants.{OnView, WantOfMemory}
+use Rattle.dv_refusal.specs.declared.refusal.Refusal.{Refusal}
+use Rattle.dv_refusal.specs.declared.refusal.Refusal.TheVariants.{OnView, WantOfMemory}
 use Rattle.dv_core.specs.declared.outcome.Outcome.{Outcome}
 use Rattle.dv_core.specs.declared.outcome.Outcome.TheVariants.{Reply, Wanting, NoReply}
 use Rattle.dv_core.specs.declared.outcome.Batch.{Batch}

@@ -10,8 +10,8 @@ use Rattle.dv_value.specs.Names.{value_under, has_name, has_zero, AreNamed, with
 use Rattle.dv_value.specs.Spelling.{spelling, fields_levels, levels, Fits}
 use Rattle.dv_catalog.specs.Inner.StateLaws.{bytes_eq-symmetric}
 use Rattle.dv_core.proofs.Spellings.{spelling-field}
-use Rattle.dv_fields.specs.declared.refusal.Refusal.{Refusal}
-use Rattle.dv_fields.specs.declared.refusal.Refusal.TheVariants.{TooLarge}
+use Rattle.dv_refusal.specs.declared.refusal.Refusal.{Refusal}
+use Rattle.dv_refusal.specs.declared.refusal.Refusal.TheVariants.{TooLarge}
 use Rattle.dv_value.specs.Results.{◌>>=◌}
 use Rattle.dv_core.specs.Storable.{id_in, is_within_limits, with_id_first, storable}
 

@@ -15,8 +15,8 @@ use Rattle.dv_core.specs.Indexes.{form_asked}
 use Rattle.dv_core.proofs.Done.{both_false}
 use Rattle.dv_core.proofs.Standing.{indexes_by}
 use Rattle.dv_value.specs.Results.{◌>>=◌}
-use Rattle.dv_fields.specs.declared.refusal.Refusal.{Refusal}
-use Rattle.dv_fields.specs.declared.refusal.Refusal.TheVariants.{BadValue, ConflictingUpdateOperators, DuplicateKey, IndexNotFound, LimitReached}
+use Rattle.dv_refusal.specs.declared.refusal.Refusal.{Refusal}
+use Rattle.dv_refusal.specs.declared.refusal.Refusal.TheVariants.{BadValue, ConflictingUpdateOperators, DuplicateKey, IndexNotFound, LimitReached}
 use Rattle.dv_keyed.specs.Index.{IndexForm, id_form}
 use Rattle.dv_index.specs.Indexed.{is_dropped, without_index}
 use Rattle.dv_index.specs.Unique.{are_broken, clashes}

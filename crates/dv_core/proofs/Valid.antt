@@ -6,8 +6,8 @@ use Rattle.dv_value.specs.Names.{value_under, has_name, AreNamed, without}
 use Rattle.dv_value.specs.Spelling.{IsValue, AreFields}
 use Rattle.dv_value.specs.Tree.{Tree, array, Field, fields_of, list_of_fields}
 use Rattle.dv_value.specs.Results.{◌>>=◌}
-use Rattle.dv_fields.specs.declared.refusal.Refusal.{Refusal}
-use Rattle.dv_fields.specs.declared.refusal.Refusal.TheVariants.{BadValue, TooLarge}
+use Rattle.dv_refusal.specs.declared.refusal.Refusal.{Refusal}
+use Rattle.dv_refusal.specs.declared.refusal.Refusal.TheVariants.{BadValue, TooLarge}
 use Rattle.dv_path.specs.Names.{has_bad_name}
 use Rattle.dv_core.specs.Storable.{id_in, is_within_limits, with_id_first, storable}
 use Rattle.dv_core.proofs.Stored.{has_name-without, without-gone}

@@ -25,8 +25,8 @@ use Rattle.dv_core.proofs.Changed.{Made, MayWrite, outcome_may}
 use Rattle.dv_core.proofs.Made.{created_so, dropped_so}
 use Rattle.dv_core.proofs.Named.{Named, apply_leaves}
 use Rattle.dv_value.specs.Results.{◌>>=◌}
-use Rattle.dv_fields.specs.declared.refusal.Refusal.{Refusal}
-use Rattle.dv_fields.specs.declared.refusal.Refusal.TheVariants.{NamespaceExists, NamespaceNotFound, OnView, ReadByView}
+use Rattle.dv_refusal.specs.declared.refusal.Refusal.{Refusal}
+use Rattle.dv_refusal.specs.declared.refusal.Refusal.TheVariants.{NamespaceExists, NamespaceNotFound, OnView, ReadByView}
 use Rattle.dv_pipe.specs.StageParsing.{pipeline_of}
 use Rattle.dv_pipe.specs.Stages.{Lists, evaluated}
 use Rattle.dv_pipe.specs.declared.stage.Stage.{Stage}

@@ -15,8 +15,8 @@ use Rattle.dv_command.specs.Asked as asking
 use Rattle.dv_command.specs.declared.asking.WriteKind.TheVariants.{Insert}
 use Rattle.dv_command.specs.Replies.{document_of, write_error, cut_error, reply_of, refusal_reply}
 use Rattle.dv_value.specs.Results.{◌>>=◌}
-use Rattle.dv_fields.specs.declared.refusal.Refusal.{Refusal}
-use Rattle.dv_fields.specs.declared.refusal.Refusal.TheVariants.{DuplicateKey, WantOfMemory}
+use Rattle.dv_refusal.specs.declared.refusal.Refusal.{Refusal}
+use Rattle.dv_refusal.specs.declared.refusal.Refusal.TheVariants.{DuplicateKey, WantOfMemory}
 use Rattle.dv_catalog.specs.Changes.{put, Effect, Statement, done_to, unless_it_breaks, with_put}
 use Rattle.dv_core.specs.Inner.Examples.{only, one_field, number, holding, letters, InsertExamples, ReadExamples, RefusalExamples, WantExamples}
 use Rattle.dv_core.specs.Find.{first_batch}

@@ -9,8 +9,8 @@ use Rattle.dv_core.specs.Inner.Examples.{LoadExamples, number, only, holding, wi
 use Rattle.dv_core.specs.Load.{left_by}
 use Rattle.dv_core.specs.State.{State, empty_store_state}
 use Rattle.dv_value.specs.Results.{◌>>=◌}
-use Rattle.dv_fields.specs.declared.refusal.Refusal.{Refusal}
-use Rattle.dv_fields.specs.declared.refusal.Refusal.TheVariants.{DuplicateKey}
+use Rattle.dv_refusal.specs.declared.refusal.Refusal.{Refusal}
+use Rattle.dv_refusal.specs.declared.refusal.Refusal.TheVariants.{DuplicateKey}
 use Rattle.dv_core.specs.Writes.{insert_one}
 use Rattle.dv_core.proofs.Worked.{t_c, nothing_there, put_there, with_only}
 

@@ -29,8 +29,8 @@ use Rattle.dv_catalog.specs.Inner.StateLaws.{same_namespaces, get-insert, get-re
 use Rattle.dv_catalog.specs.Views.{created, dropped, made, reads_name}
 use Rattle.dv_command.specs.Asked.{ViewOn}
 use Rattle.dv_command.specs.Replies.{reply_of, drop_reply, view_stats_reply}
-use Rattle.dv_fields.specs.declared.refusal.Refusal.{Refusal}
-use Rattle.dv_fields.specs.declared.refusal.Refusal.TheVariants.{NamespaceExists, NamespaceNotFound, ReadByView}
+use Rattle.dv_refusal.specs.declared.refusal.Refusal.{Refusal}
+use Rattle.dv_refusal.specs.declared.refusal.Refusal.TheVariants.{NamespaceExists, NamespaceNotFound, ReadByView}
 use Rattle.dv_path.specs.declared.direction.Direction.TheVariants.{Descending}
 use Rattle.dv_core.specs.Inner.Examples.{chained, holding, limiting, nesting, only, two, viewing, MarkExamples, ViewExamples}
 use Rattle.dv_core.specs.Find.{first_batch}

@@ -5,8 +5,8 @@ use Rattle.std.specs.List.{list_all}
 use Rattle.dv_value.specs.Tree.{Field}
 use Rattle.dv_cursor.specs.Batch.{batch, rows_behind}
 use Rattle.dv_cursor.specs.Cursors.{Cursors, added, free_id}
-use Rattle.dv_fields.specs.declared.refusal.Refusal.{Refusal}
-use Rattle.dv_fields.specs.declared.refusal.Refusal.TheVariants.{LimitReached, TooLarge}
+use Rattle.dv_refusal.specs.declared.refusal.Refusal.{Refusal}
+use Rattle.dv_refusal.specs.declared.refusal.Refusal.TheVariants.{LimitReached, TooLarge}
 use Rattle.dv_value.specs.Results.{◌>>=◌}
 use Rattle.dv_command.specs.Asked.{Aggregate, Find}
 use Rattle.dv_command.specs.Replies.{document_of, first_batch_reply}

@@ -1,7 +1,7 @@
 -- What is replied on indexes (MongoDB manual, "createIndexes", "dropIndexes", "explain": their output).
 use Rattle.std.specs.Prelude.{ℕ, List, map, length, Option, Some, None, Result, Ok, codes}
 use Rattle.dv_value.specs.Tree.{Field}
-use Rattle.dv_fields.specs.declared.refusal.Refusal.{Refusal}
+use Rattle.dv_refusal.specs.declared.refusal.Refusal.{Refusal}
 use Rattle.dv_value.specs.Results.{◌>>=◌}
 use Rattle.dv_command.specs.Asked.{CreateIndexes, DropIndexes, Explain}
 use Rattle.dv_command.specs.Entries.{IndexAsked}

@@ -8,11 +8,11 @@ use Rattle.dv_catalog.specs.State.{collection_of, is_view, lists_of}
 use Rattle.dv_core.specs.Writes.{insert_one}
 use Rattle.dv_core.specs.State.{State, standing}
 use Rattle.dv_path.specs.Names.{has_dot}
-use Rattle.dv_fields.specs.Namespaces.{is_database_name, namespace}
-use Rattle.dv_fields.specs.Refusals.{code}
+use Rattle.dv_command.specs.Namespaces.{is_database_name, namespace}
+use Rattle.dv_refusal.specs.Refusals.{code}
 use Rattle.dv_value.specs.Results.{◌>>=◌}
-use Rattle.dv_fields.specs.declared.refusal.Refusal.{Refusal}
-use Rattle.dv_fields.specs.declared.refusal.Refusal.TheVariants.{BadValue, OnView, WantOfMemory}
+use Rattle.dv_refusal.specs.declared.refusal.Refusal.{Refusal}
+use Rattle.dv_refusal.specs.declared.refusal.Refusal.TheVariants.{BadValue, OnView, WantOfMemory}
 
 -- the namespace that a text is: its first dot parts the name of a database and that of a collection
 abbrev pub namespace_in : List ℕ → Result (List ℕ) Refusal

@@ -7,7 +7,7 @@ use Rattle.dv_catalog.specs.Marks.{AreMarkedBy, AreMarkedByDrop, ArePartlyRead, 
 use Rattle.dv_catalog.specs.State.{Namespaces, documents_of, is_collection, is_view, lists_of}
 use Rattle.dv_catalog.specs.State as stored
 use Rattle.dv_catalog.specs.Views.{created, dropped}
-use Rattle.dv_fields.specs.declared.refusal.Refusal.{Refusal}
+use Rattle.dv_refusal.specs.declared.refusal.Refusal.{Refusal}
 use Rattle.dv_views.specs.Forms.{ViewForm, names_read}
 use Rattle.dv_core.specs.State.{State}
 use Rattle.dv_core.specs.Statements.{AreCut, WriteCounts, Written, is_due, next_changes, nothing_written, with_all, with_next}

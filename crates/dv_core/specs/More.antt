@@ -3,8 +3,8 @@ use Rattle.std.specs.Prelude.{ℕ, ℤ, pos, negsuc, ◌==◌, Bool, List, [], �
 use Rattle.dv_value.specs.Tree.{Tree, int64, Field}
 use Rattle.dv_cursor.specs.Batch.{batch, rows_behind}
 use Rattle.dv_cursor.specs.Cursors.{Cursors, rows_to_come, advanced, closed}
-use Rattle.dv_fields.specs.declared.refusal.Refusal.{Refusal}
-use Rattle.dv_fields.specs.declared.refusal.Refusal.TheVariants.{CursorNotFound}
+use Rattle.dv_refusal.specs.declared.refusal.Refusal.{Refusal}
+use Rattle.dv_refusal.specs.declared.refusal.Refusal.TheVariants.{CursorNotFound}
 use Rattle.dv_command.specs.Asked.{GetMore, KillCursors}
 use Rattle.dv_command.specs.Replies.{document_of, next_batch_reply, kill_cursors_reply}
 

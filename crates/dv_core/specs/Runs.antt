@@ -4,7 +4,7 @@ use Rattle.dv_value.specs.Tree.{Field}
 use Rattle.dv_command.specs.Asked.{Asked, GetMore, get_more, asked_by}
 use Rattle.dv_command.specs.Replies.{document_of, first_batch_reply}
 use Rattle.dv_command.specs.declared.command.Command.{Command}
-use Rattle.dv_fields.specs.declared.refusal.Refusal.{Refusal}
+use Rattle.dv_refusal.specs.declared.refusal.Refusal.{Refusal}
 use Rattle.dv_catalog.specs.Marks.{Marks}
 use Rattle.dv_catalog.specs.State as stored
 use Rattle.dv_cursor.specs.Batch.{batch, rows_behind}

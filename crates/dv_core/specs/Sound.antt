@@ -6,8 +6,8 @@ use Rattle.dv_value.specs.Spelling.{AreFields, Fits, Spells, spelling}
 use Rattle.dv_command.specs.declared.command.Command.{Command}
 use Rattle.dv_command.specs.declared.command.Command.TheVariants.{Sections, Invalid}
 use Rattle.dv_value.specs.declared.fault.BsonFault.TheVariants.{RefusedType}
-use Rattle.dv_fields.specs.declared.refusal.Refusal.{Refusal}
-use Rattle.dv_fields.specs.declared.refusal.Refusal.TheVariants.{InvalidBson}
+use Rattle.dv_refusal.specs.declared.refusal.Refusal.{Refusal}
+use Rattle.dv_refusal.specs.declared.refusal.Refusal.TheVariants.{InvalidBson}
 use Rattle.dv_index.specs.Unique.{are_broken}
 use Rattle.dv_catalog.specs.State.{documents_of, indexes_of, AreOrdered, IsOrdered}
 use Rattle.dv_core.specs.State.{State}

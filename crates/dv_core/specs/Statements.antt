@@ -2,7 +2,7 @@
 -- ("insert": `ordered`, `n`, `writeErrors`); what want of memory does is this server's own.
 use Rattle.std.specs.Prelude.{◌≡◌, ℕ, suc, ◌+◌, ◌<◌, ◌⊎◌, not, Bool, true, List, [], ◌∷◌, ◌++◌, take, length, Result, Ok, Err, if◌then◌else◌}
 use Rattle.dv_value.specs.Tree.{Tree, Field}
-use Rattle.dv_fields.specs.declared.refusal.Refusal.{Refusal}
+use Rattle.dv_refusal.specs.declared.refusal.Refusal.{Refusal}
 use Rattle.dv_command.specs.Replies.{document_of, write_error, cut_error}
 use Rattle.dv_catalog.specs.State.{Namespaces, collection_of}
 use Rattle.dv_catalog.specs.Changes.{Change, Effect, Statement, apply, changes_of, done_to}

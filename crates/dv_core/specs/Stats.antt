@@ -1,8 +1,8 @@
 -- What is replied on how a view stands.
 use Rattle.std.specs.Prelude.{List, Option, Some, None, Result, Ok, Err}
 use Rattle.dv_value.specs.Tree.{Field}
-use Rattle.dv_fields.specs.declared.refusal.Refusal.{Refusal}
-use Rattle.dv_fields.specs.declared.refusal.Refusal.TheVariants.{NamespaceNotFound}
+use Rattle.dv_refusal.specs.declared.refusal.Refusal.{Refusal}
+use Rattle.dv_refusal.specs.declared.refusal.Refusal.TheVariants.{NamespaceNotFound}
 use Rattle.dv_command.specs.Asked.{ViewStats}
 use Rattle.dv_command.specs.Replies.{view_stats_reply}
 use Rattle.dv_catalog.specs.Marks.{Marked, Stats, stats_of}

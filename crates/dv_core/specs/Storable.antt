@@ -4,8 +4,8 @@ use Rattle.std.specs.Prelude.{◌&&◌, not, Bool, List, ◌∷◌, Option, Some
 use Rattle.dv_value.specs.Tree.{Tree, document, array, Field, fields_of}
 use Rattle.dv_value.specs.Names.{value_under, without}
 use Rattle.dv_value.specs.Spelling.{spelling, levels}
-use Rattle.dv_fields.specs.declared.refusal.Refusal.{Refusal}
-use Rattle.dv_fields.specs.declared.refusal.Refusal.TheVariants.{BadValue, TooLarge}
+use Rattle.dv_refusal.specs.declared.refusal.Refusal.{Refusal}
+use Rattle.dv_refusal.specs.declared.refusal.Refusal.TheVariants.{BadValue, TooLarge}
 use Rattle.dv_path.specs.Names.{has_bad_name}
 use Rattle.dv_update.specs.Apply.{document_limit, level_limit}
 use Rattle.dv_value.specs.Results.{◌>>=◌}

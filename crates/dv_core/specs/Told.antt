@@ -8,7 +8,7 @@ use Rattle.dv_core.specs.declared.outcome.Outcome.{Outcome}
 use Rattle.dv_core.specs.declared.outcome.Outcome.TheVariants.{Reply}
 use Rattle.dv_core.specs.declared.outcome.Told.{Told}
 use Rattle.dv_core.specs.declared.outcome.Told.TheVariants as tells
-use Rattle.dv_fields.specs.declared.refusal.Refusal.{Refusal}
+use Rattle.dv_refusal.specs.declared.refusal.Refusal.{Refusal}
 
 -- the name under which a reply has its rows, by whether they are a first batch
 abbrev pub batch_name : Bool → List ℕ

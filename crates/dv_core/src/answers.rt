@@ -1,8 +1,8 @@
 //! The outcomes of commands that change nothing.
 
 ghost use Rattle.std.specs.Prelude.{◌≡◌, ◌<◌, ◌^◌, [], Ok, IfOk, OnErr};
-ghost use Rattle.dv_fields.specs.declared.refusal.Refusal.TheVariants.{WantOfMemory};
-ghost use Rattle.dv_fields.specs.Refusals.{UnlessWanting};
+ghost use Rattle.dv_refusal.specs.declared.refusal.Refusal.TheVariants.{WantOfMemory};
+ghost use Rattle.dv_refusal.specs.Refusals.{UnlessWanting};
 ghost use Rattle.dv_command.specs.Replies as replies;
 ghost use Rattle.dv_core.specs.declared.outcome.Outcome.TheVariants.{Reply, NoReply};
 ghost use Rattle.dv_core.specs.Inner.StepParts.{Refuses, TellsReply, reply_told};

@@ -5,7 +5,7 @@ ghost use Rattle.dv_catalog.specs.Inner.IndexParts.{explained_seen};
 ghost use Rattle.dv_command.specs.Inner.View.{index_seen};
 ghost use Rattle.dv_core.specs.Indexes.{explained_reply, form_asked};
 ghost use Rattle.dv_keyed.specs.Inner.View.{form_of_new};
-ghost use Rattle.dv_fields.specs.Refusals.{UnlessWanting};
+ghost use Rattle.dv_refusal.specs.Refusals.{UnlessWanting};
 ghost use Rattle.std.specs.Prelude.{Ok};
 
 use dv_catalog::{Explained, Way};

@@ -10,8 +10,8 @@ ghost use Rattle.dv_command.specs.Replies.{document_of, next_batch_reply, refusa
 ghost use Rattle.dv_command.specs.Sound.{AreSpellable};
 ghost use Rattle.dv_command.specs.declared.asking.WriteKind.TheVariants.{Insert, Delete};
 ghost use Rattle.dv_command.specs.declared.command.Command.{Command};
-ghost use Rattle.dv_fields.specs.declared.refusal.Refusal.{Refusal};
-ghost use Rattle.dv_fields.specs.declared.refusal.Refusal.TheVariants.{LimitReached, OnView, TooLarge};
+ghost use Rattle.dv_refusal.specs.declared.refusal.Refusal.{Refusal};
+ghost use Rattle.dv_refusal.specs.declared.refusal.Refusal.TheVariants.{LimitReached, OnView, TooLarge};
 ghost use Rattle.dv_core.specs.declared.outcome.Outcome.{Outcome};
 ghost use Rattle.dv_core.specs.declared.outcome.Outcome.TheVariants.{Reply, Wanting};
 ghost use Rattle.dv_core.specs.Inner.Examples as examples;

@@ -4,7 +4,7 @@ ghost use Rattle.std.specs.Prelude.{◌≡◌, ◌&&◌, not, nat_lt, length};
 ghost use Rattle.std.specs.String.{string_bytes};
 ghost use Rattle.dv_value.specs.Names.{has_zero};
 ghost use Rattle.dv_core.specs.Load as defined;
-ghost use Rattle.dv_fields.specs.Refusals.{UnlessWanting};
+ghost use Rattle.dv_refusal.specs.Refusals.{UnlessWanting};
 
 use dv_command::Refusal;
 use dv_command::namespaces::namespace;

@@ -53,7 +53,7 @@ impl Machine {
     ghost use Rattle.dv_catalog.specs.Inner.Parts.{StandMade, StandSo};
     ghost use Rattle.dv_catalog.specs.Views as views;
     ghost use Rattle.dv_command.specs.declared.command.Command.TheVariants.{Invalid};
-    ghost use Rattle.dv_fields.specs.Refusals.{UnlessWanting};
+    ghost use Rattle.dv_refusal.specs.Refusals.{UnlessWanting};
     ghost use Rattle.dv_command.specs.Asked as asking;
     ghost use Rattle.dv_command.specs.Replies as replies;
     ghost use Rattle.dv_command.specs.Inner.View.{aggregate_seen, create_indexes_seen, create_seen, drop_indexes_seen, drop_seen, explain_seen, find_seen, get_more_seen, kill_cursors_seen, view_stats_seen, write_seen};

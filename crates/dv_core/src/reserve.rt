@@ -3,7 +3,7 @@
 ghost use Rattle.std.specs.Prelude.{◌≡◌};
 
 use dv_command::{Command, Refusal};
-use dv_fields::fields::first_name;
+use dv_command::first_name;
 use std::alloc::Global;
 
 /// How many bytes are kept.

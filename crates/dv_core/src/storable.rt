@@ -5,7 +5,7 @@ ghost use Rattle.dv_value.specs.Names.{value_under, without};
 ghost use Rattle.dv_value.specs.View.{tree};
 ghost use Rattle.dv_coll.specs.Collection.{HasId};
 ghost use Rattle.dv_core.specs.Storable as stored;
-ghost use Rattle.dv_fields.specs.Refusals.{UnlessWanting};
+ghost use Rattle.dv_refusal.specs.Refusals.{UnlessWanting};
 
 use dv_command::Refusal;
 use dv_command::replies::add;

@@ -7,7 +7,7 @@ use Rattle.dv_catalog.specs.State as stored
 use Rattle.dv_catalog.specs.Views.{created, dropped}
 use Rattle.dv_command.specs.Asked as asking
 use Rattle.dv_command.specs.Asked.{Asked, ViewOn, create, drop}
-use Rattle.dv_fields.specs.declared.refusal.Refusal.{Refusal}
+use Rattle.dv_refusal.specs.declared.refusal.Refusal.{Refusal}
 use Rattle.dv_core.specs.Marks.{AreMarkedAll, AreMarkedByEach, AreMarkedByWrite, AreMarkedWhereDropped, due_changes, marks_behind_all, marks_of_drop, marks_where_made, marks_where_read, marks_written, read_by}
 use Rattle.dv_core.specs.State.{State}
 use Rattle.dv_core.specs.Statements.{WriteCounts, Written, nothing_written, with_next}

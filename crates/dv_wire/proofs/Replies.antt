@@ -8,8 +8,8 @@ use Rattle.dv_value.specs.Results.{◌>>=◌}
 use Rattle.dv_command.specs.Asked.{Asked, asked_by}
 use Rattle.dv_command.specs.declared.command.Command.{Command}
 use Rattle.dv_command.specs.declared.command.Command.TheVariants.{Invalid}
-use Rattle.dv_fields.specs.declared.refusal.Refusal.{Refusal}
-use Rattle.dv_fields.specs.declared.refusal.Refusal.TheVariants.{WantOfMemory}
+use Rattle.dv_refusal.specs.declared.refusal.Refusal.{Refusal}
+use Rattle.dv_refusal.specs.declared.refusal.Refusal.TheVariants.{WantOfMemory}
 use Rattle.dv_core.specs.Marks.{AreMarkedAll, AreMarkedForWant}
 use Rattle.dv_core.specs.declared.outcome.Outcome.{Outcome}
 use Rattle.dv_core.specs.declared.outcome.Outcome.TheVariants.{Reply, Wanting, NoReply}

@@ -10,8 +10,8 @@ use Rattle.dv_command.specs.Asked as asking
 use Rattle.dv_command.specs.Replies.{drop_reply, reply_of}
 use Rattle.dv_command.specs.declared.command.Command.{Command}
 use Rattle.dv_value.specs.Results.{◌>>=◌}
-use Rattle.dv_fields.specs.declared.refusal.Refusal.{Refusal}
-use Rattle.dv_fields.specs.declared.refusal.Refusal.TheVariants.{OnView}
+use Rattle.dv_refusal.specs.declared.refusal.Refusal.{Refusal}
+use Rattle.dv_refusal.specs.declared.refusal.Refusal.TheVariants.{OnView}
 use Rattle.dv_core.specs.Find.{reply_to_find, reply_to_aggregate}
 use Rattle.dv_core.specs.Indexes.{find_explained, indexed, unindexed}
 use Rattle.dv_core.specs.More.{killed, next_batch}

@@ -13,7 +13,7 @@ use Rattle.dv_core.specs.State.{State}
 use Rattle.dv_core.specs.Statements.{IsCutWrite, WriteCounts, Written, nothing_written, with_all}
 use Rattle.dv_core.specs.Step.{Answer, Cut, Wants}
 use Rattle.dv_core.specs.Writes.{reply_by, write_by}
-use Rattle.dv_fields.specs.declared.refusal.Refusal.{Refusal}
+use Rattle.dv_refusal.specs.declared.refusal.Refusal.{Refusal}
 use Rattle.dv_message.specs.Message.{Message}
 use Rattle.dv_wire.specs.Schedule.{reply_bytes}
 use Rattle.dv_wire.specs.Wants.{HoldsWant, IsReplyOfWant, sent, with_cut}

@@ -13,7 +13,7 @@ use Rattle.dv_bson.specs.Reading.{document_at, count_at, body_at, Inside, fields
 use Rattle.dv_value.specs.Results.{◌>>=◌}
 use Rattle.dv_command.specs.Asked.{asked_by}
 use Rattle.dv_command.specs.declared.command.Command.{Command}
-use Rattle.dv_fields.specs.declared.refusal.Refusal.TheVariants.{WantOfMemory}
+use Rattle.dv_refusal.specs.declared.refusal.Refusal.TheVariants.{WantOfMemory}
 use Rattle.dv_core.specs.declared.outcome.Outcome.TheVariants.{NoReply}
 use Rattle.dv_core.specs.State.{State}
 use Rattle.dv_core.specs.Step.{Answer, answered, counted_step}

@@ -3,7 +3,7 @@ use Rattle.std.specs.Prelude.{◌≡◌, ◌≢◌, ℕ, Bool, true, false, Resu
 use Rattle.std.specs.List.{AllByRecursion}
 use Rattle.dv_command.specs.Asked.{Asked, asked_by, view_stats}
 use Rattle.dv_command.specs.declared.command.Command.{Command}
-use Rattle.dv_fields.specs.declared.refusal.Refusal.{Refusal}
+use Rattle.dv_refusal.specs.declared.refusal.Refusal.{Refusal}
 use Rattle.dv_catalog.specs.Marks.{Marks, stale}
 use Rattle.dv_core.specs.State.{State, standing}
 use Rattle.dv_core.specs.Step.{MemoryStep}

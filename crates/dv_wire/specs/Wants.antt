@@ -4,7 +4,7 @@ use Rattle.std.specs.List.{concat}
 use Rattle.dv_value.specs.Spelling.{spelling}
 use Rattle.dv_value.specs.Tree.{Tree, Field}
 use Rattle.dv_command.specs.Replies.{cut_error, document_of, refusal_reply, update_reply, write_reply}
-use Rattle.dv_fields.specs.declared.refusal.Refusal.TheVariants.{WantOfMemory}
+use Rattle.dv_refusal.specs.declared.refusal.Refusal.TheVariants.{WantOfMemory}
 use Rattle.dv_wire.specs.declared.events.Said.{Said}
 use Rattle.dv_wire.specs.declared.events.Said.TheVariants as said
 use Rattle.dv_message.specs.declared.fault.CloseFault.TheVariants as close_faults

@@ -1,7 +1,7 @@
 -- What stands in memory for what is asked and told of indexes, and what the parts of their making give.
 use Rattle.std.specs.Prelude.{ℕ, List, Result, Ok}
 use Rattle.std.specs.String.{string_bytes}
-use Rattle.dv_fields.specs.declared.refusal.Refusal.{Refusal}
+use Rattle.dv_refusal.specs.declared.refusal.Refusal.{Refusal}
 use Rattle.dv_value.specs.Results.{◌>>=◌}
 use Rattle.dv_keyed.specs.Index.{IndexForm}
 use Rattle.dv_catalog.specs.declared.explained.Explained.{Explained}

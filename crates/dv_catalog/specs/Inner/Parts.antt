@@ -1,9 +1,9 @@
 -- What the parts of a write, and of other commands that change something, give.
 use Rattle.std.specs.Prelude.{◌≡◌, ◌<◌, ◌⊎◌, ℕ, List, length, take, Result, Ok, Err}
-use Rattle.dv_fields.specs.declared.refusal.Refusal.{Refusal}
-use Rattle.dv_fields.specs.declared.refusal.Refusal.TheVariants.{WantOfMemory}
-use Rattle.dv_catalog.specs.declared.counted.Counted.{Counted}
-use Rattle.dv_catalog.specs.declared.stopped.Stopped.{Stopped}
+use Rattle.dv_refusal.specs.declared.refusal.Refusal.{Refusal}
+use Rattle.dv_refusal.specs.declared.refusal.Refusal.TheVariants.{WantOfMemory}
+use Rattle.dv_catalog.specs.declared.counts.Counted.{Counted}
+use Rattle.dv_catalog.specs.declared.failure.Stopped.{Stopped}
 use Rattle.dv_catalog.specs.State.{Namespaces, collection_of, lists_of}
 use Rattle.dv_catalog.specs.Marks.{AreMarkedBy, ArePartlyRead, Marked, Marks, marks_read}
 use Rattle.dv_catalog.specs.Changes.{Change, Effect, Statement, apply, changes_of, done_to}

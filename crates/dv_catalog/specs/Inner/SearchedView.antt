@@ -1,8 +1,8 @@
 -- What stands in memory for what a find looks through.
 use Rattle.std.specs.Prelude.{List}
 use Rattle.dv_value.specs.Tree.{Field}
-use Rattle.dv_catalog.specs.declared.searched.Searched.{Searched}
-use Rattle.dv_catalog.specs.declared.searched.Searched.TheVariants.{Collection, ById, Rows}
+use Rattle.dv_catalog.specs.declared.standing.Searched.{Searched}
+use Rattle.dv_catalog.specs.declared.standing.Searched.TheVariants.{Collection, ById, Rows}
 
 abbrev pub searched : Searched → List (List Field)
 searched (Collection c) = c.now.documents

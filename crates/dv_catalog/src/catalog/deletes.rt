@@ -7,10 +7,10 @@ ghost use Rattle.dv_catalog.specs.Inner.Parts.{Cuts, Makes, StandBehind};
 ghost use Rattle.dv_catalog.specs.State.{is_view};
 
 use crate::catalog::Catalog;
-use crate::counted::{Counted, NOTHING};
+use crate::counts::{Counted, NOTHING};
 use crate::delete::{deleted, first_keys};
 use crate::effect::Changes;
-use crate::stopped::Stopped;
+use crate::failure::Stopped;
 use dv_command::{Deletion, Refusal};
 
 /// How many documents go at most where memory is wanting for all of them.

@@ -9,7 +9,7 @@ use Rattle.dv_update.specs.Parsing as updates
 use Rattle.dv_command.specs.Asked.{Asked, ViewOn, hello, ping, write, find, aggregate, get_more, kill_cursors, create, drop, create_indexes, drop_indexes, explain, view_stats, statement_limit}
 use Rattle.dv_command.specs.Entries.{IndexAsked}
 use Rattle.dv_command.specs.Lists.{CommandLists}
-use Rattle.dv_fields.specs.Namespaces.{longest_namespace}
+use Rattle.dv_command.specs.Namespaces.{longest_namespace}
 use Rattle.dv_command.specs.Sound.{AreSpellable, IsSoundPipeline, list, valid, is, IsIndexName}
 
 -- and so has each in the lists beside a body

@@ -9,7 +9,7 @@ use Rattle.dv_command.specs.Replies.{document_of, hello_reply}
 use Rattle.dv_core.specs.declared.outcome.Outcome.TheVariants.{Reply, Wanting, NoReply}
 use Rattle.dv_catalog.specs.Marks.{Marks, live, stale}
 use Rattle.dv_catalog.specs.State.{with_documents}
-use Rattle.dv_fields.specs.declared.refusal.Refusal.TheVariants.{BadValue, DuplicateKey, OnView}
+use Rattle.dv_refusal.specs.declared.refusal.Refusal.TheVariants.{BadValue, DuplicateKey, OnView}
 use Rattle.dv_path.specs.declared.direction.Direction.TheVariants.{Descending}
 use Rattle.dv_pipe.specs.declared.stage.Stage.{Stage}
 use Rattle.dv_pipe.specs.declared.stage.Stage.TheVariants.{Limit, Sort}

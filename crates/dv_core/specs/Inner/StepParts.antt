@@ -1,8 +1,8 @@
 -- What the parts of a step give.
 use Rattle.std.specs.Prelude.{◌≡◌, ◌≢◌, ◌⊎◌, ℕ, List, Result, Ok, Err, ⊤}
 use Rattle.dv_value.specs.Tree.{Field}
-use Rattle.dv_fields.specs.declared.refusal.Refusal.{Refusal}
-use Rattle.dv_fields.specs.declared.refusal.Refusal.TheVariants.{WantOfMemory}
+use Rattle.dv_refusal.specs.declared.refusal.Refusal.{Refusal}
+use Rattle.dv_refusal.specs.declared.refusal.Refusal.TheVariants.{WantOfMemory}
 use Rattle.dv_command.specs.Asked.{Asked}
 use Rattle.dv_command.specs.Replies.{refusal_reply}
 use Rattle.dv_catalog.specs.Marks.{ArePartlyRead, Marks}

@@ -3,16 +3,16 @@ use Rattle.std.specs.Prelude.{◌≡◌, ℕ, suc, ◌+◌, ◌<◌, ◌⊎◌, 
 use Rattle.std.specs.declared.alloc.AllocError.{AllocError}
 use Rattle.dv_value.specs.Tree.{Field}
 use Rattle.dv_value.specs.View.{tree}
-use Rattle.dv_fields.specs.declared.refusal.Refusal.{Refusal}
-use Rattle.dv_fields.specs.declared.refusal.Refusal.TheVariants.{OnView, WantOfMemory}
+use Rattle.dv_refusal.specs.declared.refusal.Refusal.{Refusal}
+use Rattle.dv_refusal.specs.declared.refusal.Refusal.TheVariants.{OnView, WantOfMemory}
 use Rattle.dv_command.specs.Replies.{document_of, write_error, cut_error}
 use Rattle.dv_core.specs.declared.outcome.Outcome.{Outcome}
 use Rattle.dv_core.specs.declared.outcome.Outcome.TheVariants.{Reply, Wanting, NoReply}
-use Rattle.dv_catalog.specs.declared.counted.Counted.{Counted}
+use Rattle.dv_catalog.specs.declared.counts.Counted.{Counted}
 use Rattle.dv_core.specs.declared.written.Written as declared
 use Rattle.dv_core.specs.declared.next.Next.{Next}
 use Rattle.dv_core.specs.declared.next.Next.TheVariants.{Due, Ended, Cut}
-use Rattle.dv_catalog.specs.declared.stopped.Stopped.{Stopped}
+use Rattle.dv_catalog.specs.declared.failure.Stopped.{Stopped}
 use Rattle.dv_catalog.specs.Marks.{AreMarkedBy, Marked, Marks}
 use Rattle.dv_catalog.specs.State.{Namespaces, is_view, lists_of}
 use Rattle.dv_core.specs.Marks.{AreMarkedByCut, AreMarkedByEach}

@@ -1,6 +1,6 @@
 use Rattle.std.proofs.Common.{◌≡◌, ◌∙◌, ◌+◌, ◌++◌, List, Ok, ap, drop, filter, map}
 use Rattle.dv_value.specs.Tree.{Field}
-use Rattle.dv_fields.specs.Refusals.{refused_by, update_refusal}
+use Rattle.dv_refusal.specs.Refusals.{refused_by, update_refusal}
 use Rattle.dv_value.specs.Results.{◌>>=◌}
 use Rattle.dv_pipe.specs.Sources.{rows_referred}
 use Rattle.dv_update.specs.Outcome as outcomes

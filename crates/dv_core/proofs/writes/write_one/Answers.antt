@@ -2,7 +2,7 @@ use Rattle.std.proofs.Common.{ap}
 use Rattle.std.proofs.lemmas.Result.{err_from_is_err_and}
 use Rattle.dv_catalog.specs.Changes.{done_to}
 use Rattle.dv_catalog.specs.State.{collection_of}
-use Rattle.dv_catalog.specs.declared.stopped.Stopped.{Stopped}
+use Rattle.dv_catalog.specs.declared.failure.Stopped.{Stopped}
 use Rattle.dv_core.specs.Writes.{statement_of}
 use Rattle.dv_core.proofs.Marking.{unmade_stands}
 use Rattle.dv_core.proofs.writes.write_one.Goals as goal

@@ -3,7 +3,7 @@ use Rattle.std.proofs.lemmas.List.{take_all}
 use Rattle.std.proofs.lemmas.Result.{err_from_is_err_and}
 use Rattle.dv_catalog.specs.Changes.{Change, apply}
 use Rattle.dv_catalog.specs.Inner.EffectView.{changes_seen, effect_seen}
-use Rattle.dv_catalog.specs.declared.stopped.Stopped.{Stopped}
+use Rattle.dv_catalog.specs.declared.failure.Stopped.{Stopped}
 use Rattle.dv_catalog.proofs.Marking.{stands_before}
 use Rattle.dv_catalog.proofs.catalog.Catalog.carry_out.Goals as goal
 

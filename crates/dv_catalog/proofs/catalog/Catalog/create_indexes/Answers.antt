@@ -1,5 +1,5 @@
 use Rattle.std.proofs.Common.{◌≡◌, false, Result, inl, map, refl, sym, subst, ◌∙◌}
-use Rattle.dv_fields.specs.declared.refusal.Refusal.{Refusal}
+use Rattle.dv_refusal.specs.declared.refusal.Refusal.{Refusal}
 use Rattle.dv_keyed.specs.Inner.View.{form_of_new}
 use Rattle.dv_views.specs.Inner.Views.{view_form}
 use Rattle.dv_catalog.specs.Inner.CatalogParts.{state_of}

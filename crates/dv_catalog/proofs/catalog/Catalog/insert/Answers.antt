@@ -5,7 +5,7 @@ use Rattle.dv_catalog.specs.Changes.{Change, apply, changes_of, done_to, put}
 use Rattle.dv_catalog.specs.Inner.EffectLaws.{done_so}
 use Rattle.dv_catalog.specs.Effects.{put_new}
 use Rattle.dv_catalog.specs.State.{Namespaces, collection_of, documents_of, lists_of}
-use Rattle.dv_catalog.specs.declared.stopped.Stopped.{Stopped}
+use Rattle.dv_catalog.specs.declared.failure.Stopped.{Stopped}
 use Rattle.dv_catalog.proofs.Keeping.{collections_after, documents_after, kept_after, new_put}
 use Rattle.dv_catalog.proofs.Marking.{are_marked, put_stops, stands_before, stands_done}
 use Rattle.dv_catalog.proofs.catalog.Catalog.insert.Goals as goal

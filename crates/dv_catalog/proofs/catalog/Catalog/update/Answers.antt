@@ -6,8 +6,8 @@ use Rattle.dv_catalog.specs.Changes.{changes_of, done_to}
 use Rattle.dv_catalog.specs.Effects.{update_chosen}
 use Rattle.dv_catalog.specs.State.{collection_of, documents_of}
 use Rattle.dv_catalog.specs.Inner.StateLaws.{documents_there}
-use Rattle.dv_catalog.specs.declared.counted.Counted.{Counted}
-use Rattle.dv_catalog.specs.declared.stopped.Stopped.{Stopped}
+use Rattle.dv_catalog.specs.declared.counts.Counted.{Counted}
+use Rattle.dv_catalog.specs.declared.failure.Stopped.{Stopped}
 use Rattle.dv_catalog.proofs.Marking.{nothing_updated, stands_before, stands_idle}
 use Rattle.dv_catalog.proofs.catalog.Catalog.update.Goals as goal
 

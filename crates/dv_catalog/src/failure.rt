@@ -1,0 +1,58 @@
+//! How a statement ends that isn't carried out.
+
+ghost use Rattle.std.specs.Prelude.{◌≡◌};
+ghost use Rattle.dv_refusal.specs.Refusals.{insert_refusal};
+ghost use Rattle.dv_refusal.specs.declared.refusal.Refusal.TheVariants.{WantOfMemory};
+
+use dv_coll::InsertFault;
+use dv_command::Refusal;
+use std::alloc::{AllocError, AllocFailed};
+
+/// Why a statement isn't carried out, and what it leaves.
+#[derive(Clone, Copy, Debug)]
+pub struct Stopped {
+    pub refusal: Refusal,
+    /// How many of its changes were made before, one after the other: none but if memory runs out, and never all of them.
+    pub done: usize,
+}
+
+impl From<Refusal> for Stopped {
+    ghost from_gives = { λ refusal stopped. stopped ≡ record { refusal = refusal; done = 0 } };
+
+    fn from(refusal: Refusal) -> Stopped {
+        Stopped { refusal, done: 0 }
+    }
+}
+
+impl From<AllocError> for Stopped {
+    ghost from_gives = { λ _ stopped. stopped ≡ record { refusal = WantOfMemory; done = 0 } };
+
+    fn from(_e: AllocError) -> Stopped {
+        Stopped {
+            refusal: Refusal::WantOfMemory,
+            done: 0,
+        }
+    }
+}
+
+impl<T: Drop> From<AllocFailed<T>> for Stopped {
+    ghost from_gives = { λ _ stopped. stopped ≡ record { refusal = WantOfMemory; done = 0 } };
+
+    fn from(_e: AllocFailed<T>) -> Stopped {
+        Stopped {
+            refusal: Refusal::WantOfMemory,
+            done: 0,
+        }
+    }
+}
+
+impl From<InsertFault> for Stopped {
+    ghost from_gives = { λ fault stopped. stopped ≡ record { refusal = insert_refusal fault; done = 0 } };
+
+    fn from(fault: InsertFault) -> Stopped {
+        Stopped {
+            refusal: Refusal::from(fault),
+            done: 0,
+        }
+    }
+}

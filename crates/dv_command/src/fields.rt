@@ -1,0 +1,136 @@
+//! The fields of commands and of their entries, by their names.
+
+ghost use Rattle.std.specs.Prelude.{◌≡◌, [], Some, None, Ok, Err, MatchResult};
+ghost use Rattle.dv_value.specs.Names.{value_under};
+ghost use Rattle.dv_value.specs.View.{tree};
+ghost use Rattle.dv_command.specs.Fields as defined;
+ghost use Rattle.dv_refusal.specs.Refusals.{UnlessWanting};
+ghost use Rattle.dv_refusal.specs.declared.refusal.Refusal.TheVariants.{FailedToParse};
+
+use crate::documents::Documents;
+use crate::values::{
+    array_of, boolean_of, document_of, documents_of, integer_of, integers_of, natural_of,
+    only_first_of, text_of, update_of,
+};
+use dv_refusal::Refusal;
+use dv_value::{Document, List, Value};
+use std::alloc::Global;
+
+/// The first name of fields, which in a body is the command; empty if there is none.
+pub fn first_name(fields: &Document) -> &str
+    ensures { result.now ≡ defined.first_name fields.now }
+{
+    match fields.entry(0) {
+        Some((name, _)) => name,
+        None => "",
+    }
+}
+
+/// The value under a name. Refused with `FailedToParse` where there is no field of the name.
+fn required<'a>(fields: &'a Document, name: &str) -> Result<&'a Value, Refusal>
+    ensures { MatchResult result (λ value. value_under name.now fields.now ≡ Some (tree value.now)) (λ refusal. (value_under name.now fields.now ≡ None) × (refusal ≡ FailedToParse)) }
+{
+    fields.get(name).ok_or(Refusal::FailedToParse)
+}
+
+/// The text under a name. Refused with `FailedToParse` if there is no field of the name, and with `TypeMismatch` if there is
+/// another value.
+pub(crate) fn text_under<'a>(fields: &'a Document, name: &str) -> Result<&'a str, Refusal>
+    ensures { MatchResult result (λ text. defined.text_under name.now fields.now ≡ Ok text.now) (λ refusal. defined.text_under name.now fields.now ≡ Err refusal) }
+{
+    text_of(required(fields, name)?)
+}
+
+/// The boolean under a name, or `default` if there is no field of the name. Refused with `TypeMismatch` if there is another value.
+pub(crate) fn boolean_under(fields: &Document, name: &str, default: bool) -> Result<bool, Refusal>
+    ensures { result ≡ defined.boolean_under name.now default fields.now }
+{
+    fields.get(name).map_or(Ok(default), boolean_of)
+}
+
+/// The integer from 0 under a name, or `default` if there is no field of the name. Refused with `TypeMismatch` if there is a value
+/// of another type, and with `BadValue` if there is a negative integer.
+pub(crate) fn natural_under(fields: &Document, name: &str, default: u64) -> Result<u64, Refusal>
+    ensures { result ≡ defined.natural_under name.now default fields.now }
+{
+    fields.get(name).map_or(Ok(default), natural_of)
+}
+
+/// The integer under a name, of either width. Refused with `FailedToParse` if there is no field of the name, and with
+/// `TypeMismatch` if there is another value.
+pub(crate) fn integer_under(fields: &Document, name: &str) -> Result<i64, Refusal>
+    ensures { result ≡ defined.integer_under name.now fields.now }
+{
+    integer_of(required(fields, name)?)
+}
+
+/// The integers in the array under a name, of either width. Refused with `FailedToParse` if there is no field of the name, with
+/// `TypeMismatch` if there is another value, or an array with another value in it, and with `WantOfMemory`.
+pub(crate) fn integers_under(
+    alloc: Global,
+    fields: &Document,
+    name: &str,
+) -> Result<Vec<i64>, Refusal>
+    ensures { UnlessWanting (λ integers. integers.items) (defined.integers_under name.now fields.now) result }
+{
+    integers_of(alloc, array_under(fields, name)?.as_slice())
+}
+
+/// The document under a name. Refused with `FailedToParse` if there is no field of the name, and with `TypeMismatch` if there is
+/// another value.
+pub(crate) fn document_under<'a>(fields: &'a Document, name: &str) -> Result<&'a Document, Refusal>
+    ensures { MatchResult result (λ document. defined.document_under name.now fields.now ≡ Ok document.now) (λ refusal. defined.document_under name.now fields.now ≡ Err refusal) }
+{
+    document_of(required(fields, name)?)
+}
+
+/// The document under a name, or `default` if there is no field of the name. Refused with `TypeMismatch` if there is another value.
+pub(crate) fn document_or<'a>(
+    fields: &'a Document,
+    name: &str,
+    default: &'a Document,
+) -> Result<&'a Document, Refusal>
+    requires { default.now ≡ [] }
+    ensures { MatchResult result (λ document. defined.document_or_none name.now fields.now ≡ Ok document.now) (λ refusal. defined.document_or_none name.now fields.now ≡ Err refusal) }
+{
+    match fields.get(name) {
+        None => Ok(default),
+        Some(value) => document_of(value),
+    }
+}
+
+/// The documents in the array under a name. Refused with `FailedToParse` if there is no field of the name, and with `TypeMismatch`
+/// if there is another value, or an array with another value in it.
+pub(crate) fn documents_under<'a>(
+    fields: &'a Document,
+    name: &str,
+) -> Result<Documents<'a>, Refusal>
+    ensures { MatchResult result (λ documents. defined.documents_under name.now fields.now ≡ Ok documents) (λ refusal. defined.documents_under name.now fields.now ≡ Err refusal) }
+{
+    documents_of(required(fields, name)?)
+}
+
+/// The list of the array under a name. Refused with `FailedToParse` if there is no field of the name, and with `TypeMismatch` if
+/// there is another value.
+pub(crate) fn array_under<'a>(fields: &'a Document, name: &str) -> Result<&'a List, Refusal>
+    ensures { MatchResult result (λ list. defined.array_under name.now fields.now ≡ Ok list.now) (λ refusal. defined.array_under name.now fields.now ≡ Err refusal) }
+{
+    array_of(required(fields, name)?)
+}
+
+/// Whether a statement deletes only the first document, by the value under a name: 1, and not 0. Refused with `FailedToParse` if
+/// there is no field of the name, with `TypeMismatch` if there is another value than an integer, and with `BadValue` if there is
+/// another integer.
+pub(crate) fn only_first_under(fields: &Document, name: &str) -> Result<bool, Refusal>
+    ensures { result ≡ defined.only_first_under name.now fields.now }
+{
+    only_first_of(required(fields, name)?)
+}
+
+/// The document of an update under a name. Refused with `FailedToParse` if there is no field of the name, or an array under it, and
+/// with `TypeMismatch` if there is another value.
+pub(crate) fn update_under<'a>(fields: &'a Document, name: &str) -> Result<&'a Document, Refusal>
+    ensures { MatchResult result (λ document. defined.update_under name.now fields.now ≡ Ok document.now) (λ refusal. defined.update_under name.now fields.now ≡ Err refusal) }
+{
+    update_of(required(fields, name)?)
+}

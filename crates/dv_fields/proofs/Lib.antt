@@ -1,3 +1,0 @@
-mod Lists
-pub mod Checks
-pub mod Among

@@ -1,9 +1,0 @@
--- what was read out of the values so far stands in front of what is read out of the others
-use Rattle.std.proofs.Common.{◌≡◌, ◌++◌, Ok, drop, map}
-use Rattle.dv_value.specs.View.{tree}
-use Rattle.dv_fields.specs.Fields.{integer_in}
-use Rattle.dv_value.specs.Results.{◌>>=◌, each}
-use Rattle.dv_fields.proofs.values.integers_of.Given as goal
-
-abbrev pub invariant-values : goal.invariant-values
-invariant-values l = each integer_in (map tree l.fn.values) ≡ (each integer_in (map tree (drop l.value-index l.fn.values)) >>= λ behind. Ok (l.integers.items ++ behind))

@@ -1,0 +1,6 @@
+//! Why a command is refused.
+#![tactic(auto)]
+
+mod refusal;
+
+pub use refusal::Refusal;
