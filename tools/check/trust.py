@@ -155,6 +155,12 @@ def is_constructor(lines, at):
     return around.lstrip().startswith("pub data ")
 
 
+def is_field(item, name):
+    """Whether a name is that of a record's field, which no import names."""
+    at = next((at for at, line in enumerate(item.lines) if re.match(r"\s+(pub )?%s\s*:" % re.escape(name), line)), None)
+    return at is not None and "record " in "".join(item.lines[:at]) and not is_constructor(item.lines, at)
+
+
 def sources(root):
     """Each file that may name a definition."""
     root = pathlib.Path(root)
@@ -203,14 +209,15 @@ def halves(plan, module, outer, inner):
     heading = [line for line in file.lines[:first] if line.startswith("--")]
     used = [name for item in outer for name in item.names if any(spoken(name) & other.words for other in inner)]
     lines = {id(item): published(item, [name for name in item.names if name in used]) for item in outer}
-    own = "use Rattle.%s.specs.%s.{%s}" % (module.crate, module.name, ", ".join(dict.fromkeys(used)))
+    imported_names = [name for item in outer for name in item.names if name in used and not is_field(item, name)]
+    own = "use Rattle.%s.specs.%s.{%s}" % (module.crate, module.name, ", ".join(dict.fromkeys(imported_names)))
 
     def written(items, head, uses, comment):
         body = "\n".join("\n".join(lines.get(id(item), item.lines)).strip("\n") + "\n" for item in items)
         return "\n".join([*comment, *needed(uses, body), "", body])
 
     top = written(outer, header, header, heading)
-    rest = written(inner, header, header + ([own] if used else []), ["-- Of `%s`, what only bodies and proofs need." % module.name])
+    rest = written(inner, header, header + ([own] if imported_names else []), ["-- Of `%s`, what only bodies and proofs need." % module.name])
     return re.sub(r"\n{3,}", "\n\n", top), re.sub(r"\n{3,}", "\n\n", rest)
 
 

@@ -4,7 +4,7 @@ use Rattle.dv_change.specs.declared.change.Change.{Change}
 use Rattle.dv_change.specs.declared.input.Input.{Input}
 use Rattle.dv_change.specs.declared.input.Input.TheVariants.{Left, Named}
 use Rattle.dv_change.specs.Inputs.{input_changed_at}
-use Rattle.dv_change.specs.Work.{Form, makes, named}
+use Rattle.dv_change.specs.Work.{Form}
 
 -- how many lists the stages look into
 abbrev pub named_in : List Form → ℕ

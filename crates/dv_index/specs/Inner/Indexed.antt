@@ -8,7 +8,7 @@ use Rattle.dv_value.specs.Tree.{Field}
 use Rattle.dv_value.specs.Inner.TreeCode.{coded_tree}
 use Rattle.dv_keyed.specs.Index.{IndexForm}
 use Rattle.dv_keyed.specs.Inner.Index.{coded_form}
-use Rattle.dv_index.specs.Indexed.{IndexedTree, documents, indexes}
+use Rattle.dv_index.specs.Indexed.{IndexedTree}
 
 -- with other documents, and the same indexes
 abbrev pub with_documents : List (List Field) → IndexedTree → IndexedTree

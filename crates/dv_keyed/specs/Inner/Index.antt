@@ -3,7 +3,7 @@ use Rattle.std.specs.Prelude.{◌≡◌, ℕ, Bool, false, List, [], ◌∷◌, 
 use Rattle.std.specs.Coded.{Coded, coded_bool, coded_ℕ, coded_list, coded×, code_by}
 use Rattle.dv_order.specs.Inner.Key.{coded_key}
 use Rattle.dv_keyed.specs.Inner.Pairs.{Pair}
-use Rattle.dv_keyed.specs.Index.{IndexForm, name, path, unique, id_form}
+use Rattle.dv_keyed.specs.Index.{IndexForm, id_form}
 
 pub record IndexTree : Type 0 where
   pub name : List ℕ

@@ -7,7 +7,7 @@ use Rattle.dv_path.specs.declared.direction.Direction.{Direction}
 use Rattle.dv_path.specs.declared.direction.Direction.TheVariants.{Ascending, Descending}
 use Rattle.dv_path.specs.SortSpec.{Part}
 use Rattle.dv_sort.specs.Sorting.{front}
-use Rattle.dv_sort.specs.Front.{Front, parts, most, rows}
+use Rattle.dv_sort.specs.Front.{Front}
 
 -- ---- a front as a ghost value, one to one
 

@@ -13,7 +13,7 @@ use Rattle.dv_views.specs.declared.fault.ViewFault.{ViewFault}
 use Rattle.dv_views.specs.declared.state.ViewState.{ViewState}
 use Rattle.dv_views.specs.declared.state.ViewState.TheVariants as states
 use Rattle.dv_views.specs.declared.fault.ViewFault.TheVariants.{NoMemory}
-use Rattle.dv_views.specs.Views.{Taken, taken, rows, ticks, ViewMark, live, stale, View, name, source, stages, mark, taken_from}
+use Rattle.dv_views.specs.Views.{Taken, ViewMark, live, stale, View, taken_from}
 
 abbrev pub Views : Type 0
 Views = List View
