@@ -6,7 +6,7 @@ use Rattle.dv_command.specs.Kinds.{FieldPlace}
 use Rattle.dv_refusal.specs.declared.refusal.Refusal.TheVariants.{FailedToParse}
 use Rattle.dv_command.specs.Fields.{Table, check_fields, check_field, check_empty, check_none, check_single}
 use Rattle.dv_value.specs.Results.{◌>>=◌}
-use Rattle.dv_command.proofs.Lists.{drop_at}
+use Rattle.dv_command.proofs.Places.{drop_at}
 
 -- the field at an index is looked at, and then those behind it
 pub check_fields-at : (place : FieldPlace) (table : Table) (fs : List Field) (index : ℕ) (f : Field) → slice_get fs index ≡ Some f

@@ -1,4 +1,4 @@
-mod Lists
+mod Places
 pub mod Checks
 pub mod Among
 mod Lengths

@@ -1,7 +1,7 @@
 -- A field at fault is told, and one that isn't leaves it to those behind it.
 use Rattle.std.proofs.Common.{◌≡◌, arith, rules, sym, map, Err}
 use Rattle.dv_value.specs.View.{tree}
-use Rattle.dv_command.proofs.Lists.{slice_get_none}
+use Rattle.dv_command.proofs.Places.{slice_get_none}
 use Rattle.dv_command.specs.Fields.{check_field}
 use Rattle.dv_command.specs.Inner.RulesView.{place_seen, rule_seen}
 use Rattle.dv_command.proofs.Checks.{check_fields-at}

@@ -1,4 +1,4 @@
--- Facts about lists.
+-- Places in lists.
 use Rattle.std.proofs.Common.{◌≡◌, ℕ, zero, suc, ◌+◌, ◌≤◌, List, [], ◌∷◌, length, drop, None, Some, refl, add-one, arith}
 use Rattle.std.specs.List.{slice_get}
 
