@@ -352,13 +352,14 @@ This page lists what a user has to believe: the definitions that contracts and l
 order, each with the comment above it. Each file names the part of the public standard that it restates. All other definitions and
 lemmas are in folders `Inner`: they are proved, or serve only proofs.
 
-The definitions know lists of bytes, trees of values and lists of documents. They know no buffer and no allocator. Three words take
-a change or an outcome as the code has it (`with_field_changed`, `with_field_changed_in`, `outcome_seen`); no theorem on commands or
-bytes mentions them. Positions and changes say what an operator owes and counts. So they appear in what marks count, and in
-`AreRight`, which says that live views have their rows. A definition that reads a form gives it, or the first fault in written order.
+The definitions use lists of bytes, trees of values and lists of documents, but no buffers and no allocators. Three definitions take
+a change or an outcome as the code represents it (`with_field_changed`, `with_field_changed_in`, `outcome_seen`); no theorem about
+commands or bytes uses them. Positions and changes define which changes an operator returns and which ticks it counts. So they appear
+in the definitions of marks, and in `AreRight`, which says that live views have their rows. A definition that parses or reads something
+returns the result, or the first fault in written order.
 
-A file `View` says what types in memory represent. `Gives` in a crate says that a call returns what is defined, or that memory ran
-out; so does `UnlessWanting` of a refusal, `Leaves` of a state, and `Makes` of a statement.
+A file `View` says what types in memory represent. `Gives` says that a call returned the defined result, or ran out of memory; so do
+`UnlessWanting` for refusals, `Leaves` for states, and `Makes` for statements.
 """
 
 

@@ -1,6 +1,5 @@
--- Making indexes, dropping them, and telling by which one a find is answered (MongoDB manual, "createIndexes", "dropIndexes",
--- "explain"). The limit, the order of refusals, and that an entry is refused where its name or its path alone is there, are this server's
--- own.
+-- How indexes are created and dropped, and which one an explain reports (MongoDB manual, "createIndexes", "dropIndexes", "explain").
+-- The limit, the order of the refusals, and that an entry is refused if another index has its name or path, are this server's own.
 use Rattle.std.specs.Prelude.{◌&&◌, ◌||◌, Bool, ℕ, List, [], ◌∷◌, ◌++◌, Option, Some, None, Result, Ok, Err, codes, drop, length, nat_lt, if◌then◌else◌}
 use Rattle.std.specs.FinMap as finite
 use Rattle.std.specs.Bool.{beq}
@@ -16,50 +15,52 @@ use Rattle.dv_index.specs.Unique.{are_broken}
 use Rattle.dv_match.specs.Filter.{Members}
 use Rattle.dv_catalog.specs.State.{Collection, Standing, State, collection, collection_of, indexes_of, is_collection, is_view, rows_of, with_indexes}
 
--- how many indexes a collection has at most, that on `_id` among them
+-- the greatest number of indexes of a collection, `_id_` included
 abbrev pub index_limit : ℕ
 index_limit = 64
 
--- whether they are one index
+-- whether two indexes are the same: name, path, and whether they are unique
 abbrev pub is_same : IndexForm → IndexForm → Bool
 is_same x y = bytes_eq x.name y.name && same_path x.path y.path && beq x.unique y.unique
 
--- whether they share a name or a path
+-- whether two indexes have the same name or the same path
 abbrev pub is_alike : IndexForm → IndexForm → Bool
 is_alike x y = bytes_eq x.name y.name || same_path x.path y.path
 
--- whether nothing is to be made for an entry: it is on `_id`, or its index is there
+-- whether an entry of a createIndexes changes nothing: it is on `_id`, or the same index exists
 abbrev pub is_made : IndexForm → List IndexForm → Bool
 is_made x indexes = same_path x.path id_form.path || list_any (is_same x) indexes
 
--- ---- making
+-- ---- creating
 
--- the indexes and one more where it isn't there; refused where its name or its path is, but not the same index
+-- the indexes with one more, unless the same one exists; refused with 40 if another index has its name or its path
 abbrev pub with_index : IndexForm → List IndexForm → Result (List IndexForm) Refusal
 with_index x indexes =
     if is_made x indexes then Ok indexes
     else if list_any (is_alike x) indexes then Err ConflictingUpdateOperators
     else Ok (indexes ++ x ∷ [])
 
--- entry by entry; an index that an earlier entry makes counts as there
+-- the indexes after each entry in turn, or the first refusal; the indexes of earlier entries count as existing
 abbrev pub with_entries : List IndexForm → List IndexForm → Result (List IndexForm) Refusal
 with_entries [] indexes = Ok indexes
 with_entries (x ∷ xs) indexes = with_index x indexes >>= λ more. with_entries xs more
 
+-- refuses more than 64 indexes with 903
 abbrev pub within_limit : List IndexForm → Result (List IndexForm) Refusal
 within_limit indexes = if nat_lt index_limit (length indexes) then Err LimitReached else Ok indexes
 
--- refused where the documents have a key of a unique index that comes under two `_id`s
+-- refuses a new unique index with 11000 if two documents have a key in common
 abbrev pub unless_broken : Collection → List IndexForm → Result (List IndexForm) Refusal
 unless_broken c indexes = if are_broken (drop (length c.indexes) indexes) c.documents then Err DuplicateKey else Ok indexes
 
--- all entries, for a collection, or why none is made
+-- the indexes after all entries for a collection, or the refusal, so that none is created
 abbrev pub with_all : List IndexForm → Collection → Result (List IndexForm) Refusal
 with_all entries c = with_entries entries c.indexes >>= within_limit >>= unless_broken c
 
 -- ---- dropping
 
--- the indexes but the one of a name, or, for a star, all but that on `_id`, which can't be dropped
+-- the indexes without the one with this name, or for `*` without all but `_id_`; refused with 2 for `_id_`, and with 27 if no index has
+-- the name
 abbrev pub without_named : List ℕ → List IndexForm → Result (List IndexForm) Refusal
 without_named name indexes =
     if bytes_eq name (codes "*") then Ok (id_form ∷ [])
@@ -69,17 +70,17 @@ without_named name indexes =
 
 -- ---- commands
 
--- with the indexes that are made of those of a namespace, if they are
+-- the state with these indexes of a namespace, or their refusal
 abbrev pub with_indexes_so : List ℕ → Result (List IndexForm) Refusal → State → Result State Refusal
 with_indexes_so namespace made state = made >>= λ indexes. Ok (record state { namespaces = with_indexes namespace indexes state.namespaces })
 
--- the state with these indexes; the collection is made where it isn't there. Refused on a view
+-- the state after a createIndexes, which creates the collection if it doesn't exist; refused with 902 on a view
 abbrev pub indexes_created : List ℕ → List IndexForm → State → Result State Refusal
 indexes_created namespace entries state =
     if is_view namespace state.views then Err OnView
     else with_indexes_so namespace (with_all entries (collection_of namespace state.namespaces)) state
 
--- the state without these indexes. Refused on a view, and where nothing stands under the namespace
+-- the state after a dropIndexes; refused with 902 on a view, and with 26 if the namespace doesn't exist
 abbrev pub indexes_dropped : List ℕ → List ℕ → State → Result State Refusal
 indexes_dropped namespace name state =
     if is_view namespace state.views then Err OnView
@@ -88,29 +89,32 @@ indexes_dropped namespace name state =
 
 -- ---- explaining
 
--- how rows are found: those of a view, by the index of a name, or by looking at all documents
+-- how the documents of a find are read: from a view, by the index with this name, or all (a scan)
 pub data Way : Type 0 where
   over_view : Way
   by_index : List ℕ → Way
   over_all : Way
 
--- and how many the plan covers: those with a leaf in its bounds, or all
+-- what an explain reports: how documents are read, and how many of them have a leaf within the bounds, or all if no index is used
 pub record Explained : Type 0 where
   pub way : Way
   pub documents : ℕ
 
+-- how documents are read: by the index with this name, or all if there is no name
 abbrev pub way_by : Option (List ℕ) → Way
 way_by None = over_all
 way_by (Some name) = by_index name
 
+-- what an explain reports for a filter on a collection
 abbrev pub explained_of : Members → Collection → Explained
 explained_of filter c = record { way = way_by (index_chosen filter c.indexes); documents = documents_covered filter c }
 
--- none where nothing stands
+-- what an explain reports for a filter on a collection; one that doesn't exist has no documents
 abbrev pub explained_at : Members → Option Standing → Explained
 explained_at filter None = record { way = over_all; documents = 0 }
 explained_at filter (Some (collection c)) = explained_of filter c
 
+-- what an explain reports for a filter on a namespace; on a view, the number of its rows
 abbrev pub explained : List ℕ → Members → State → Explained
 explained namespace filter state =
     if is_view namespace state.views then record { way = over_view; documents = length (rows_of namespace state) }

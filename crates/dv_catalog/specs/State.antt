@@ -1,7 +1,6 @@
--- What commands read and change: what stands under each namespace. That no two documents of a collection have an equal `_id` is the
--- MongoDB manual's ("Documents", "The _id Field"), and so is that a view's rows are those of its pipeline ("Views"); that documents
--- stand in the order of their `_id`s is this server's own. That each collection has an index on `_id`, which can't be dropped, is the
--- MongoDB manual's ("Indexes", "Default Index").
+-- The collections and views that commands read and change. That no two documents of a collection have the same `_id` is the MongoDB
+-- manual's rule ("Documents", "The _id Field"); so are the rows of a view ("Views"), and the index on `_id` that each collection has
+-- and that can't be dropped ("Indexes", "Default Index"). The order of documents by `_id` is this server's own.
 use Rattle.std.specs.Prelude.{◌||◌, not, Bool, ℕ, List, [], Option, Some, None, filter}
 use Rattle.std.specs.Cmp.Lexicographic.{slice_cmp}
 use Rattle.std.specs.FinMap as finite
@@ -15,89 +14,96 @@ use Rattle.dv_index.specs.Indexed.{IndexedTree, empty_indexed}
 use Rattle.dv_pipe.specs.Stages.{Lists}
 use Rattle.dv_views.specs.Forms.{ViewForm, rows_over}
 
--- a collection: its documents, in the order of their `_id`s, and the names and paths of its indexes and whether they are unique, in the
--- order in which they were made, that on `_id` first. What an index holds is no part of it
+-- The documents of a collection in the order of `_id`, and its indexes in the order of creation, `_id_` first, each with its name, its
+-- path and whether it is unique. The entries of an index are not part of it.
 abbrev pub Collection : Type 0
 Collection = IndexedTree
 
--- what is kept under a namespace
+-- what is stored under a namespace: a collection; views are stored separately
 pub data Standing : Type 0 where
   collection : Collection → Standing
 
--- from the namespaces under which something is kept to what it is
+-- the collections, by namespace
 abbrev pub Namespaces : Type 0
 Namespaces = finite.FinMap (slice_cmp nat_cmp) Standing
 
--- collections, and views in the order in which they were made; nothing stands under a namespace twice
+-- the collections, and the views in the order of creation; no namespace has both
 pub record State : Type 0 where
   pub namespaces : Namespaces
   pub views : List ViewForm
 
+-- no collections and no views
 abbrev pub empty_state : State
 empty_state = record { namespaces = finite.empty; views = [] }
 
 -- ---- collections
 
+-- the collection that was found, or an empty one
 abbrev pub collection_at : Option Standing → Collection
 collection_at None = empty_indexed
 collection_at (Some (collection c)) = c
 
--- the collection of a namespace; where it isn't there, one without documents and with the index on `_id` alone
+-- the collection of a namespace; if it doesn't exist, an empty one with the index `_id_` alone
 abbrev pub collection_of : List ℕ → Namespaces → Collection
 collection_of namespace namespaces = collection_at (finite.get namespaces namespace)
 
+-- the documents of a collection
 abbrev pub documents_of : List ℕ → Namespaces → List (List Field)
 documents_of namespace namespaces = (collection_of namespace namespaces).documents
 
+-- the indexes of a collection
 abbrev pub indexes_of : List ℕ → Namespaces → List IndexForm
 indexes_of namespace namespaces = (collection_of namespace namespaces).indexes
 
--- with these documents in the collection of a namespace, be it there or not
+-- the collections, with these documents in one of them, which is created if it doesn't exist
 abbrev pub with_documents : List ℕ → List (List Field) → Namespaces → Namespaces
 with_documents namespace documents namespaces =
     finite.insert namespaces namespace (collection (record (collection_of namespace namespaces) { documents = documents }))
 
--- with these indexes of the collection of a namespace, be it there or not
+-- the collections, with these indexes of one of them, which is created if it doesn't exist
 abbrev pub with_indexes : List ℕ → List IndexForm → Namespaces → Namespaces
 with_indexes namespace indexes namespaces =
     finite.insert namespaces namespace (collection (record (collection_of namespace namespaces) { indexes = indexes }))
 
--- what the collections hold
+-- the documents of each collection, by namespace
 abbrev pub lists_of : Namespaces → Lists
 lists_of namespaces namespace = documents_of namespace namespaces
 
--- each document begins with its `_id`, in the order of which they stand; no two are equal, whatever the width of their integers
+-- each document begins with its `_id`, and the `_id`s ascend strictly, with the width of integers ignored
 abbrev pub AreOrdered : List (List Field) → Type 0
 AreOrdered documents = IsAscending documents × AllByRecursion HasId documents
 
--- the documents of each namespace are in the order of their `_id`s
+-- the documents of each namespace begin with their `_id`s, which ascend strictly
 abbrev pub IsOrdered : State → Type 0
 IsOrdered state = (namespace : List ℕ) → AreOrdered (documents_of namespace state.namespaces)
 
 -- ---- views
 
+-- whether the view has this name
 abbrev pub has_name : List ℕ → ViewForm → Bool
 has_name namespace v = bytes_eq namespace v.name
 
--- the view under a namespace, where there is one
+-- the view with this name, if any
 abbrev pub view_named : List ℕ → List ViewForm → Option ViewForm
 view_named namespace views = find (has_name namespace) views
 
+-- whether there is a view with this name
 abbrev pub is_view : List ℕ → List ViewForm → Bool
 is_view namespace views = list_any (has_name namespace) views
 
+-- whether there is a collection with this name
 abbrev pub is_collection : List ℕ → Namespaces → Bool
 is_collection namespace namespaces = finite.contains_key namespaces namespace
 
--- whether something stands under a namespace
+-- whether there is a collection or view with this name
 abbrev pub is_there : List ℕ → State → Bool
 is_there namespace state = is_collection namespace state.namespaces || is_view namespace state.views
 
--- the views but the one of a namespace
+-- the views without the one with this name
 abbrev pub without_view : List ℕ → List ViewForm → List ViewForm
 without_view namespace views = filter (λ v. not (has_name namespace v)) views
 
--- the rows that stand under a namespace: a collection's documents, or those of a view's pipeline over what stands there; none where
--- nothing stands
+-- the rows of a namespace: a collection's documents, or the rows of a view's pipeline over the current rows of its sources; none if the
+-- namespace doesn't exist
 abbrev pub rows_of : List ℕ → State → List (List Field)
 rows_of namespace state = rows_over state.views (lists_of state.namespaces) namespace

@@ -1,4 +1,4 @@
--- Changes of a collection as views are told of them.
+-- The changes of a collection as changes of rows at positions, which views take in.
 use Rattle.std.specs.Prelude.{◌≡◌, ◌⊎◌, ℕ, false, List, [], ◌∷◌, map}
 use Rattle.dv_change.specs.declared.change.Change as flow
 use Rattle.dv_change.specs.declared.change.Change.TheVariants.{Put, Gone}
@@ -7,7 +7,7 @@ use Rattle.dv_coll.specs.Collection.{id_key}
 use Rattle.dv_views.specs.Views as views
 use Rattle.dv_catalog.specs.Changes.{Change, put, gone}
 
--- a change at the position of the document, the key of its `_id`
+-- a change of a document as a change at its position, which is the key of its `_id`
 abbrev pub told : Change → flow.Change
 told (put d) = Put (Up (id_key d) ∷ []) d
 told (gone k) = Gone (Up k ∷ [])

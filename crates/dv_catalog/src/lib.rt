@@ -1,4 +1,4 @@
-//! Collections and views: what stands under namespaces.
+//! Collections and views, by namespace.
 #![tactic(auto)]
 
 mod ahead;

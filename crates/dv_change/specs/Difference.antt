@@ -1,4 +1,4 @@
--- The changes that lead from a list of rows to another one.
+-- The changes from one list of rows at positions to another.
 use Rattle.std.specs.Prelude.{Bool, false, not, List, [], ◌∷◌, ◌++◌, map, Option, None, Some, is_none, if◌then◌else◌}
 use Rattle.std.specs.List.{filter}
 use Rattle.dv_value.specs.Tree.{Field, fields_of}
@@ -8,27 +8,28 @@ use Rattle.dv_change.specs.declared.change.Change.TheVariants.{Put, Gone}
 use Rattle.dv_change.specs.Changes.{Positioned, at}
 use Rattle.dv_change.specs.Positions.{PosTree}
 
--- whether there is a row, and it is the same as the other one
+-- whether there is a row, and it has the same encoding as the other
 abbrev pub stands_as : Option (List Field) → List Field → Bool
 stands_as None row = false
 stands_as (Some there) row = same_fields (fields_of there) (fields_of row)
 
--- a position at which rows have none goes
+-- the removal at this position, if the new rows have no row there
 abbrev pub gone_from : PosTree → Positioned → List Change
 gone_from pos new = if is_none (at pos new) then Gone pos ∷ [] else []
 
--- a row that rows don't hold as it is comes
+-- the change to this row, unless the old rows have the same row there
 abbrev pub put_over : Positioned → PosTree → List Field → List Change
 put_over old pos row = if not (stands_as (at pos old) row) then Put pos row ∷ [] else []
 
--- each position of the first list at which the second one has no row goes
+-- the removals of the old rows at whose positions the new list has no row
 abbrev pub gones : Positioned → Positioned → List Change
 gones old new = map (λ e. Gone e.0) (filter (λ e. is_none (at e.0 new)) old)
 
--- each row of the second list that the first one doesn't hold as it is comes
+-- the changes to those new rows that the old list doesn't have in the same encoding at their positions
 abbrev pub puts : Positioned → Positioned → List Change
 puts old new = map (λ e. Put e.0 e.1) (filter (λ e. not (stands_as (at e.0 old) e.1)) new)
 
--- what goes, and then what comes, each in the order of positions
+-- the changes from the old rows to the new ones: first the removals, then the inserted and replaced rows, each in the order of
+-- positions
 abbrev pub diff : Positioned → Positioned → List Change
 diff old new = gones old new ++ puts old new

@@ -1,4 +1,4 @@
--- Positions: where a row stands among the rows that a collection has, or that a stage hands out.
+-- Positions: the places of rows in the order of a collection, or of the rows that a stage returns.
 use Rattle.std.specs.Prelude.{ℕ, List, ⊤}
 use Rattle.std.specs.declared.cmp.Ordering.{Ordering}
 use Rattle.std.specs.Ordering.{nat_cmp}
@@ -9,33 +9,34 @@ use Rattle.dv_order.specs.OwnKeys.{IsOwn}
 use Rattle.dv_change.specs.declared.position.Part.{Part}
 use Rattle.dv_change.specs.declared.position.Part.TheVariants.{Up, Down, At}
 
--- a position is the list of its parts
+-- a position is a list of parts, each a key, ascending or descending, or a number
 abbrev pub PosTree : Type 0
 PosTree = List Part
 
--- where a part stands among the kinds of parts
+-- the rank of a part's kind
 abbrev pub kind : Part → ℕ
 kind (Up k) = 0
 kind (Down k) = 1
 kind (At n) = 2
 
--- parts of one kind stand by their keys, the higher one of two descending ones first, or by their numbers; others as their kinds do
+-- The order of two parts: by key for `Up`, by key in reverse for `Down`, by number for `At`. Parts of different kinds are ordered by
+-- kind.
 abbrev pub part_order : Part → Part → Ordering
 part_order (Up k) (Up l) = key_order k l
 part_order (Down k) (Down l) = key_order l k
 part_order (At m) (At n) = nat_cmp m n
 part_order a b = nat_cmp (kind a) (kind b)
 
--- part by part: the first two that differ decide, and else the one with fewer parts stands first
+-- the first parts that differ decide; a position that begins another comes first
 abbrev pub pos_order : PosTree → PosTree → Ordering
 pos_order = slice_cmp part_order
 
--- the key of a part is that of some value, or the one that no value has
+-- the key in the part is the key of a value, or of no element
 abbrev pub IsExactPart : Part → Type 0
 IsExactPart (Up k) = IsOwn k
 IsExactPart (Down k) = IsOwn k
 IsExactPart (At n) = ⊤
 
--- the keys of the parts are such keys
+-- each key in the position's parts is the key of a value, or of no element
 abbrev pub IsExact : PosTree → Type 0
 IsExact pos = AllByRecursion IsExactPart pos

@@ -1,4 +1,4 @@
--- What commands ask (MongoDB manual, "Database Commands"). Which commands there are, and in which order refusals are told, is this server's own.
+-- Parsed commands (MongoDB manual, "Database Commands"). The choice of commands, and the order of the refusals, are this server's own.
 use Rattle.std.specs.Prelude.{ℕ, ℤ, Bool, true, false, List, Option, Some, None, Result, Ok, Err, codes, nat_lt, length, if◌then◌else◌, ⊤}
 use Rattle.std.specs.Str.{bytes_eq}
 use Rattle.dv_value.specs.Names.{value_under}
@@ -25,15 +25,16 @@ use Rattle.dv_command.specs.Lists.{CommandLists, check_no_list, check_only, list
 use Rattle.dv_command.specs.Forms.{filter_under, sort_under, stages_asked}
 use Rattle.dv_command.specs.Entries.{IndexAsked, index_asked}
 
--- what these entries say is inserted, updated or deleted in this namespace, in order; whether the first that is refused ends the command
+-- what an insert, update or delete asks for: entries for a namespace, which are carried out in order; and whether the first refused one
+-- ends the command
 pub record Write : Type 0 where
   pub kind : WriteKind
   pub namespace : List ℕ
   pub entries : List (List Field)
   pub ordered : Bool
 
--- the documents of this namespace that match, sorted, behind the first so many, and at most so many; a limit of 0 is none. How many come in the first batch, and whether
--- it is the only one
+-- what a find asks for: the documents of a namespace that match a filter, sorted, without the first `skip`, and at most `limit` of them
+-- (0 means no limit); the size of the first batch, and whether it is the only batch
 pub record Find : Type 0 where
   pub namespace : List ℕ
   pub filter : Members
@@ -43,55 +44,56 @@ pub record Find : Type 0 where
   pub batch_size : ℕ
   pub single_batch : Bool
 
--- the rows that a pipeline makes of this namespace's, and how many come in the first batch
+-- what an aggregate asks for: the rows of a pipeline over a namespace; and the size of the first batch
 pub record Aggregate : Type 0 where
   pub namespace : List ℕ
   pub stages : List Stage
   pub batch_size : ℕ
 
--- the next rows of the cursor of this id over this namespace: at most so many, or for 0 as many as one reply may hold
+-- what a getMore asks for: the next rows of a cursor, at most `batch_size` of them; 0 means as many as fit in a reply
 pub record GetMore : Type 0 where
   pub id : ℤ
   pub namespace : List ℕ
   pub batch_size : ℕ
 
--- the cursors of these ids over this namespace go
+-- what a killCursors asks for: the ids of cursors to close, and their namespace
 pub record KillCursors : Type 0 where
   pub namespace : List ℕ
   pub ids : List ℤ
 
--- what a view shows: the rows that a pipeline makes of another namespace's
+-- the pipeline of a view, and the namespace of its source
 pub record ViewOn : Type 0 where
   pub source : List ℕ
   pub stages : List Stage
 
--- a collection under this namespace, or a view
+-- what a create asks for: a collection, or a view if there is a pipeline
 pub record Create : Type 0 where
   pub namespace : List ℕ
   pub view : Option ViewOn
 
--- what stands under this namespace goes
+-- what a drop asks for: the namespace of a collection or view
 pub record Drop : Type 0 where
   pub namespace : List ℕ
 
--- these indexes of this namespace, in order
+-- what a createIndexes asks for: new indexes of a namespace, in order
 pub record CreateIndexes : Type 0 where
   pub namespace : List ℕ
   pub indexes : List IndexAsked
 
--- the index of this name goes from this namespace; for `*` all go but the one on `_id`
+-- what a dropIndexes asks for: the name of an index of a namespace; `*` means all but `_id_`
 pub record DropIndexes : Type 0 where
   pub namespace : List ℕ
   pub index : List ℕ
 
--- how this find is answered
+-- what an explain asks for: how a find reads documents
 pub record Explain : Type 0 where
   pub find : Find
 
--- how the view of this namespace stands
+-- what a viewStats asks for: the namespace of a view
 pub record ViewStats : Type 0 where
   pub namespace : List ℕ
 
+-- a parsed command
 pub data Asked : Type 0 where
   hello : Asked
   ping : Asked
@@ -107,18 +109,19 @@ pub data Asked : Type 0 where
   explain : Explain → Asked
   view_stats : ViewStats → Asked
 
--- how many rows come in a first batch where none says so
+-- the size of a first batch if the command gives none
 abbrev pub first_batch_size : ℕ
 first_batch_size = 101
 
--- how many statements a command may have (MongoDB manual, "Write Command Batch Limit Size")
+-- the greatest number of statements in a command (MongoDB manual, "Write Command Batch Limit Size")
 abbrev pub statement_limit : ℕ
 statement_limit = 100000
 
+-- refuses more statements with 903
 abbrev pub check_count : {A : Type 0} → List A → Result ⊤ Refusal
 check_count statements = if nat_lt statement_limit (length statements) then Err LimitReached else Ok tt
 
--- ---- each command: its database, its fields as they stand, the lists beside the body, what has to be there, and what is asked
+-- ---- how each command is parsed: its database, its fields in written order, lists beside the body, required fields, their meaning
 
 abbrev pub hello_of : List Field → Result Asked Refusal
 hello_of body = database body >>= λ _. Ok hello
@@ -126,21 +129,21 @@ hello_of body = database body >>= λ _. Ok hello
 abbrev pub ping_of : List Field → Result Asked Refusal
 ping_of body = database body >>= λ _. Ok ping
 
--- the database of a command whose fields are those that it may have
+-- the database of a command, after its fields are checked by a table
 abbrev pub looked_database : Table → List Field → Result (List ℕ) Refusal
 looked_database table body =
     database body >>= λ name.
     check_fields kinds.command table body >>= λ _.
     Ok name
 
--- that of one that has no list beside its body either
+-- the database of a command that has no list beside its body, after its fields are checked by a table
 abbrev pub checked_database : Table → List Field → CommandLists → Result (List ℕ) Refusal
 checked_database table body lists =
     looked_database table body >>= λ name.
     check_no_list lists >>= λ _.
     Ok name
 
--- a write, by the names of the command and of the list of its entries
+-- parses an insert, update or delete, by the names of the command and of its list
 abbrev pub write_of : WriteKind → List ℕ → List ℕ → List Field → CommandLists → Result Asked Refusal
 write_of kind command list body lists =
     looked_database (write_table command list) body >>= λ database_name.
@@ -152,7 +155,7 @@ write_of kind command list body lists =
     check_count entries >>= λ _.
     Ok (write (record { kind = kind; namespace = into; entries = entries; ordered = ordered }))
 
--- what a find of a database asks
+-- parses the fields of a find in a database
 abbrev pub find_in : List ℕ → List Field → Result Find Refusal
 find_in database_name body =
     text_under (codes "find") body >>= λ collection.
@@ -171,7 +174,7 @@ find_of body lists =
     find_in database_name body >>= λ asked.
     Ok (find asked)
 
--- how many rows come in the first batch, by the field `cursor`
+-- the size of an aggregate's first batch, from the field `cursor`
 abbrev pub cursor_size : List Field → Result ℕ Refusal
 cursor_size body =
     document_or_none (codes "cursor") body >>= λ cursor.
@@ -204,12 +207,12 @@ kill_cursors_of body lists =
     namespace database_name collection >>= λ from.
     Ok (kill_cursors (record { namespace = from; ids = ids }))
 
--- what a view is asked by: the name of a collection of the same database, and the list of its stages
+-- the fields of a create that make it a view: `viewOn`, a collection of the same database, and `pipeline`
 pub record ViewFields : Type 0 where
   pub collection : List ℕ
   pub list : List Tree
 
--- both fields of a view, or neither
+-- both fields of a view, or neither; only one of them is refused with 9
 abbrev pub view_fields_in : Option Tree → Option Tree → Result (Option ViewFields) Refusal
 view_fields_in None None = Ok None
 view_fields_in (Some view_on) (Some pipeline) =
@@ -218,9 +221,11 @@ view_fields_in (Some view_on) (Some pipeline) =
     Ok (Some (record { collection = collection; list = list }))
 view_fields_in view_on pipeline = Err FailedToParse
 
+-- the fields of a view in a create
 abbrev pub view_fields : List Field → Result (Option ViewFields) Refusal
 view_fields body = view_fields_in (value_under (codes "viewOn") body) (value_under (codes "pipeline") body)
 
+-- the source and the parsed pipeline of a view
 abbrev pub view_of : List ℕ → Option ViewFields → Result (Option ViewOn) Refusal
 view_of database_name None = Ok None
 view_of database_name (Some fields) =
@@ -261,15 +266,16 @@ drop_indexes_of body lists =
     namespace database_name collection >>= λ name.
     Ok (drop_indexes (record { namespace = name; index = index }))
 
--- what is explained is a document that begins with `find`
+-- the explained command: a document that begins with `find`; anything else is refused with 59
 abbrev pub explained_by : Result (List Field) Refusal → Result (List Field) Refusal
 explained_by (Ok fields) = if bytes_eq (first_name fields) (codes "find") then Ok fields else Err CommandNotFound
 explained_by (Err refusal) = Err CommandNotFound
 
+-- the command in the field `explain`
 abbrev pub explained_command : List Field → Result (List Field) Refusal
 explained_command body = explained_by (document_under (codes "explain") body)
 
--- the command's own field stands first, so what is in it is looked at before the other fields
+-- parses an explain; the command in its first field is checked before its other fields
 abbrev pub explain_of : List Field → CommandLists → Result Asked Refusal
 explain_of body lists =
     explained_command body >>= λ inside.
@@ -286,11 +292,11 @@ view_stats_of body lists =
     namespace database_name collection >>= λ name.
     Ok (view_stats (record { namespace = name }))
 
--- the command is the first name of the body
+-- the name of a command: the first name in its body
 abbrev pub command_name : List Field → List ℕ
 command_name body = first_name body
 
--- the name of a command that a text is
+-- the command with this name, if any
 abbrev pub command_named : List ℕ → Option CommandName
 command_named text =
     if bytes_eq text (codes "hello") then Some names.Hello
@@ -310,7 +316,7 @@ command_named text =
     else if bytes_eq text (codes "viewStats") then Some names.ViewStats
     else None
 
--- what the command of this name asks; of another name there is none
+-- parses a command by its name; an unknown name is refused with 59
 abbrev pub asked_as : Option CommandName → List Field → CommandLists → Result Asked Refusal
 asked_as None body lists = Err CommandNotFound
 asked_as (Some names.Hello) body lists = hello_of body
@@ -329,10 +335,11 @@ asked_as (Some names.DropIndexes) body lists = drop_indexes_of body lists
 asked_as (Some names.Explain) body lists = explain_of body lists
 asked_as (Some names.ViewStats) body lists = view_stats_of body lists
 
+-- parses a command whose name is a text
 abbrev pub asked_under : List ℕ → List Field → CommandLists → Result Asked Refusal
 asked_under name body lists = asked_as (command_named name) body lists
 
--- what a command asks, or the first refusal
+-- the parsed command, or the first refusal
 abbrev pub asked_by : Command → Result Asked Refusal
 asked_by (Invalid fault) = Err (refusal_of fault)
 asked_by (Sections body lists) = asked_under (command_name body) body lists

@@ -1,5 +1,5 @@
--- The filters, sorts, updates and pipelines that commands hold (MongoDB manual, "find": `filter`, `sort`; "update": `u`; "aggregate": `pipeline`).
--- How they are refused is this server's own.
+-- The filters, sorts, updates and pipelines in commands (MongoDB manual, "find": `filter`, `sort`; "update": `u`; "aggregate":
+-- `pipeline`). How they are refused is this server's own.
 use Rattle.std.specs.Prelude.{ℕ, not, Bool, List, [], ◌∷◌, Option, Some, None, Result, Ok, Err}
 use Rattle.dv_value.specs.Names.{begins_with_dollar}
 use Rattle.dv_value.specs.Tree.{Tree, Field, fields_of}
@@ -16,32 +16,33 @@ use Rattle.dv_refusal.specs.Refusals.{refused_by, filter_refusal, update_refusal
 use Rattle.dv_value.specs.Results.{◌>>=◌}
 use Rattle.dv_command.specs.Fields.{document_or_none, first_name}
 
--- the filter that a document is
+-- the parsed filter, or its refusal
 abbrev pub filter_of : List Field → Result Members Refusal
 filter_of d = refused_by filter_refusal (filter_in (fields_of d))
 
+-- the value, or a refusal with 2 if there is none
 abbrev pub or_bad_value : {A : Type 0} → Option A → Result A Refusal
 or_bad_value None = Err BadValue
 or_bad_value (Some x) = Ok x
 
--- the paths that a document sorts by; one without fields doesn't sort
+-- the parsed sort, or a refusal with 2; an empty document sorts nothing
 abbrev pub sort_of : List Field → Result (List Part) Refusal
 sort_of [] = Ok []
 sort_of (f ∷ fs) = or_bad_value (sort_spec_of (f ∷ fs))
 
--- the update that a document is
+-- the parsed update, or its refusal
 abbrev pub update_asked : List Field → Result Update Refusal
 update_asked d = refused_by update_refusal (updates.update_of d)
 
--- whether it is a replacement: its first name doesn't begin with a dollar sign
+-- whether an update is a replacement: its first name doesn't begin with a dollar sign
 abbrev pub is_replacement : List Field → Bool
 is_replacement d = not (begins_with_dollar (first_name d))
 
--- the stages that a list is
+-- the parsed pipeline, or its refusal
 abbrev pub stages_asked : List Tree → Result (List Stage) Refusal
 stages_asked list = refused_by pipeline_refusal (pipelines.pipeline_of list)
 
--- those under a name: where there is none, the document without fields stands for it
+-- ---- filters and sorts in optional fields; without the field, an empty document
 
 abbrev pub filter_under : List ℕ → List Field → Result Members Refusal
 filter_under name fields = document_or_none name fields >>= filter_of

@@ -1,10 +1,11 @@
--- Where fields stand, and what the value of a field has to be.
+-- Where fields are, and the kinds of values that fields must have.
 
--- in a command, or in an entry of its list
+-- where a field is: in a command, or in an entry of its list
 pub data FieldPlace : Type 0 where
   command : FieldPlace
   entry : FieldPlace
 
+-- the kind of value that a field must have
 pub data Kind : Type 0 where
   anything : Kind
   text : Kind
@@ -13,21 +14,21 @@ pub data Kind : Type 0 where
   -- an array of documents
   documents : Kind
   array : Kind
-  -- an integer of either width
+  -- an int32 or int64
   integer : Kind
-  -- an array of these
+  -- an array of int32 and int64
   integers : Kind
-  -- an integer of either width, from 0
+  -- an int32 or int64 that isn't negative
   natural : Kind
-  -- how many documents a statement deletes: 0 for all that match, 1 for the first
+  -- how many documents a statement deletes: 0 for all matches, 1 for the first
   how_many : Kind
-  -- an update; a list of stages isn't one yet
+  -- an update: a document; an array, which would be a pipeline, is refused with 9
   update : Kind
-  -- a boolean, and only false yet
+  -- a boolean that is false; true is refused with 9
   only_false : Kind
-  -- a document without fields, and nothing else yet
+  -- an empty document; any other value is refused with 9
   empty_document : Kind
-  -- a document with one field at most; more aren't taken yet
+  -- a document with at most one field; further fields are refused with 9
   single : Kind
-  -- how the rows of an answer come: a document that may say how many there are in a batch
+  -- the options of an aggregate's cursor: a document with at most the field `batchSize`
   cursor : Kind

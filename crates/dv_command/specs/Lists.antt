@@ -1,4 +1,4 @@
--- The lists of documents that a message brings beside a command's body (MongoDB manual, "OP_MSG": sections of kind 1).
+-- The lists of documents that a message has beside a command's body (MongoDB manual, "OP_MSG": sections of kind 1).
 use Rattle.std.specs.Prelude.{ℕ, List, [], ◌∷◌, Option, Some, None, Result, Ok, Err, if◌then◌else◌, ⊤}
 use Rattle.std.specs.List.{list_all}
 use Rattle.std.specs.Str.{bytes_eq}
@@ -8,29 +8,31 @@ use Rattle.dv_command.specs.Fields.{documents_in}
 use Rattle.dv_refusal.specs.declared.refusal.Refusal.{Refusal}
 use Rattle.dv_refusal.specs.declared.refusal.Refusal.TheVariants.{FailedToParse}
 
--- lists of documents, by their names
+-- lists of documents with their names
 abbrev pub CommandLists : Type 0
 CommandLists = List (List ℕ × List (List Field))
 
--- most commands have no list that may stand beside the body
+-- checks that there is no list beside the body, as for most commands
 abbrev pub check_no_list : CommandLists → Result ⊤ Refusal
 check_no_list [] = Ok tt
 check_no_list (list ∷ lists) = Err FailedToParse
 
--- a command of statements has one
+-- checks that the only list beside the body has this name, as for an insert, update or delete
 abbrev pub check_only : List ℕ → CommandLists → Result ⊤ Refusal
 check_only name lists = if list_all (λ list. bytes_eq name list.0) lists then Ok tt else Err FailedToParse
 
+-- the documents of the list with this name, if any
 abbrev pub list_under : List ℕ → CommandLists → Option (List (List Field))
 list_under name [] = None
 list_under name (list ∷ lists) = if bytes_eq name list.0 then Some list.1 else list_under name lists
 
--- a list of documents that has to stand in the body or beside it, and not in both
+-- the documents of a list, which must be either in the body or beside it, but not both (9)
 abbrev pub in_either : Option Tree → Option (List (List Field)) → Result (List (List Field)) Refusal
 in_either (Some value) None = documents_in value
 in_either None (Some documents) = Ok documents
 in_either None None = Err FailedToParse
 in_either (Some value) (Some documents) = Err FailedToParse
 
+-- the documents of the list with this name, in the body or beside it
 abbrev pub listed_documents : List ℕ → List Field → CommandLists → Result (List (List Field)) Refusal
 listed_documents name body lists = in_either (value_under name body) (list_under name lists)

@@ -1,4 +1,5 @@
--- What a body with valid fields, and with valid lists beside it, asks: documents, texts and pipelines that are valid too, and not too many or too long; and what an entry does.
+-- What holds of a parsed command if the fields of its body and of the lists beside it are valid: its documents, names and pipelines are
+-- valid too.
 use Rattle.std.specs.Prelude.{◌≡◌, ◌≤◌, ℕ, ℤ, List, Option, Some, None, length, Ok, ⊤}
 use Rattle.std.specs.List.{AllByRecursion}
 use Rattle.std.specs.Str.{IsUtf8}
@@ -9,16 +10,16 @@ use Rattle.dv_pipe.specs.StageParsing.{pipeline_of}
 use Rattle.dv_pipe.specs.declared.stage.Stage.{Stage}
 use Rattle.dv_command.specs.Entries.{longest_index_name}
 
--- each document has a spelling, if it isn't too long for one
+-- each document is valid, so it has an encoding unless it is too long for one
 abbrev pub AreSpellable : List (List Field) → Type 0
 AreSpellable documents = AllByRecursion (λ d. AreFields (fields_of d)) documents
 
--- stages that a list of valid values is
+-- the stages that a list of valid values is parsed to
 pub record IsSoundPipeline (asked : List Stage) : Type 0 where
   pub list : List Tree
   pub valid : AreElements (elements_of list)
   pub is : pipeline_of list ≡ Ok asked
 
--- the name of an index: in UTF-8, and not too long
+-- a valid name of an index: UTF-8, and at most 120 bytes
 abbrev pub IsIndexName : List ℕ → Type 0
 IsIndexName name = IsUtf8 name × (length name ≤ longest_index_name)

@@ -1,19 +1,20 @@
--- Which fields commands and their entries may have (MongoDB manual, "insert", "update", "delete", "find", "aggregate", "getMore", "killCursors", "create", "drop",
--- "createIndexes", "dropIndexes", "explain"). Which of the manual's fields are there yet, and the command viewStats, are this server's own.
+-- Which fields commands and their entries accept (MongoDB manual, "insert", "update", "delete", "find", "aggregate", "getMore",
+-- "killCursors", "create", "drop", "createIndexes", "dropIndexes", "explain"). The choice among the manual's fields, and the command
+-- viewStats, are this server's own.
 use Rattle.std.specs.Prelude.{ℕ, List, [], ◌∷◌, codes}
 use Rattle.dv_command.specs.Kinds.{Kind}
 use Rattle.dv_command.specs.Kinds as kinds
 use Rattle.dv_command.specs.Fields.{Table}
 
--- the database is looked at by itself, before the other fields
+-- the field `$db`, whose value is checked separately, before all other fields
 abbrev pub database_field : List ℕ × Kind
 database_field = (codes "$db", kinds.anything)
 
--- the fields of a command of statements, by its name and that of their list
+-- the fields of an insert, update or delete, by the names of the command and of its list
 abbrev pub write_table : List ℕ → List ℕ → Table
 write_table command list = database_field ∷ (command, kinds.text) ∷ (list, kinds.documents) ∷ (codes "ordered", kinds.boolean) ∷ []
 
--- what a find may say, alone or in an explain
+-- the fields of a find, alone or in an explain
 abbrev pub find_fields : Table
 find_fields =
     (codes "find", kinds.text) ∷ (codes "filter", kinds.document) ∷ (codes "sort", kinds.document) ∷ (codes "skip", kinds.natural) ∷ (codes "limit", kinds.natural)
@@ -22,7 +23,7 @@ find_fields =
 abbrev pub find_table : Table
 find_table = database_field ∷ find_fields
 
--- what is explained is looked at by itself
+-- the fields of an explain; the command that it explains is checked separately
 abbrev pub explain_table : Table
 explain_table = database_field ∷ (codes "explain", kinds.anything) ∷ (codes "verbosity", kinds.anything) ∷ []
 
@@ -51,11 +52,14 @@ drop_indexes_table = database_field ∷ (codes "dropIndexes", kinds.text) ∷ (c
 abbrev pub view_stats_table : Table
 view_stats_table = database_field ∷ (codes "viewStats", kinds.text) ∷ []
 
+-- the fields of an entry of a delete
 abbrev pub deletion_table : Table
 deletion_table = (codes "q", kinds.document) ∷ (codes "limit", kinds.how_many) ∷ []
 
+-- the fields of an entry of an update
 abbrev pub updating_table : Table
 updating_table = (codes "q", kinds.document) ∷ (codes "u", kinds.update) ∷ (codes "multi", kinds.boolean) ∷ (codes "upsert", kinds.only_false) ∷ []
 
+-- the fields of an entry of a createIndexes
 abbrev pub index_table : Table
 index_table = (codes "key", kinds.single) ∷ (codes "name", kinds.text) ∷ (codes "v", kinds.anything) ∷ (codes "unique", kinds.boolean) ∷ []

@@ -1,4 +1,4 @@
-//! What commands ask, and the documents of replies.
+//! Parsing of commands, and the documents of replies.
 #![tactic(auto)]
 
 mod asking;

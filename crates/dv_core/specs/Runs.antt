@@ -1,4 +1,4 @@
--- What the replies of a run tell of a cursor's rows.
+-- What the replies of a run say about the rows of a cursor.
 use Rattle.std.specs.Prelude.{◌≡◌, ◌≢◌, ◌⊎◌, ℕ, ℤ, pos, negsuc, ◌==◌, ◌&&◌, ◌||◌, not, Bool, true, false, List, [], ◌∷◌, ◌++◌, map, Option, Some, None, Result, Ok, Err, if◌then◌else◌}
 use Rattle.dv_value.specs.Tree.{Field}
 use Rattle.dv_command.specs.Asked.{Asked, GetMore, get_more, asked_by}
@@ -12,62 +12,67 @@ use Rattle.dv_core.specs.More.{rows_asked, rows_wanted}
 use Rattle.dv_core.specs.State.{State, standing}
 use Rattle.dv_core.specs.Step.{Answer, answered, step, end_session}
 
--- what comes: a command of a session that is carried out as it is defined, or the session's end; or one for which memory is wanting, and
--- what then stands under namespaces; and how views then stand
+-- an event of a run: a command of a session is carried out as defined; a session ends; a command runs out of memory and leaves these
+-- collections and views; the marks of the views become these
 pub data Move : Type 0 where
   carries : ℕ → Command → Move
   ends : ℕ → Move
   wants : stored.State → Move
   stands : Marks → Move
 
+-- the state after an event
 abbrev pub state_after_move : Move → State → State
 state_after_move (carries session command) state = (step state session command).state
 state_after_move (ends session) state = end_session session state
 state_after_move (wants catalog) state = record state { catalog = catalog }
 state_after_move (stands marks) state = standing marks state
 
--- ---- one move
+-- ---- one event
 
+-- whether the id in a command is this number
 abbrev pub is_cursor_number : ℕ → ℤ → Bool
 is_cursor_number id (pos n) = n == id
 is_cursor_number id (negsuc n) = false
 
--- whether a getMore of a session asks for the cursor of this session under this id
+-- whether a getMore of a session asks for the cursor with this session and id
 abbrev pub asks_for : ℕ → ℕ → ℕ → GetMore → Bool
 asks_for session id other asked = (other == session) && is_cursor_number id asked.id
 
--- the batch of rows that are still to come, where there are any
+-- the next batch of the rows not yet returned, if there is a cursor
 abbrev pub batch_told : ℕ → Option (List (List Field)) → List (List Field)
 batch_told count None = []
 batch_told count (Some rows) = batch (rows_wanted count rows) rows
 
+-- whether there are no rows
 abbrev pub is_nil : List (List Field) → Bool
 is_nil [] = true
 is_nil (row ∷ rows) = false
 
--- whether it is the last one, which is told with the id 0
+-- whether the next batch is the last one, so that its reply has the id 0
 abbrev pub is_last_batch : ℕ → Option (List (List Field)) → Bool
 is_last_batch count None = false
 is_last_batch count (Some rows) = is_nil (rows_behind (rows_wanted count rows) rows)
 
+-- the rows that a getMore returns from the cursor with this session and id; none for other commands
 abbrev pub asked_rows : ℕ → ℕ → ℕ → Result Asked Refusal → State → List (List Field)
 asked_rows session id other (Ok (get_more asked)) state =
     if asks_for session id other asked then batch_told asked.batch_size (rows_asked other asked.namespace asked.id state.cursors) else []
 asked_rows session id other asked state = []
 
+-- whether such a getMore returns the last batch
 abbrev pub asked_last : ℕ → ℕ → ℕ → Result Asked Refusal → State → Bool
 asked_last session id other (Ok (get_more asked)) state =
     asks_for session id other asked && is_last_batch asked.batch_size (rows_asked other asked.namespace asked.id state.cursors)
 asked_last session id other asked state = false
 
--- the rows that the reply to a move tells of the cursor of a session under an id, be the reply left out or not
+-- the rows that the reply to an event returns from the cursor with this session and id, even if the reply is missing
 abbrev pub rows_told : ℕ → ℕ → Move → State → List (List Field)
 rows_told session id (carries other command) state = asked_rows session id other (asked_by command) state
 rows_told session id (ends other) state = []
 rows_told session id (wants catalog) state = []
 rows_told session id (stands marks) state = []
 
--- whether it tells that no others are left, by the id 0
+-- whether that reply says, by the id 0, that no rows are left
 abbrev pub tells_last : ℕ → ℕ → Move → State → Bool
 tells_last session id (carries other command) state = asked_last session id other (asked_by command) state
 tells_last session id (ends other) state = false
@@ -76,33 +81,37 @@ tells_last session id (stands marks) state = false
 
 -- ---- a run
 
+-- the state after these events
 abbrev pub state_behind_all : List Move → State → State
 state_behind_all [] state = state
 state_behind_all (move ∷ moves) state = state_behind_all moves (state_after_move move state)
 
+-- the rows that the replies to these events return from the cursor
 abbrev pub all_told : ℕ → ℕ → List Move → State → List (List Field)
 all_told session id [] state = []
 all_told session id (move ∷ moves) state = rows_told session id move state ++ all_told session id moves (state_after_move move state)
 
+-- whether one of these replies says that no rows are left
 abbrev pub is_told_out : ℕ → ℕ → List Move → State → Bool
 is_told_out session id [] state = false
 is_told_out session id (move ∷ moves) state = tells_last session id move state || is_told_out session id moves (state_after_move move state)
 
--- the first batch of these rows and those that were told behind it are a front of them, and all of them once it was told that none is left
+-- the first batch and the rows returned after it are a prefix of the rows; they are all rows once a reply has said that none are left
 pub record BatchesAreFront (count : ℕ) (rows told : List (List Field)) (out : Bool) : Type 0 where
   pub rest : List (List Field)
   pub front : (batch count rows ++ told) ++ rest ≡ rows
   pub whole : out ≡ true → rest ≡ []
 
--- what a find or a pipeline over these rows, and the moves behind the state that it leaves, tell of them: its reply has the first batch
--- and an id. By the id 0 it tells that none is left, or that the batch was to be the only one; of the cursor of another id the moves tell
+-- What the reply to a find or an aggregate over these rows, and later events, say about the rows. The reply has the first batch and an
+-- id. The id 0 says that no rows are left, or that the batch was to be the only one; with another id the rows of the cursor follow in
+-- later replies.
 pub record IsToldOf (session : ℕ) (namespace : List ℕ) (count : ℕ) (single : Bool) (rows : List (List Field)) (reply : List Field) (state : State) : Type 0 where
   pub id : ℕ
   pub first : reply ≡ first_batch_reply namespace id (map document_of (batch count rows))
   pub none : id ≡ 0 → BatchesAreFront count rows [] (not single)
   pub later : id ≢ 0 → (moves : List Move) → BatchesAreFront count rows (all_told session id moves state) (is_told_out session id moves state)
 
--- the answer of a find or of a pipeline over these rows: it is refused, or tells of them
+-- the answer to a find or an aggregate over these rows: it is refused, or returns them in this way
 abbrev pub Shows : ℕ → List ℕ → ℕ → Bool → List (List Field) → State → Answer → Type 0
 Shows session namespace count single rows state answer =
     ((refusal : Refusal) × (answer ≡ answered state (Err refusal))) ⊎ IsToldOf session namespace count single rows answer.reply answer.state

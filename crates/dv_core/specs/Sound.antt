@@ -1,4 +1,4 @@
--- What holds of every state that is reached.
+-- What holds of every state that can be reached.
 use Rattle.std.specs.Prelude.{◌≡◌, ℕ, ◌<◌, ◌^◌, false, List, Option, Some, None, ⊤}
 use Rattle.std.specs.List.{AllByRecursion}
 use Rattle.dv_value.specs.Tree.{Field, fields_of}
@@ -15,24 +15,24 @@ use Rattle.dv_cursor.specs.Cursors.{rows_to_come}
 use Rattle.dv_core.specs.Find.{are_too_large}
 use Rattle.dv_command.specs.Sound.{AreSpellable, IsIndexName, IsSoundPipeline}
 
--- a document that is valid at each of its levels, and within the limits for what is read and stored
+-- a valid document within the limits for stored documents
 pub record IsSoundDocument (d : List Field) : Type 0 where
   pub valid : AreFields (fields_of d)
   pub fits : Fits d
 
--- in the order of their `_id`s, with which they begin, and each sound
+-- the documents are in the order of `_id`, with which they begin, and each is valid and within the limits
 abbrev pub AreSound : List (List Field) → Type 0
 AreSound documents = AreOrdered documents × AllByRecursion IsSoundDocument documents
 
--- the documents of each namespace are
+-- the documents of each namespace are in the order of `_id`, valid, and within the limits
 abbrev pub AreSoundDocuments : State → Type 0
 AreSoundDocuments state = (namespace : List ℕ) → AreSound (documents_of namespace state.catalog.namespaces)
 
--- the indexes of each namespace have names that can be told
+-- the indexes of each namespace have valid names
 abbrev pub AreSoundIndexes : State → Type 0
 AreSoundIndexes state = (namespace : List ℕ) → AllByRecursion (λ index. IsIndexName index.name) (indexes_of namespace state.catalog.namespaces)
 
--- of a unique index no key stands in two documents
+-- in a unique index no two documents have the same key
 abbrev pub AreUnique : State → Type 0
 AreUnique state = (namespace : List ℕ) → are_broken (indexes_of namespace state.catalog.namespaces) (documents_of namespace state.catalog.namespaces) ≡ false
 
@@ -40,27 +40,27 @@ AreUnique state = (namespace : List ℕ) → are_broken (indexes_of namespace st
 abbrev pub AreWithinLimits : State → Type 0
 AreWithinLimits state = (namespace : List ℕ) → AllByRecursion Fits (documents_of namespace state.catalog.namespaces)
 
--- what every store keeps: the documents of each namespace stand in the strict order of their `_id`s, each is within the limits, and of a
--- unique index no key stands in two of them
+-- in every store the documents of each namespace are in strictly ascending order of `_id`, each is within the limits, and in a unique
+-- index no two of them have the same key
 pub record IsOrderly (state : State) : Type 0 where
   pub ordered : IsOrdered state.catalog
   pub fits : AreWithinLimits state
   pub unique : AreUnique state
 
--- the stages of each view were read from valid values
+-- the stages of each view were parsed from valid values
 abbrev pub AreSoundViews : State → Type 0
 AreSoundViews state = AllByRecursion (λ v. IsSoundPipeline v.stages) state.catalog.views
 
--- rows that can be shown: they are valid at each of their levels, and none is over the limits for documents
+-- rows that can be returned: each is valid and within the limits for documents
 abbrev pub AreShown : Option (List (List Field)) → Type 0
 AreShown None = ⊤
 AreShown (Some rows) = AreSpellable rows × (are_too_large rows ≡ false)
 
--- the rows that are still to come of each cursor can be shown
+-- the rows not yet returned by each cursor can be returned
 abbrev pub AreSoundCursors : State → Type 0
 AreSoundCursors state = (session : ℕ) (namespace : List ℕ) (id : ℕ) → AreShown (rows_to_come session namespace id state.cursors)
 
--- all of these
+-- a sound state: its documents, indexes, views and cursors are as stated above
 pub record IsSound (state : State) : Type 0 where
   pub documents : AreSoundDocuments state
   pub indexes : AreSoundIndexes state
@@ -68,16 +68,16 @@ pub record IsSound (state : State) : Type 0 where
   pub views : AreSoundViews state
   pub cursors : AreSoundCursors state
 
--- the documents that a command brings are sound, as those that were read are
+-- the documents in a command are valid and within the limits, as those that are read are
 abbrev pub IsSoundCommand : Command → Type 0
 IsSoundCommand (Sections body lists) = IsSoundDocument body × AllByRecursion (λ list. AllByRecursion IsSoundDocument list.1) lists
 IsSoundCommand (Invalid fault) = ⊤
 
--- a refusal whose numbers are those of a byte and of a place in memory
+-- the byte and the offset in the refusal's fault, if it has them, are below 256 and below 2^64
 abbrev pub IsTold : Refusal → Type 0
 IsTold (InvalidBson (RefusedType byte at)) = (byte < 256) × (at < 2 ^ 64)
 IsTold refusal = ⊤
 
--- a document that can be written
+-- a document that can be encoded
 abbrev pub HasSpelling : List Field → Type 0
 HasSpelling d = Spells d (spelling d)

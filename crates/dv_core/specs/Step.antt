@@ -1,4 +1,4 @@
--- The machine: what each command answers, and the state that it leaves. How views stand behind it is told beside that.
+-- The reference machine: the reply to each command, and the state after it. The marks of the views are defined separately, in `Marks`.
 use Rattle.std.specs.Prelude.{◌≡◌, ℕ, ◌⊎◌, Bool, true, false, List, [], Option, Some, None, Result, Ok, Err, if◌then◌else◌}
 use Rattle.dv_value.specs.Tree.{Field}
 use Rattle.dv_command.specs.declared.command.Command.{Command}
@@ -29,34 +29,35 @@ pub record Answer : Type 0 where
   pub reply : List Field
   pub state : State
 
--- ---- the commands: each answers a reply and a state, or is refused
+-- ---- the commands: each returns a reply and a state, or a refusal
 
--- a command that changes nothing
+-- the answer to a command that changes nothing
 abbrev pub read_answer : State → Result (List Field) Refusal → Result Answer Refusal
 read_answer state result = result >>= λ reply. Ok (record { reply = reply; state = state })
 
--- a write whose statements did this
+-- the answer to a write whose statements have done this
 abbrev pub write_answer : State → WriteCounts → Written → Answer
 write_answer old write did =
     record { reply = write.reply did.n did.changed did.errors; state = record old { catalog = record old.catalog { namespaces = did.namespaces } } }
 
--- what a write answers and leaves; there is none on a view
+-- the answer to a write; one to a view is refused with 902
 abbrev pub carried_out : State → WriteCounts → Result Answer Refusal
 carried_out state write =
     if is_view write.namespace state.catalog.views then Err OnView else Ok (write_answer state write (carry_out write state.catalog.namespaces))
 
--- a command that changes what stands under namespaces, and replies this
+-- the answer to a command that changes collections or views
 abbrev pub on_catalog : State → Result (List Field × stored.State) Refusal → Result Answer Refusal
 on_catalog state result = result >>= λ told. Ok (record { reply = told.0; state = record state { catalog = told.1 } })
 
--- one that changes cursors
+-- the answer to a command that changes cursors
 abbrev pub on_cursors : State → Result (List Field × Cursors) Refusal → Result Answer Refusal
 on_cursors state result = result >>= λ told. Ok (record { reply = told.0; state = record state { cursors = told.1 } })
 
+-- this reply with a result, or its refusal
 abbrev pub replying : {S : Type 0} → List Field → Result S Refusal → Result (List Field × S) Refusal
 replying reply made = made >>= λ left. Ok (reply, left)
 
--- what a command of a session answers, by what it asks
+-- the answer to a parsed command of a session
 abbrev pub answer_to : State → ℕ → Asked → Result Answer Refusal
 answer_to state session hello = read_answer state (Ok hello_reply)
 answer_to state session ping = read_answer state (Ok (reply_of []))
@@ -72,23 +73,23 @@ answer_to state session (drop_indexes asked) = on_catalog state (unindexed asked
 answer_to state session (explain asked) = read_answer state (Ok (find_explained asked state.catalog))
 answer_to state session (view_stats asked) = read_answer state (view_told asked (marked state))
 
--- a refusal leaves the state
+-- the answer to a command; a refused one leaves the state unchanged
 abbrev pub answered : State → Result Answer Refusal → Answer
 answered state (Ok answer) = answer
 answered state (Err refusal) = record { reply = refusal_reply refusal; state = state }
 
--- one step: what a command of a session answers, and the state after it
+-- one step: the reply to a command of a session, and the state after it
 abbrev pub step : State → ℕ → Command → Answer
 step state session command = answered state (asked_by command >>= answer_to state session)
 
--- ---- under want of memory
+-- ---- running out of memory
 
--- the write that a command is, if it is one
+-- the write of a command, if it is one
 abbrev pub asked_write : Asked → Option WriteCounts
 asked_write (asking.write asked) = Some (write_by asked)
 asked_write asked = None
 
--- whether a command makes something under a namespace, or takes it out
+-- whether a command creates or drops collections, views or indexes
 abbrev pub makes : Asked → Bool
 makes (create asked) = true
 makes (drop asked) = true
@@ -96,13 +97,13 @@ makes (create_indexes asked) = true
 makes (drop_indexes asked) = true
 makes asked = false
 
--- whether these are indexes
+-- whether a command creates or drops indexes
 abbrev pub indexes : Asked → Bool
 indexes (create_indexes asked) = true
 indexes (drop_indexes asked) = true
 indexes asked = false
 
--- whether a command makes, moves or ends cursors
+-- whether a command opens, advances or closes cursors
 abbrev pub moves : Asked → Bool
 moves (find asked) = true
 moves (aggregate asked) = true
@@ -110,7 +111,7 @@ moves (get_more asked) = true
 moves (kill_cursors asked) = true
 moves asked = false
 
--- the answers of a write that is cut at one of its statements, and how views stand behind it; one on a view isn't carried out
+-- the answers and marks of a write that runs out of memory in one of its statements; a write to a view isn't carried out
 abbrev pub WriteCut : State → Option WriteCounts → Answer → Marks → Type 0
 WriteCut old None answer marks = ⊥
 WriteCut old (Some write) answer marks =
@@ -118,18 +119,20 @@ WriteCut old (Some write) answer marks =
     × ((left : Written) × (cut : IsCutWrite write old.catalog.namespaces left) × (answer ≡ write_answer old write left)
     × AreMarkedByCut write.namespace write.ordered old.catalog.views write.statements old.catalog.namespaces left cut old.marks marks)
 
--- a command that is refused isn't cut
+-- the answers and marks of a write that runs out of memory in one of its statements; a command that is refused when it is parsed has
+-- none
 abbrev pub Cut : State → Result Asked Refusal → Answer → Marks → Type 0
 Cut old (Ok asked) answer marks = WriteCut old (asked_write asked) answer marks
 Cut old (Err refusal) answer marks = ⊥
 
--- the answers of a command for which memory is wanting, and how views stand then: it is refused and nothing changed, or it is a write and cut
+-- the answers and marks of a command that runs out of memory: it is refused with 900 and changes nothing, or it is a write that ends in
+-- one of its statements
 abbrev pub Wants : State → Command → Answer → Marks → Type 0
 Wants old command answer marks = ((answer ≡ answered old (Err WantOfMemory)) × AreMarkedForWant old (asked_by command) marks) ⊎ Cut old (asked_by command) answer marks
 
--- What a command of a session may come to, and the state after it: a reply, and then it is the step as it is defined; a reply that
--- tells of want of memory; or no reply, for which memory is wanting, after either. The answer leaves the marks; how views stand
--- then is told beside it: as they are counted, or stale.
+-- What a command of a session may lead to, and the state after it. With `Reply` it is the defined step. With `Wanting` the reply
+-- reports that memory ran out. With `NoReply` memory ran out for the reply itself, after either of these. The marks are stated
+-- separately, since views may become stale.
 abbrev pub MemoryStep : State → ℕ → Command → Outcome → State → Type 0
 MemoryStep old session command (Reply reply) new =
     (step old session command ≡ record { reply = reply; state = standing old.marks new }) × AreMarkedAll old (asked_by command) new.marks
@@ -138,24 +141,24 @@ MemoryStep old session command NoReply new =
     ((standing old.marks new ≡ (step old session command).state) × AreMarkedAll old (asked_by command) new.marks)
     ⊎ ((answer : Answer) × Wants old command answer new.marks × (standing old.marks new ≡ answer.state))
 
--- the step where memory is never wanting: views count all of its work
+-- the step if memory never runs out: live views count all of its work
 abbrev pub counted_step : State → ℕ → Command → Answer
 counted_step state session command =
     let answer = step state session command in
     record { reply = answer.reply; state = standing (marks_behind_all state (asked_by command)) answer.state }
 
--- an outcome that tells of want of memory, if only by there being no reply
+-- whether an outcome reports that memory ran out, also by a missing reply
 abbrev pub TellsOfWant : Outcome → Type 0
 TellsOfWant (Reply reply) = ⊥
 TellsOfWant (Wanting reply) = Unit {0}
 TellsOfWant NoReply = Unit {0}
 
--- nothing changed, but that of the stale views which are needed for what a command reads some may have been made anew
+-- nothing has changed, except that some of the stale views that the command needs may have been recomputed
 abbrev pub IsLeft : State → Result Asked Refusal → State → Type 0
 IsLeft old asked new = (new.catalog ≡ old.catalog) × (new.cursors ≡ old.cursors) × AreMarkedForWant old asked new.marks
 
 -- ---- the end of a session
 
--- what the end of a session leaves: all but its cursors
+-- the state after the end of a session: its cursors are closed
 abbrev pub end_session : ℕ → State → State
 end_session session state = record state { cursors = without_session session state.cursors }

@@ -1,4 +1,4 @@
--- What carrying out a command gives, where the body of a reply with rows isn't made.
+-- The result of a command before its reply is built: a batch of rows, or an outcome.
 use Rattle.std.specs.Prelude.{◌≡◌, ◌<◌, ◌^◌, Bool, true, false, List, ℕ, Result, Ok, Err, codes, map, ⊤}
 use Rattle.std.specs.String.{string_bytes}
 use Rattle.dv_value.specs.Tree.{Field}
@@ -10,21 +10,21 @@ use Rattle.dv_core.specs.declared.outcome.Told.{Told}
 use Rattle.dv_core.specs.declared.outcome.Told.TheVariants as tells
 use Rattle.dv_refusal.specs.declared.refusal.Refusal.{Refusal}
 
--- the name under which a reply has its rows, by whether they are a first batch
+-- the name of the rows in a reply: `firstBatch` or `nextBatch`
 abbrev pub batch_name : Bool → List ℕ
 batch_name true = codes "firstBatch"
 batch_name false = codes "nextBatch"
 
--- the body of the reply with a batch: that of first_batch_reply, or of next_batch_reply
+-- the reply with a batch: that of `first_batch_reply` or `next_batch_reply`
 abbrev pub batch_told : Batch → List Field
 batch_told batch = batch_reply (batch_name batch.is_first) (string_bytes batch.namespace) batch.id (map document_of batch.rows.items)
 
--- the outcome that is told
+-- the outcome that the result represents
 abbrev pub outcome_told : Told → Outcome
 outcome_told (tells.Batch batch) = Reply (batch_told batch)
 outcome_told (tells.Outcome outcome) = outcome
 
--- a batch's id is an int64
+-- the id of a batch fits in an int64
 abbrev pub HasId : Told → Type 0
 HasId (tells.Batch batch) = batch.id < 2 ^ 63
 HasId (tells.Outcome outcome) = ⊤

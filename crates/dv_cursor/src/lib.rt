@@ -1,4 +1,4 @@
-//! Cursors over rows, which are had batch by batch.
+//! Cursors, which return rows batch by batch.
 #![tactic(auto)]
 
 mod cursor;

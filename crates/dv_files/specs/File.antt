@@ -1,4 +1,4 @@
--- Files of documents: their spellings, one behind the other.
+-- Files of documents: the encodings of documents, one after the other.
 use Rattle.std.specs.Prelude.{◌≡◌, ℕ, ◌+◌, ◌<◌, List, ◌++◌, length, codes, Bool, true, false, Some}
 use Rattle.std.specs.Fmt.{decimal}
 use Rattle.std.specs.List.{AllByRecursion, flat_map}
@@ -9,24 +9,24 @@ use Rattle.dv_value.specs.declared.fault.BsonFault.{BsonFault}
 use Rattle.dv_files.specs.declared.file.FileFault.{FileFault}
 use Rattle.dv_files.specs.declared.file.FileFault.TheVariants.{Read}
 
--- a document that a file may hold: it has a spelling, and is within the limits
+-- a document that a file may have: it has an encoding, and is within the limits for stored documents
 abbrev pub IsStorable : List Field → Type 0
 IsStorable d = Spells d (spelling d) × Fits d
 
--- the bytes are the spellings of these documents, one behind the other
+-- the bytes are the encodings of these documents, one after the other
 pub record Holds (documents : List (List Field)) (bytes : List ℕ) : Type 0 where
   pub storable : AllByRecursion IsStorable documents
   pub whole : bytes ≡ flat_map spelling documents
 
--- the bytes begin with the spelling of this document, which is such a one, and these stand behind it
+-- the bytes begin with the encoding of this document, and `behind` follows
 pub record Begins (bytes : List ℕ) (document : List Field) (behind : List ℕ) : Type 0 where
   pub front : List ℕ
   pub whole : bytes ≡ front ++ behind
   pub spells : Spells document front
   pub fits : Fits document
 
--- The document of this number, from 1, is the first that has a fault: so many documents less one stand in front of it, it
--- begins where they end, and this is the first fault there.
+-- the document with this number, counted from 1, is the first one with a fault: the documents before it are valid and end at this
+-- offset, where it begins, and this is its first fault
 pub record FirstFault (bytes : List ℕ) (number at : ℕ) (fault : BsonFault) : Type 0 where
   pub documents : List (List Field)
   pub front : List ℕ
@@ -38,10 +38,11 @@ pub record FirstFault (bytes : List ℕ) (number at : ℕ) (fault : BsonFault) :
   pub more : 0 < length rest
   pub first : first_fault rest ≡ Some fault
 
+-- whether reading failed
 abbrev pub file_read_failed : FileFault → Bool
 file_read_failed Read = true
 file_read_failed fault = false
 
--- what is printed for a file of so many documents
+-- the line that is printed for a valid file of n documents
 abbrev pub ok_line : ℕ → List ℕ
 ok_line n = codes "ok " ++ decimal n ++ codes "\n"

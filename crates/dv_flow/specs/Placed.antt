@@ -1,4 +1,4 @@
--- What the simple stages make of rows at positions: what they make of the rows, with a position beside each.
+-- What simple stages return for rows at positions: the rows that they return otherwise, each with a position.
 use Rattle.std.specs.Prelude.{ℕ, suc, List, [], ◌∷◌, ◌++◌, filter, map, take}
 use Rattle.std.specs.List.{flat_map}
 use Rattle.dv_value.specs.Tree.{Field}
@@ -18,20 +18,20 @@ use Rattle.dv_row.specs.declared.unwind.Unwind.{Unwind}
 use Rattle.dv_row.specs.Projecting.{projected}
 use Rattle.dv_row.specs.Unwinding.{unwound}
 
--- the rows that match, each where it was
+-- `$match`: the rows that match, at their positions
 abbrev pub matched_at : Members → Positioned → Positioned
 matched_at form rows = filter (λ e. matches form e.1) rows
 
--- each row as it is shown, where the row was
+-- `$project`: each row after the `$project`, at its position
 abbrev pub shown_at : Project → Positioned → Positioned
 shown_at p rows = map (λ e. (e.0, projected p e.1)) rows
 
--- rows behind a position, each at its number
+-- rows at positions that continue `pos` by numbers, counted from i
 abbrev pub rows_numbered : ℕ → PosTree → List (List Field) → Positioned
 rows_numbered i pos [] = []
 rows_numbered i pos (d ∷ ds) = (pos ++ At i ∷ [], d) ∷ rows_numbered (suc i) pos ds
 
--- the rows of each row, behind its position
+-- `$unwind`: the rows for each row, at its position continued by their numbers
 unfoldable pub unwound_at : Unwind → Positioned → Positioned
 unwound_at u rows = in_row_order (flat_map (λ e. rows_numbered 0 e.0 (unwound u e.1)) rows)
 
@@ -40,14 +40,14 @@ abbrev pub part_at : Direction → KeyTree → Part
 part_at Ascending k = Up k
 part_at Descending k = Down k
 
--- where a sort places a row: its sort keys
+-- the sort keys of a row, as a position
 abbrev pub sort_place : List sorts.Part → List Field → PosTree
 sort_place parts d = map (λ p. part_at p.1 (sort_key d p.0 p.1)) parts
 
--- each row at its sort keys, and behind them where it was
+-- `$sort`: each row at the position of its sort keys, continued by its own position
 unfoldable pub sorted_at : List sorts.Part → Positioned → Positioned
 sorted_at parts rows = in_row_order (map (λ e. (sort_place parts e.1 ++ e.0, e.1)) rows)
 
--- the first rows
+-- `$limit`: the first rows
 abbrev pub front_at : ℕ → Positioned → Positioned
 front_at count rows = take count rows

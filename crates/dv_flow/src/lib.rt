@@ -1,5 +1,5 @@
-//! The simple stages of a pipeline, kept by changes. What they have in common stands in `dv_change`, without any stage, so that
-//! other stages can stand beside them.
+//! The operators for `$match`, `$project`, `$unwind`, `$sort` and `$limit`. What all operators have in common is in `dv_change`,
+//! which knows no stage, so that other crates can have operators too.
 #![tactic(auto)]
 
 mod by_row;

@@ -1,6 +1,7 @@
--- Which documents a document is joined with (MongoDB manual, "$lookup (aggregation)"): those that have one of its values. Missing
--- counts as null on both sides; an array stands for its elements on the one side, for itself too on the other. That an empty one
--- stands for nothing on the one side is this server's own.
+-- Which documents `$lookup` finds for a document (MongoDB manual, "$lookup (aggregation)"): those that have a value at the foreign path
+-- which equals a value that the document has at the local path. Missing counts as null on both sides. An array counts as its elements
+-- on the local side, and as itself and its elements on the foreign side. That an empty array counts as nothing on the local side is
+-- this server's own.
 use Rattle.std.specs.Prelude.{ℕ, Bool, List, [], ◌∷◌, Some, filter}
 use Rattle.std.specs.List.{flat_map, list_any}
 use Rattle.std.specs.Ordering.{is_eq}
@@ -9,24 +10,24 @@ use Rattle.dv_order.specs.Order.{order}
 use Rattle.dv_candidates.specs.Candidates.{Candidate, or_null, whole}
 use Rattle.dv_path.specs.LeafKeys.{leaf_values}
 
--- the values that a candidate stands for on the local side: an array for its elements
+-- the values that a candidate counts as on the local side: an array counts as its elements
 abbrev pub local_values : Candidate → List Tree
 local_values (Some (array vs)) = list_of_elements vs
 local_values c = or_null c ∷ []
 
--- the values by which a document is joined
+-- the values of a document at the local path
 unfoldable pub joined_by : List (List ℕ) → List Field → List Tree
 joined_by path d = flat_map local_values (whole d path)
 
--- whether a value compares equal to one of these
+-- whether the value equals one of these
 abbrev pub is_equal_to_one : List Tree → Tree → Bool
 is_equal_to_one ws v = list_any (λ w. is_eq (order v w)) ws
 
--- whether a document is joined with another, by a local path and a foreign one: the other has one of its values as a leaf
+-- whether the document f is a match of d: a leaf of f at the foreign path equals a value of d at the local path
 abbrev pub is_joined : List (List ℕ) → List (List ℕ) → List Field → List Field → Bool
 is_joined local foreign d f = list_any (is_equal_to_one (leaf_values foreign f)) (joined_by local d)
 
--- the documents that a document is joined with, in their order
+-- the matches of a document, in their order
 abbrev pub matches : List (List ℕ) → List (List ℕ) → List (List Field) → List Field → List (List Field)
 matches local foreign others d = filter (is_joined local foreign d) others
 

@@ -1,4 +1,4 @@
-//! Rows gathered and joined: sums, least and greatest values, `$group` and `$lookup`.
+//! Stages that group and join rows: sums, least and greatest values, `$group` and `$lookup`.
 #![tactic(auto)]
 
 mod accumulator;

@@ -1,4 +1,4 @@
-//! `$group`, kept by changes.
+//! The operator for `$group`.
 #![tactic(auto)]
 
 mod bundle;

@@ -1,17 +1,17 @@
--- What is seen of connections that are open.
+-- Open connections, as they appear from outside.
 use Rattle.std.specs.Prelude.{ℕ, List, drop, Option}
 use Rattle.dv_host.specs.declared.link.Link.{Link}
 
--- the answers that it hasn't taken
+-- the bytes of replies that the connection has not taken yet
 abbrev pub unsent_of : {C : Type 0} → Link C → List ℕ
 unsent_of link = drop link.sent link.out.items
 
--- the bytes that came and are not fed
+-- the bytes that arrived and were not passed to the session yet
 abbrev pub pending_of : {C : Type 0} → Link C → List ℕ
 pending_of link = drop link.heard link.rest.items
 
--- its session; the bytes that are still to come, and those that it has taken, where they are known; the answers that it hasn't taken;
--- the bytes that came and are not fed; the fault that closed its session
+-- an open connection: its session; the bytes of its input that are left, and the bytes that it took, if they are known; the bytes of
+-- replies that it has not taken; the bytes that were not passed to its session; and the fault that closed its session
 pub record Seen : Type 0 where
   pub session : ℕ
   pub left : Option (List ℕ)
@@ -20,6 +20,7 @@ pub record Seen : Type 0 where
   pub pending : List ℕ
   pub closing : Option ℕ
 
+-- an open connection from its parts in memory
 abbrev pub seen_by : {C : Type 0} → (C → Option (List ℕ)) → (C → Option (List ℕ)) → Link C → Seen
 seen_by remaining contents link = record {
   session = link.session;

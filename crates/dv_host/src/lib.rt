@@ -1,5 +1,5 @@
-//! Many connections at once, each a session of its own: on one thread, in turns, by what is ready. Whose sessions these are, and
-//! where the connections come from, is left open.
+//! Many connections at once, each with a session of its own: on one thread, in turns, by which of them are ready. Whose sessions
+//! these are, and where the connections come from, is left open.
 #![tactic(auto)]
 
 mod channel;

@@ -1,4 +1,4 @@
-//! Indexes of BSON documents by what a path leads to.
+//! Collections of BSON documents with their indexes.
 #![tactic(auto)]
 
 mod ahead;

@@ -1,4 +1,4 @@
--- What $lookup makes of rows at positions: what it makes of the rows, with a position beside each; and what holds of that.
+-- What `$lookup` returns for rows at positions.
 use Rattle.std.specs.Prelude.{◌≡◌, Bool, true, false, cond, List, [], ◌∷◌, length, map, Some, refl}
 use Rattle.std.proofs.Common.{ap, subst, sym}
 use Rattle.std.specs.List.{AllByRecursion}
@@ -10,6 +10,6 @@ use Rattle.dv_gather.specs.declared.lookup.Lookup.{Lookup}
 use Rattle.dv_gather.specs.Lookups.{joined_row}
 use Rattle.dv_change.specs.Changes.{Positioned, forget}
 
--- each row with the documents of another list that it is joined with, where the row was
+-- each row with the array of its matches in the other list, at its position
 abbrev pub looked_up_at : Lookup → Positioned → Positioned → Positioned
 looked_up_at l rows foreign = map (λ e. (e.0, joined_row l (forget foreign) e.1)) rows

@@ -1,4 +1,4 @@
-//! `$lookup`, kept by changes of both its sides.
+//! The operator for `$lookup`, which follows both its inputs.
 #![tactic(auto)]
 
 mod index;

@@ -1,4 +1,4 @@
-//! Keys of BSON documents, indexes as sets of keys, and which of them answers a filter: what needs no collection.
+//! Indexes as sets of keys of BSON documents, and the choice of an index for a filter: what needs no collection.
 #![tactic(auto)]
 
 mod before;

@@ -1,4 +1,4 @@
-//! What the program does with files that it is given by their names: loading their documents into a store, and checking one.
+//! Files that are named in the program's arguments: loading their documents into a store, and checking a file.
 #![tactic(auto)]
 
 mod load;

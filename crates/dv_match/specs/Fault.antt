@@ -1,4 +1,4 @@
--- The faults of filters as text and as numbers.
+-- Why a filter is refused: the faults as texts and as numbers.
 use Rattle.std.specs.Prelude.{ℕ, List, codes}
 use Rattle.dv_match.specs.declared.fault.FilterFault.{FilterFault}
 use Rattle.dv_match.specs.declared.fault.FilterFault.TheVariants.{UnknownOperator, BadOperand, EmptyList, BadPath, NoMemory}

@@ -1,16 +1,16 @@
--- Filters as parsed (MongoDB manual, "Query and Projection Operators"). Which operators there are is this server's own.
+-- Parsed filters (MongoDB manual, "Query and Projection Operators"). The choice of operators is this server's own.
 use Rattle.std.specs.Prelude.{ℕ, suc, ◌+◌, Bool, List, [], ◌∷◌}
 use Rattle.dv_value.specs.Tree.{Tree}
 use Rattle.dv_match.specs.declared.range.Range.{Range}
 
--- the members of a filter, the filters of a list, what a path has to meet, and what an element has to meet
+-- the members of a filter; a list of filters; the conditions on what a path leads to; a test of an array's element
 mutual
   pub data Member : Type 0 where
-    -- $and, $or, $nor
+    -- `$and`, `$or`, `$nor`
     all_of : Filters → Member
     any_of : Filters → Member
     none_of : Filters → Member
-    -- a path, by its components
+    -- a path, as its components, with its conditions
     at_path : List (List ℕ) → Conditions → Member
 
   pub data Members : Type 0 where
@@ -22,28 +22,28 @@ mutual
     more_filters : Members → Filters → Filters
 
   pub data Condition : Type 0 where
-    -- $eq, or a value in place of operators; $ne
+    -- `$eq`, or a value without an operator; `$ne`
     equal : Tree → Condition
     unequal : Tree → Condition
-    -- $gt, $gte, $lt, $lte
+    -- `$gt`, `$gte`, `$lt`, `$lte`
     in_range : Range → Tree → Condition
-    -- $in, $nin
+    -- `$in`, `$nin`
     among : List Tree → Condition
     not_among : List Tree → Condition
-    -- $not
+    -- `$not`
     unmet : Conditions → Condition
-    -- $all
+    -- `$all`; `$exists`; `$size`
     contains : List Tree → Condition
     exists : Bool → Condition
     sized : ℕ → Condition
-    -- $elemMatch
+    -- `$elemMatch`
     has_element : Test → Condition
 
   pub data Conditions : Type 0 where
     no_conditions : Conditions
     more_conditions : Condition → Conditions → Conditions
 
-  -- what an element has to meet: operators of its own, or a filter, which only a document can match
+  -- a test of an array's element: operators that it must meet by itself, or a filter, which only a document can match
   pub data Test : Type 0 where
     by_operators : Conditions → Test
     by_filter : Members → Test

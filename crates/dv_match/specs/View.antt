@@ -1,4 +1,4 @@
--- What the parts of a filter in memory stand for.
+-- What the parts of a filter in memory represent.
 use Rattle.dv_value.specs.View.{tree}
 use Rattle.dv_match.specs.declared.form.Member.{Member}
 use Rattle.dv_match.specs.declared.form.Member.TheVariants.{And, Or, Nor, At}

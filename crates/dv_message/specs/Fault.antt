@@ -1,4 +1,4 @@
--- The faults that close sessions as numbers.
+-- The numbers of closing faults.
 use Rattle.std.specs.Prelude.{ℕ}
 use Rattle.dv_message.specs.declared.fault.CloseFault.{CloseFault}
 use Rattle.dv_message.specs.declared.fault.CloseFault.TheVariants as closing

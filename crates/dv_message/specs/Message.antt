@@ -1,4 +1,4 @@
--- Messages on the wire: OP_MSG with the standard message header (MongoDB manual, "MongoDB Wire Protocol").
+-- Messages: OP_MSG with the standard message header (MongoDB manual, "MongoDB Wire Protocol").
 use Rattle.std.specs.Prelude.{◌≡◌, ℕ, zero, suc, ◌+◌, ◌-◌, min, max, ◌/◌, ◌%◌, ◌^◌, ◌≤◌, ◌<◌, Bool, true, false, ◌||◌, not, List, [], ◌∷◌, ◌++◌, length, take, drop, Option, Some, None, nat_lt, ◌==◌, if◌then◌else◌}
 use Rattle.std.specs.Int.{w32, to_le_bytes}
 use Rattle.dv_message.specs.declared.fault.CloseFault.{CloseFault}
@@ -9,38 +9,40 @@ use Rattle.dv_message.specs.Sections.{Section, number_after, sections_spelling, 
 abbrev pub op_msg : ℕ
 op_msg = 2013
 
--- how many bytes a message has at least: those of the header, the flags, a kind byte and the smallest document
+-- the least length of a message in bytes: the header, the flags, one kind byte and the smallest document
 abbrev pub shortest_message : ℕ
 shortest_message = 26
 
--- and at most
+-- the greatest length of a message in bytes
 abbrev pub longest_message : ℕ
 longest_message = 48000000
 
 -- ---- messages
 
--- what a message asks: its requestID, as the unsigned number of its four bytes; whether no reply is to be sent; its sections
+-- the requestID of a message, as an unsigned number; whether its flag moreToCome is set, so that it gets no reply; and its sections
 pub record Message : Type 0 where
   pub request_id : ℕ
   pub more_to_come : Bool
   pub sections : List Section
 
--- header: messageLength, requestID, responseTo, opCode; then flagBits and the sections
+-- the encoding of a message: the header (messageLength, requestID, responseTo, opCode), the flagBits and the sections
 unfoldable pub message_spelling : ℕ → ℕ → ℕ → List ℕ → List ℕ
 message_spelling request_id response_to flags sections =
     to_le_bytes w32 (length sections + 20) ++ (to_le_bytes w32 request_id ++ (to_le_bytes w32 response_to ++ (to_le_bytes w32 op_msg ++ (to_le_bytes w32 flags ++ sections))))
 
--- bit 0, checksumPresent; bit 1, moreToCome; bits 2 to 15, which nobody knows. Bits from 16 on may be set
+-- whether flag bit 0, checksumPresent, is set
 abbrev pub has_checksum : ℕ → Bool
 has_checksum flags = flags % 2 == 1
 
+-- whether flag bit 1, moreToCome, is set
 abbrev pub has_more_to_come : ℕ → Bool
 has_more_to_come flags = flags / 2 % 2 == 1
 
+-- whether one of the flag bits 2 to 15 is set, which is refused; bits from 16 are ignored
 abbrev pub has_unknown_flag : ℕ → Bool
 has_unknown_flag flags = not (flags / 4 % 2 ^ 14 == 0)
 
--- the bytes spell the message, whatever responseTo says
+-- the bytes are an encoding of the message; responseTo may be anything
 pub record IsMessage (message : Message) (bytes : List ℕ) : Type 0 where
   pub response_to : ℕ
   pub flags : ℕ
@@ -52,21 +54,23 @@ pub record IsMessage (message : Message) (bytes : List ℕ) : Type 0 where
   pub whole : bytes ≡ message_spelling message.request_id response_to flags (sections_spelling message.sections)
   pub limits : length bytes ≤ longest_message
 
--- what stands at the front of a stream: less than a message, a fault that the bytes show already, or a message and what follows
+-- what a stream begins with: part of a message, a closing fault that the bytes show already, or a whole message with the bytes after it
 pub data StreamFront : Type 0 where
   unfinished : StreamFront
   closing : CloseFault → StreamFront
   whole : Message → List ℕ → StreamFront
 
+-- a message with these sections
 abbrev pub message_with : ℕ → ℕ → List Section → Message
 message_with request_id flags sections = record { request_id = request_id; more_to_come = has_more_to_come flags; sections = sections }
 
--- what the sections of a message show, if they are such
+-- the message with these sections, or a fault if the sections are not valid
 abbrev pub front_by : ℕ → ℕ → Option (List Section) → List ℕ → StreamFront
 front_by request_id flags None following = closing BadSection
 front_by request_id flags (Some sections) following = whole (message_with request_id flags sections) following
 
--- A message's length is shown by its fourth byte, its code by the sixteenth, its flags by the twentieth, its sections by its last.
+-- What a stream begins with. The length of a message is checked once its four bytes are there, the operation code after 16 bytes, the
+-- flags after 20, and the sections when the message is complete.
 unfoldable pub stream_front : List ℕ → StreamFront
 stream_front bytes =
     if nat_lt (length bytes) 4 then unfinished
@@ -79,49 +83,53 @@ stream_front bytes =
     else if nat_lt (length bytes) (number_after 0 bytes) then unfinished
     else front_by (number_after 4 bytes) (number_after 16 bytes) (sections_in (drop 20 (take (number_after 0 bytes) bytes))) (drop (number_after 0 bytes) bytes)
 
--- how many bytes the message has that these begin, as far as they show it
+-- the length of the message that these bytes begin, or 4 until its length is known
 abbrev pub shown_length : List ℕ → ℕ
 shown_length bytes = if nat_lt (length bytes) 4 then 4 else number_after 0 bytes
 
--- how many bytes of a piece come up to the end of the message that the kept bytes begin, or the piece where none are kept: at
--- least one, and at most all
+-- how many bytes of a piece belong to the unfinished message of the kept bytes, as far as its length is known: at least one, and at
+-- most all
 abbrev pub front_length : List ℕ → List ℕ → ℕ
 front_length [] piece = min (length piece) (max 1 (shown_length piece))
 front_length (b ∷ kept) piece = min (length piece) (max 1 (shown_length (b ∷ kept) - length (b ∷ kept)))
 
 -- ---- streams
 
--- how a session stands behind its messages: it is open, with the bytes of a message that isn't whole; or closed
+-- the state of a session: open, with the bytes of an unfinished message, or closed by a fault
 pub data Conversation : Type 0 where
   reading : List ℕ → Conversation
   closed : CloseFault → Conversation
 
--- a stream's whole messages, and how its session stands behind them
+-- the whole messages of a stream, and the conversation after them
 pub record Split : Type 0 where
   pub messages : List Message
   pub conversation : Conversation
 
+-- a message before the messages of the rest of the stream
 abbrev pub split_behind : Message → Split → Split
 split_behind message others = record { messages = message ∷ others.messages; conversation = others.conversation }
 
+-- the messages of a stream, by what it begins with
 abbrev pub split_from : List ℕ → StreamFront → (List ℕ → Split) → Split
 split_from bytes unfinished others = record { messages = []; conversation = reading bytes }
 split_from bytes (closing fault) others = record { messages = []; conversation = closed fault }
 split_from bytes (whole message following) others = split_behind message (others following)
 
--- the whole messages that begin the bytes, at most so many, and how they go on
+-- the whole messages of the bytes, at most this many, and the conversation after them
 unfoldable pub split_within : ℕ → List ℕ → Split
 split_within zero bytes = record { messages = []; conversation = reading bytes }
 split_within (suc steps) bytes = split_from bytes (stream_front bytes) (split_within steps)
 
--- A message takes up a byte at least, so as many steps as there are bytes, and one to look at the rest, are enough.
+-- The whole messages of the bytes, and the conversation after them. Each message takes at least one byte, so the number of bytes and
+-- one more step are enough.
 unfoldable pub split : List ℕ → Split
 split bytes = split_within (suc (length bytes)) bytes
 
--- how a stream that was split goes on where more bytes come: behind a fault nothing does
+-- the messages and the conversation after further bytes; after a fault these are ignored
 abbrev pub continuation_behind : List Message → Conversation → List ℕ → Split
 continuation_behind messages (reading bytes) more = record { messages = messages ++ (split (bytes ++ more)).messages; conversation = (split (bytes ++ more)).conversation }
 continuation_behind messages (closed fault) more = record { messages = messages; conversation = closed fault }
 
+-- a stream after further bytes
 abbrev pub continuation : Split → List ℕ → Split
 continuation stream more = continuation_behind stream.messages stream.conversation more

@@ -1,4 +1,4 @@
-//! OP_MSG messages: where one ends in a stream of bytes, what its sections bring, and how a reply is spelled.
+//! OP_MSG messages: where a message ends in a stream of bytes, what its sections contain, and how a reply is encoded.
 #![tactic(auto)]
 
 mod batch;

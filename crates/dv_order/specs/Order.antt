@@ -1,5 +1,5 @@
--- The order in which BSON values stand, as a database sorts them and keeps them under an index:
--- first by the class of their type, and within a class by what they say (MongoDB manual, "Comparison/Sort Order").
+-- The order of BSON values, by which documents are sorted and indexes ordered: first by the class of their type, then by their content
+-- within the class (MongoDB manual, "Comparison/Sort Order").
 use Rattle.std.specs.Prelude.{◌≡◌, ℕ, length}
 use Rattle.std.specs.declared.cmp.Ordering.{Ordering}
 use Rattle.std.specs.declared.cmp.Ordering.TheVariants.{Less, Equal, Greater}
@@ -7,7 +7,7 @@ use Rattle.std.specs.Ordering.{ordering_then, nat_cmp, int_cmp, bool_cmp}
 use Rattle.std.specs.Cmp.Lexicographic.{slice_cmp}
 use Rattle.dv_value.specs.Tree.{Tree, int32, int64, string, document, array, boolean, binary, object_id, date, null, timestamp, min_key, max_key, Fields, no_fields, field, Elements, no_elements, element, Field}
 
--- the value with the width of its integers forgotten, at every depth
+-- the value with each int32 replaced by the same int64, at every level
 abbrev mutual
   pub canon : Tree → Tree
   canon (int32 n) = int64 n
@@ -32,8 +32,8 @@ abbrev mutual
   elements_canon no_elements = no_elements
   elements_canon (element v vs) = element (canon v) (elements_canon vs)
 
--- where the type of a value stands among: 0 MinKey, 1 no element, 2 null, 3 numbers, 4 strings, 5 documents, 6 arrays,
--- 7 binary, 8 ObjectId, 9 booleans, 10 dates, 11 timestamps, 12 MaxKey
+-- the rank of the class of a value's type: 0 MinKey, 1 no element (an empty array as a sort key), 2 null, 3 numbers, 4 strings, 5
+-- documents, 6 arrays, 7 binary data, 8 ObjectId, 9 booleans, 10 UTC datetimes, 11 timestamps, 12 MaxKey
 abbrev pub class : Tree → ℕ
 class min_key = 0
 class null = 2
@@ -49,10 +49,10 @@ class (date n) = 10
 class (timestamp n) = 11
 class max_key = 12
 
--- the order of two values; of documents, pair by pair as written, and of arrays, element by element
+-- the order of two values; of two documents, field by field in written order; of two arrays, element by element
 abbrev mutual
   pub order : Tree → Tree → Ordering
-  -- integers by the number, whatever their width
+  -- integers by value, whatever their width
   order (int32 m) (int32 n) = int_cmp m n
   order (int32 m) (int64 n) = int_cmp m n
   order (int64 m) (int32 n) = int_cmp m n
@@ -61,22 +61,22 @@ abbrev mutual
   order (string s) (string t) = slice_cmp nat_cmp s t
   order (document fs) (document gs) = fields_order fs gs
   order (array vs) (array ws) = elements_order vs ws
-  -- binary data by its length, then by the subtype, then by the bytes
+  -- binary data by length, then by subtype, then by bytes
   order (binary s bs) (binary t cs) = ordering_then (nat_cmp (length bs) (length cs)) (ordering_then (nat_cmp s t) (slice_cmp nat_cmp bs cs))
   order (object_id a) (object_id b) = slice_cmp nat_cmp a b
   -- false before true
   order (boolean a) (boolean b) = bool_cmp a b
   order (date m) (date n) = int_cmp m n
   order (timestamp m) (timestamp n) = nat_cmp m n
-  -- there is one of each
+  -- these classes have one value each
   order null null = Equal
   order min_key min_key = Equal
   order max_key max_key = Equal
-  -- Two values of different classes stand as these do. Two of one class have their line above: without it they would be
-  -- equal here, and the law that equal values are the same but for widths would fail.
+  -- Values of different classes are ordered by their classes. Two values of one class need a line of their own above: here they would
+  -- be equal, and the law that equal values differ only in integer widths would fail.
   order v w = nat_cmp (class v) (class w)
 
-  -- the class of the value decides, then the bytes of the name, then the value, then the fields that follow
+  -- first the class of the value, then the bytes of the name, then the value, then the fields that follow
   pub fields_order : Fields → Fields → Ordering
   fields_order no_fields no_fields = Equal
   fields_order no_fields gs = Less
@@ -84,17 +84,17 @@ abbrev mutual
   fields_order (field a v fs) (field b w gs) =
       ordering_then (nat_cmp (class v) (class w)) (ordering_then (slice_cmp nat_cmp a b) (ordering_then (order v w) (fields_order fs gs)))
 
-  -- the element decides, then the elements that follow
+  -- first the element, then the elements that follow
   pub elements_order : Elements → Elements → Ordering
   elements_order no_elements no_elements = Equal
   elements_order no_elements ws = Less
   elements_order vs no_elements = Greater
   elements_order (element v vs) (element w ws) = ordering_then (order v w) (elements_order vs ws)
 
--- the order of two fields alone: by the class of the value, then by the name, then by the value
+-- the order of two single fields: by the class of the value, then by the name, then by the value
 abbrev pub field_order : Field → Field → Ordering
 field_order f g = ordering_then (nat_cmp (class f.1) (class g.1)) (ordering_then (slice_cmp nat_cmp f.0 g.0) (order f.1 g.1))
 
--- the first value stands before the second
+-- the first value is less than the second
 abbrev pub below : Tree → Tree → Type 0
 below v w = order v w ≡ Less

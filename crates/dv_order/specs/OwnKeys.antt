@@ -1,11 +1,11 @@
--- The keys that stand for something: those of values, and the one that no value has.
+-- Keys that exist: the keys of values, and the key of no element.
 use Rattle.std.specs.Prelude.{◌≡◌, Option}
 use Rattle.std.proofs.Common.{sym, ◌∙◌}
 use Rattle.std.specs.declared.cmp.Ordering.TheVariants.{Equal}
 use Rattle.dv_value.specs.Tree.{Tree}
 use Rattle.dv_order.specs.Key.{KeyTree, key_at}
 
--- the key of some value, or the one that no value has
+-- the key of some value, or the key of no element
 pub record IsOwn (k : KeyTree) : Type 0 where
   pub of : Option Tree
   pub is : k ≡ key_at of

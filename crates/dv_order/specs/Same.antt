@@ -1,15 +1,16 @@
--- Whether two values have one spelling: they are of one type, with the same content (BSON 1.1). A law says that they are then the same.
+-- Whether two values have the same encoding: the same type and the same content (BSON 1.1). A law says that they are then equal.
 use Rattle.std.specs.Prelude.{◌==◌, ◌&&◌, not, Bool, true, false, Option, Some, None}
 use Rattle.std.specs.Ordering.{int_eq}
 use Rattle.std.specs.Str.{bytes_eq}
 use Rattle.dv_value.specs.Tree.{Tree, int32, int64, string, document, array, boolean, binary, object_id, date, null, timestamp, min_key, max_key, Fields, no_fields, field, Elements, no_elements, element}
 
+-- whether two booleans are equal
 abbrev pub agree : Bool → Bool → Bool
 agree true b = b
 agree false b = not b
 
+-- whether two values, documents or arrays have the same encoding: also the width of integers and the order of fields count
 abbrev mutual
-  -- also in the width of integers, and in the order of fields
   pub is_same : Tree → Tree → Bool
   is_same (int32 m) (int32 n) = int_eq m n
   is_same (int64 m) (int64 n) = int_eq m n
@@ -36,7 +37,7 @@ abbrev mutual
   same_elements (element v vs) (element w ws) = is_same v w && same_elements vs ws
   same_elements vs ws = false
 
--- the same where there is one, and else none
+-- whether both values are absent, or both are present and the same
 abbrev pub both_same : Option Tree → Option Tree → Bool
 both_same None None = true
 both_same (Some v) (Some w) = is_same v w

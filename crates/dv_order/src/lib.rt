@@ -1,4 +1,4 @@
-//! The order of BSON values, and keys that have it.
+//! The order of BSON values, and keys in this order.
 #![tactic(auto)]
 
 mod code;

@@ -1,14 +1,14 @@
--- Names that a path can't lead to: a dot in one would part it, and a dollar sign in front of one says that it is an operator.
+-- Names that no path can reach: in a path a dot separates names, and a dollar sign begins an operator.
 use Rattle.std.specs.Prelude.{ℕ, false, ◌||◌, Bool, List, ◌==◌}
 use Rattle.std.specs.List.{list_any}
 use Rattle.dv_value.specs.Tree.{Tree, document, array, Fields, no_fields, field, Elements, no_elements, element, Field, fields_of}
 use Rattle.dv_value.specs.Names.{begins_with_dollar}
 
--- a dot is 46
+-- whether the name contains a dot (46)
 abbrev pub has_dot : List ℕ → Bool
 has_dot name = list_any (λ b. b == 46) name
 
--- whether a dot stands in a name, at any level
+-- whether a field name contains a dot, at any level
 abbrev mutual
   pub is_dotted : Tree → Bool
   is_dotted (document fs) = are_fields_dotted fs
@@ -23,6 +23,6 @@ abbrev mutual
   are_elements_dotted no_elements = false
   are_elements_dotted (element v vs) = is_dotted v || are_elements_dotted vs
 
--- whether a name begins with a dollar sign at the top level, or holds a dot at any level
+-- whether a name begins with a dollar sign at the top level, or contains a dot at any level
 abbrev pub has_bad_name : List Field → Bool
 has_bad_name fs = list_any (λ f. begins_with_dollar f.0) fs || are_fields_dotted (fields_of fs)

@@ -1,4 +1,4 @@
-//! Paths into BSON documents: what is put, taken away and sorted by where they lead.
+//! Paths into BSON documents: values are put and removed at a path, and a path leads to keys.
 #![tactic(auto)]
 
 mod direction;

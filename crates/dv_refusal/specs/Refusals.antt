@@ -1,4 +1,4 @@
--- How commands are refused (MongoDB manual, "Error Codes"; from 900 on they are this server's own).
+-- Why commands are refused, and with which codes (MongoDB manual, "Error Codes"; the codes from 900 on are this server's own).
 use Rattle.std.specs.Prelude.{◌≡◌, ◌⊎◌, ℕ, List, ◌++◌, Result, Ok, Err, codes}
 use Rattle.dv_value.specs.declared.fault.BsonFault.{BsonFault}
 use Rattle.dv_value.specs.declared.fault.BsonFault.TheVariants.{NoMemory}
@@ -14,6 +14,7 @@ use Rattle.dv_row.specs.declared.fault.PipelineFault.TheVariants as piping
 use Rattle.dv_refusal.specs.declared.refusal.Refusal.{Refusal}
 use Rattle.dv_refusal.specs.declared.refusal.Refusal.TheVariants.{BadValue, FailedToParse, TypeMismatch, InvalidBson, NamespaceNotFound, IndexNotFound, PathNotViable, ConflictingUpdateOperators, CursorNotFound, NamespaceExists, CommandNotFound, ImmutableField, DuplicateKey, WantOfMemory, TooLarge, OnView, LimitReached, ReadByView}
 
+-- the code of a refusal
 abbrev pub code : Refusal → ℕ
 code BadValue = 2
 code FailedToParse = 9
@@ -34,6 +35,7 @@ code OnView = 902
 code LimitReached = 903
 code ReadByView = 904
 
+-- the name of a refusal's code
 abbrev pub code_name : Refusal → List ℕ
 code_name BadValue = codes "BadValue"
 code_name FailedToParse = codes "FailedToParse"
@@ -54,27 +56,27 @@ code_name OnView = codes "OnView"
 code_name LimitReached = codes "LimitReached"
 code_name ReadByView = codes "ReadByView"
 
--- the message is the code's name; that of a document that can't be read says why
+-- the message of a refusal: the code's name; for a document that can't be read, also its fault
 abbrev pub message_of : Refusal → List ℕ
 message_of (InvalidBson fault) = codes "InvalidBSON: " ++ fault_text fault
 message_of refusal = code_name refusal
 
--- how a command is refused whose body can't be read: for the fault in it, or for want of memory where there was none to read it
+-- the refusal of a command whose body can't be read: for its fault, or because memory ran out
 abbrev pub refusal_of : BsonFault → Refusal
 refusal_of NoMemory = WantOfMemory
 refusal_of fault = InvalidBson fault
 
--- why a document isn't inserted
+-- the refusal of a document that can't be inserted
 abbrev pub insert_refusal : InsertFault → Refusal
 insert_refusal inserting.Duplicate = DuplicateKey
 insert_refusal inserting.NoMemory = WantOfMemory
 
--- why a document is no filter
+-- the refusal of a document that isn't a valid filter
 abbrev pub filter_refusal : FilterFault → Refusal
 filter_refusal filtering.NoMemory = WantOfMemory
 filter_refusal fault = BadValue
 
--- why a document is no update, or can't be updated
+-- the refusal of an update that isn't valid or can't be applied
 abbrev pub update_refusal : UpdateFault → Refusal
 update_refusal updating.UnknownOperator = FailedToParse
 update_refusal updating.BadOperand = FailedToParse
@@ -89,7 +91,7 @@ update_refusal updating.BadName = BadValue
 update_refusal updating.TooLarge = TooLarge
 update_refusal updating.NoMemory = WantOfMemory
 
--- why a list of stages is no pipeline
+-- the refusal of a list of stages that isn't a valid pipeline
 abbrev pub pipeline_refusal : PipelineFault → Refusal
 pipeline_refusal piping.UnknownStage = FailedToParse
 pipeline_refusal piping.BadSpec = FailedToParse
@@ -98,12 +100,12 @@ pipeline_refusal piping.Conflict = ConflictingUpdateOperators
 pipeline_refusal piping.TooMany = LimitReached
 pipeline_refusal piping.NoMemory = WantOfMemory
 
--- the same, with a refusal in place of a fault
+-- the result, with a refusal instead of a fault
 abbrev pub refused_by : {A E : Type 0} → (E → Refusal) → Result A E → Result A Refusal
 refused_by refusal (Ok x) = Ok x
 refused_by refusal (Err fault) = Err (refusal fault)
 
--- what a function of the code answered, seen by a view, is as it is defined; or a refusal for want of memory in place of it
+-- the call returned the defined result, or a refusal with 900 because memory ran out; `view` says what a value in memory represents
 abbrev pub UnlessWanting : {X Y : Type 0} → (X → Y) → Result Y Refusal → Result X Refusal → Type 0
 UnlessWanting view defined (Ok x) = defined ≡ Ok (view x)
 UnlessWanting view defined (Err refusal) = (defined ≡ Err refusal) ⊎ (refusal ≡ WantOfMemory)

@@ -1,7 +1,7 @@
--- Rows, which stages make others of.
+-- Rows, which stages read and return.
 use Rattle.std.specs.Prelude.{List}
 use Rattle.dv_value.specs.Tree.{Field}
 
--- a row is a document: the list of its fields
+-- a row is a document: a list of fields
 abbrev pub Row : Type 0
 Row = List Field

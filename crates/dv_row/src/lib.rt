@@ -1,4 +1,4 @@
-//! What stages make of one row: expressions, `$project` and `$unwind`.
+//! Stages that take one row at a time: expressions, `$project` and `$unwind`.
 #![tactic(auto)]
 
 mod asked;

@@ -1,4 +1,4 @@
--- What a script does, line by line, and what is written.
+-- What a script does and prints, line by line.
 use Rattle.std.specs.Prelude.{◌≡◌, ℕ, ◌⊎◌, Bool, true, false, List, [], ◌∷◌, ◌++◌, ◌==◌, Option, Some, None, Ok, replicate, slice_get, slice_set}
 use Rattle.std.specs.List.{All, slice_split}
 use Rattle.dv_wire.specs.declared.hub.Fed.{Fed}
@@ -15,33 +15,34 @@ use Rattle.dv_words.specs.declared.fault.ScriptFault.TheVariants as script_fault
 use Rattle.dv_scripts.specs.declared.sessions.Session.{Session}
 use Rattle.dv_scripts.specs.declared.sessions.Sessions.{Sessions}
 
--- a script that opens no session ends with this fault
+-- the fault of a script that can't open a session
 abbrev pub open_fault : HubFault → ScriptFault
 open_fault hub_faults.TooManySessions = script_faults.Sessions
 open_fault hub_faults.NoMemory = script_faults.NoMemory
 
--- the sessions that were opened and haven't ended, by their numbers in the script, and the hub
+-- the sessions that have not ended, by their numbers in the script, and the hub's world
 pub record OpenSessions : Type 0 where
   pub sessions : List (Option Session)
   pub hub : World
 
+-- the sessions of a script in memory, with the hub's world
 abbrev pub standing_of : Sessions → World → OpenSessions
 standing_of sessions hub = record { sessions = sessions.places; hub = hub }
 
--- the session of a number: the one that stands under it, or one that is opened and put there
+-- the session with this number: the present one, or a new one that is opened for the number
 abbrev pub Finds : OpenSessions → ℕ → Session → OpenSessions → Type 0
 Finds old number session new =
     ((slice_get old.sessions number ≡ Some (Some session)) × (new ≡ old))
     ⊎ ((slice_get old.sessions number ≡ Some None) × (session.is_closed ≡ false)
     × Opens old.hub (Ok session.id) new.hub × (new.sessions ≡ slice_set old.sessions number (Some session)))
 
--- whether a session that answered so takes no more bytes
+-- whether a session takes no more bytes after this report
 abbrev pub is_closing : Fed → Bool
 is_closing fed.Open = false
 is_closing (fed.Closed fault) = true
 is_closing fed.Unknown = false
 
--- bytes come from a session: its replies are written, and then that it is closed; one that is closed takes none
+-- bytes arrive from a session: its replies are printed, and then a line if it was closed; a closed session ignores the bytes
 abbrev pub BringsFrom : OpenSessions → ℕ → Session → List ℕ → List ℕ → OpenSessions → Type 0
 BringsFrom old number session bytes text new =
     ((session.is_closed ≡ true) × (text ≡ []) × (new ≡ old))
@@ -49,42 +50,44 @@ BringsFrom old number session bytes text new =
     × Feeds old.hub session.id.number bytes answered told new.hub × AreReplies replies answered
     × (text ≡ fed_text number replies told) × (new.sessions ≡ slice_set old.sessions number (Some (record session { is_closed = is_closing told })))))
 
--- a session ends: it is written how many bytes of an unfinished message are dropped
+-- a session ends, and the number of dropped bytes of its unfinished message is printed
 abbrev pub EndsSession : OpenSessions → ℕ → Session → List ℕ → OpenSessions → Type 0
 EndsSession old number session text new =
     (text ≡ end_line number (unfinished_in (conversation_of session.id.number old.hub.sessions)))
     × (new ≡ record { sessions = slice_set old.sessions number None; hub = end session.id.number old.hub })
 
--- what a line does, and what is written of it
+-- what a parsed line does and prints
 abbrev pub DoesOneLine : OpenSessions → Line → List ℕ → OpenSessions → Type 0
 DoesOneLine old Skip text new = (text ≡ []) × (new ≡ old)
 DoesOneLine old (Bytes number bytes) text new = (session : Session) × (mid : OpenSessions) × Finds old number session mid × BringsFrom mid number session bytes text new
 DoesOneLine old (End number) text new = (session : Session) × (mid : OpenSessions) × Finds old number session mid × EndsSession mid number session text new
 
--- a line as it stands in a script is done
+-- what a line of text does and prints
 abbrev pub DoesLine : OpenSessions → List ℕ → List ℕ → OpenSessions → Type 0
 DoesLine old line text new = (meant : Line) × IsLine meant line × DoesOneLine old meant text new
 
--- a line is bad that has no form
+-- the text is not a valid line
 abbrev pub IsBad : List ℕ → Type 0
 IsBad line = (meant : Line) → IsLine meant line → ⊥
 
--- lines are done one after the other
+-- what lines do and print, one after the other
 abbrev pub DoesLines : OpenSessions → List (List ℕ) → List ℕ → OpenSessions → Type 0
 DoesLines old [] text new = (text ≡ []) × (new ≡ old)
 DoesLines old (line ∷ lines) text new =
     (mid : OpenSessions) × (first : List ℕ) × (others : List ℕ) × DoesLine old line first mid × DoesLines mid lines others new × (text ≡ first ++ others)
 
+-- whether the byte is a line feed
 abbrev pub is_lf : ℕ → Bool
 is_lf b = b == 10
 
+-- the bytes contain no line feed
 abbrev pub HasNoLf : List ℕ → Type 0
 HasNoLf bytes = All (λ b. is_lf b ≡ false) bytes
 
--- A script is the lines between its LFs, the last one behind the last LF. They are done, and this is written.
+-- What a script does and prints. Its lines are separated by line feeds; the last line follows the last line feed.
 abbrev pub Runs : OpenSessions → List ℕ → List ℕ → OpenSessions → Type 0
 Runs old script text new = DoesLines old (slice_split is_lf script) text new
 
--- before a script: no number has a session
+-- the sessions before a script: no number from 0 to 999 has one
 abbrev pub no_sessions : World → OpenSessions
 no_sessions hub = record { sessions = replicate 1000 None; hub = hub }

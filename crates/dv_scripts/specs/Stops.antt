@@ -21,7 +21,7 @@ number_in Skip = None
 number_in (Bytes number bytes) = Some number
 number_in (End number) = Some number
 
--- no session stands under a number, and none is opened: the hub has no room, or there is no memory; the hub is as it was
+-- no session is opened for a number that has none: the hub refuses it, or memory ran out; the hub stays as it was
 abbrev pub OpensNone : ScriptFault → OpenSessions → ℕ → World → Type 0
 OpensNone (BadLine n) old number new = ⊥
 OpensNone Read old number new = ⊥
@@ -30,7 +30,7 @@ OpensNone Write old number new = ⊥
 OpensNone NoMemory old number new = new ≡ old.hub
 OpensNone Sessions old number new = (slice_get old.sessions number ≡ Some None) × Opens old.hub (Err TooManySessions) new
 
--- what a line says isn't done, since no session is opened; or there is no memory for its answer, or to do it
+-- a line isn't carried out, since its session can't be opened; or memory runs out for the line or for what it prints
 abbrev pub StopsLine : ScriptFault → OpenSessions → Line → World → Type 0
 StopsLine (BadLine n) old meant new = ⊥
 StopsLine Read old meant new = ⊥
@@ -39,13 +39,13 @@ StopsLine Write old meant new = ⊥
 StopsLine NoMemory old meant new = (new ≡ old.hub) ⊎ ((answer : List ℕ) × (end : OpenSessions) × DoesOneLine old meant answer end × (end.hub ≡ new))
 StopsLine Sessions old meant new = (number : ℕ) × (number_in meant ≡ Some number) × OpensNone Sessions old number new
 
--- a line is done, and of its answer this part is written; or nothing is done of it
+-- a line is carried out and only this part of its output is printed, or the line does nothing
 abbrev pub IsCutShort : OpenSessions → List ℕ → List ℕ → World → Type 0
 IsCutShort old line part new =
     ((part ≡ []) × (new ≡ old.hub)) ⊎ ((unwritten : List ℕ) × (end : OpenSessions) × DoesLine old line (part ++ unwritten) end × (end.hub ≡ new))
 
--- Why the line of this number ends a script, which part of its answer is written, and which hub is left. A line that is bad or
--- opens no session changes nothing. Where memory is wanting nothing of its answer is written.
+-- Why the line with this number ends a script, the part of its output that is printed, and the world after it. A line that isn't valid,
+-- or whose session can't be opened, changes nothing. If memory runs out, none of its output is printed.
 abbrev pub EndsAt : ScriptFault → OpenSessions → ℕ → List ℕ → List ℕ → World → Type 0
 EndsAt (BadLine n) old number line part new = (n ≡ number) × IsBad line × (part ≡ []) × (new ≡ old.hub)
 EndsAt Read old number line part new = ⊥
@@ -56,7 +56,7 @@ EndsAt Sessions old number line part new = (part ≡ []) × ((meant : Line) × I
 
 -- ---- a whole script
 
--- the lines in front of one are done and answered, and that one, whose number counts from 1, ends the script
+-- the lines before one are carried out and their output is printed; that line, numbered from 1, ends the script
 pub record StopsScript (fault : ScriptFault) (old : OpenSessions) (script text : List ℕ) (new : World) : Type 0 where
   pub lines : List (List ℕ)
   pub line : List ℕ
@@ -69,7 +69,7 @@ pub record StopsScript (fault : ScriptFault) (old : OpenSessions) (script text :
   pub written : text ≡ said ++ part
   pub why : EndsAt fault mid (suc (length lines)) line part new
 
--- each line whose LF was read is done and answered, and nothing of what stands behind the last LF
+-- all lines that were read with their line feed are carried out, and nothing that follows the last line feed
 pub record DoesWhole (old : OpenSessions) (read text : List ℕ) (new : World) : Type 0 where
   pub lines : List (List ℕ)
   pub kept : List ℕ
@@ -78,15 +78,15 @@ pub record DoesWhole (old : OpenSessions) (read text : List ℕ) (new : World) :
   pub done : DoesLines old lines text end
   pub left : end.hub ≡ new
 
--- the script is all that the reader had, where that is known, and this holds of it and of what the writer took
+-- the script is the whole input of the reader, if that is known, and `Holds` is true of it and of what the writer took
 abbrev pub OfScript : (List ℕ → List ℕ → Type 0) → Option (List ℕ) → Option (List ℕ) → Option (List ℕ) → Type 0
 OfScript Holds from before after = (script : List ℕ) × (text : List ℕ) × IfSome from (λ known. script ≡ known) × Appends before after text × Holds script text
 
--- the same of what was read
+-- `Holds` is true of what was read and of what the writer took
 abbrev pub OfRead : (List ℕ → List ℕ → Type 0) → Option (List ℕ) → Option (List ℕ) → Option (List ℕ) → Option (List ℕ) → Type 0
 OfRead Holds from to before after = (read : List ℕ) × (text : List ℕ) × Consumes from to read × Appends before after text × Holds read text
 
--- What is done and written behind a script's fault. The writer may fail behind the last line too, when all is written.
+-- What is done and printed when a script ends with a fault. The writer may also fail after the last line, when everything is printed.
 abbrev pub StopsBy : ScriptFault → OpenSessions → Option (List ℕ) → Option (List ℕ) → Option (List ℕ) → Option (List ℕ) → World → Type 0
 StopsBy (BadLine n) old from to before after new = OfScript (λ script text. StopsScript (BadLine n) old script text new) from before after
 StopsBy Read old from to before after new = OfRead (λ read text. DoesWhole old read text new) from to before after
@@ -98,15 +98,18 @@ StopsBy Sessions old from to before after new = OfScript (λ script text. StopsS
 
 -- ---- readers and writers
 
+-- whether reading failed
 abbrev pub script_read_failed : ScriptFault → Bool
 script_read_failed Read = true
 script_read_failed fault = false
 
+-- whether writing failed
 abbrev pub script_write_failed : ScriptFault → Bool
 script_write_failed Write = true
 script_write_failed fault = false
 
--- a writer fails where that is told; behind another fault it may fail to hand on what it took, which isn't told
+-- the number of failures of the writer: one more if the result is a failed write; after another fault writing may fail too, which is
+-- not reported
 abbrev pub FailsWriting : {A : Type 0} → Result A ScriptFault → ℕ → ℕ → Type 0
 FailsWriting (Ok done) old new = new ≡ old
 FailsWriting (Err (BadLine n)) old new = (new ≡ old) ⊎ (new ≡ once_more old)
@@ -116,7 +119,7 @@ FailsWriting (Err Write) old new = new ≡ once_more old
 FailsWriting (Err NoMemory) old new = (new ≡ old) ⊎ (new ≡ once_more old)
 FailsWriting (Err Sessions) old new = (new ≡ old) ⊎ (new ≡ once_more old)
 
--- how often a reader is asked for a script: just as often as may be where too many reads are told, and else no more often
+-- how often the reader was asked: exactly the greatest number if the result is too many reads, otherwise at most that
 abbrev pub AsksForScript : {A : Type 0} → Result A ScriptFault → ℕ → ℕ → Type 0
 AsksForScript (Ok done) old new = AsksFew old new
 AsksForScript (Err (BadLine n)) old new = AsksFew old new

@@ -1,4 +1,4 @@
-//! Scripts: lines that bring bytes to the sessions of a hub, and what is written of the answers.
+//! Scripts: lines with bytes of sessions, and what is printed for them.
 #![tactic(auto)]
 
 mod input;

@@ -1,4 +1,4 @@
--- Serving connections, one after the other.
+-- Serving connections one after the other, and what is printed.
 use Rattle.std.specs.Prelude.{◌≡◌, ℕ, ◌+◌, List, [], ◌∷◌, ◌++◌, length, codes, Bool, true, false, Option, Some, None, Result, Ok, Err, ⊤, IfSome}
 use Rattle.std.specs.Fmt.{decimal}
 use Rattle.dv_message.specs.Fault.{close_number}
@@ -12,75 +12,75 @@ use Rattle.dv_serving.specs.declared.serve.ServeFault.TheVariants.{Accept, Write
 
 -- ---- lines
 
--- what is written of a connection whose session was not cut short
+-- the line of a connection that has ended, or was closed by a fault
 abbrev pub ended_line : ℕ → Option CloseFault → List ℕ
 ended_line number None = codes "connection " ++ decimal number ++ codes " ended\n"
 ended_line number (Some fault) = codes "connection " ++ decimal number ++ codes " closed " ++ decimal (close_number fault) ++ codes "\n"
 
--- what is written of a connection
+-- the line of a connection
 abbrev pub connection_line : ℕ → Result Done RunFault → List ℕ
 connection_line number (Ok done) = ended_line number done.closing
 connection_line number (Err fault) = codes "connection " ++ decimal number ++ codes " failed\n"
 
 -- ---- connections
 
--- a connection that was closed: what was left of its input, and what its output has taken, where these are known
+-- a closed connection: the bytes of its input that were left, and the bytes that its output took, if they are known
 pub record Ended : Type 0 where
   pub left : Option (List ℕ)
   pub taken : Option (List ℕ)
 
--- A connection: the bytes that its input had when it came, and those that were left when it was closed; and what its output had
--- taken then. Each is given where it is known.
+-- the bytes of a connection's input, those that were left when it was closed, and the bytes that its output had taken by then; each if
+-- it is known
 pub record Connection : Type 0 where
   pub input : Option (List ℕ)
   pub left : Option (List ℕ)
   pub taken : Option (List ℕ)
 
--- the next connection comes, and these are its bytes, where they are known
+-- the next connection arrives with these bytes, if they are known
 abbrev pub Accepts : Option (List (List ℕ)) → Option (List ℕ) → Option (List (List ℕ)) → Type 0
 Accepts None known new = ⊤
 Accepts (Some []) known new = ⊥
 Accepts (Some (bytes ∷ others)) known new = (known ≡ Some bytes) × (new ≡ Some others)
 
--- an output has taken these bytes, where that is known
+-- the output has taken these bytes, if they are known
 abbrev pub HasTaken : Option (List ℕ) → List ℕ → Type 0
 HasTaken taken bytes = IfSome taken (λ known. known ≡ bytes)
 
--- an output has taken nothing yet; and that is known, where it is known what the outputs of closed connections took
+-- the output has taken nothing yet; this is known if the outputs of closed connections are
 abbrev pub IsFresh : Option (List Ended) → Option (List ℕ) → Type 0
 IsFresh None taken = HasTaken taken []
 IsFresh (Some closed) taken = taken ≡ Some []
 
--- a connection is closed behind those that were: this was left of its input, and this was taken by its output
+-- one more connection is closed, with these bytes left and taken
 abbrev pub ClosesConnection : Option (List Ended) → Option (List ℕ) → Option (List ℕ) → Option (List Ended) → Type 0
 ClosesConnection None left taken new = ⊤
 ClosesConnection (Some before) left taken new = new ≡ Some (before ++ record { left = left; taken = taken } ∷ [])
 
--- connections come, one after the other
+-- connections arrive, one after the other
 abbrev pub Come : Option (List (List ℕ)) → List Connection → Option (List (List ℕ)) → Type 0
 Come old [] new = new ≡ old
 Come old (next ∷ others) new = (mid : Option (List (List ℕ))) × Accepts old next.input mid × Come mid others new
 
--- and are closed, one after the other
+-- connections are closed, one after the other
 abbrev pub Close : Option (List Ended) → List Connection → Option (List Ended) → Type 0
 Close old [] new = new ≡ old
 Close old (next ∷ others) new = (mid : Option (List Ended)) × ClosesConnection old next.left next.taken mid × Close mid others new
 
--- A connection has its session: this is told of it, these bytes of its answers were given to its output, from the first on, and
--- these are what the output took, where that is known.
+-- the session of a connection: its result, the first bytes of its replies, which were passed to the output, and what the output took,
+-- if it is known
 pub record HasSession (connection : Connection) (old : World) (told : Result Done RunFault) (new : World) : Type 0 where
   pub given : List ℕ
   pub comes : ComesTo told old new connection.input connection.left (Some []) (Some given)
   pub taken : HasTaken connection.taken given
 
--- connections have their sessions one after the other, and a line is written of each, the first of them with this number
+-- connections have their sessions one after the other, and a line is printed for each; the first has this number
 abbrev pub ServesEach : ℕ → List Connection → World → List ℕ → World → Type 0
 ServesEach number [] old text new = (text ≡ []) × (new ≡ old)
 ServesEach number (next ∷ others) old text new =
     (told : Result Done RunFault) × (mid : World) × (behind : List ℕ) × HasSession next old told mid
     × ServesEach (number + 1) others mid behind new × (text ≡ connection_line number told ++ behind)
 
--- so many connections come, are served and closed, and this text is written of them
+-- this number of connections arrive, are served and are closed, and this text is printed
 pub record Served (count : ℕ) (coming_old coming_new : Option (List (List ℕ))) (closed_old closed_new : Option (List Ended)) (old : World) (text : List ℕ) (new : World) : Type 0 where
   pub connections : List Connection
   pub counted : length connections ≡ count
@@ -88,10 +88,12 @@ pub record Served (count : ℕ) (coming_old coming_new : Option (List (List ℕ)
   pub close : Close closed_old connections closed_new
   pub each : ServesEach 1 connections old text new
 
+-- whether accepting a connection failed
 abbrev pub accept_failed : ServeFault → Bool
 accept_failed Accept = true
 accept_failed Write = false
 
+-- whether printing failed
 abbrev pub serve_write_failed : ServeFault → Bool
 serve_write_failed Accept = false
 serve_write_failed Write = true

@@ -1,5 +1,5 @@
-//! Sessions over streams: the one of standard input, and those of connections, one after the other or many at once. And why the
-//! program ends, by why they did.
+//! Sessions over streams: the one of standard input, and those of connections, one after the other or many at once; and why the
+//! program ends after them.
 #![tactic(auto)]
 
 mod ending;

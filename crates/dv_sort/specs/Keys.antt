@@ -1,9 +1,10 @@
--- Rows in memory, which keep the keys that they are sorted by.
+-- Rows in memory, which store the keys by which they are sorted.
 use Rattle.std.specs.Prelude.{◌≡◌, Bool, List, ◌∷◌, length, map, All}
 use Rattle.std.specs.Ordering.{nat_cmp, is_lt, ordering_then}
 use Rattle.std.specs.declared.cmp.Ordering.{Ordering}
 use Rattle.dv_value.specs.Tree.{Field}
 use Rattle.dv_sort.specs.declared.row.Row.{Row}
 
+-- the documents of rows
 abbrev pub documents : List Row → List (List Field)
 documents rows = map (λ row. row.document) rows

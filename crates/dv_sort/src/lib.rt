@@ -1,4 +1,4 @@
-//! BSON documents in the order of a sort.
+//! Sorting of BSON documents.
 #![tactic(auto)]
 
 pub mod laws;

@@ -1,5 +1,5 @@
-//! Where a session's bytes come from and where its replies go: readers and writers whose failures are counted, and the
-//! system's own as such.
+//! Where a session's bytes come from and where its replies go: readers and writers that count their failures, and the system's
+//! own readers and writers.
 #![tactic(auto)]
 
 mod stream;

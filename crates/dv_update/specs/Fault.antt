@@ -1,4 +1,4 @@
--- The faults of updates as text and as numbers.
+-- Why an update is refused: the faults as texts and as numbers.
 use Rattle.std.specs.Prelude.{ℕ, List, codes}
 use Rattle.dv_update.specs.declared.fault.UpdateFault.{UpdateFault}
 use Rattle.dv_update.specs.declared.fault.UpdateFault.TheVariants.{UnknownOperator, Conflict, NotViable, NotNumber, Overflow, NotArray, IdChanged, TooLarge, TooDeep, NoMemory, BadName, BadOperand}

@@ -1,5 +1,5 @@
--- The order in which an update's paths are taken, and when two of them conflict (MongoDB manual, "Update Operators Behavior"). That
--- whole numbers stand in front of names is this server's own.
+-- The order in which the paths of an update are applied, and when two of them conflict (MongoDB manual, "Update Operators Behavior").
+-- That whole numbers come before other names is this server's own.
 use Rattle.std.specs.Prelude.{ℕ, Bool, true, false, ◌&&◌, List, [], ◌∷◌, is_none}
 use Rattle.std.specs.declared.cmp.Ordering.{Ordering}
 use Rattle.std.specs.Ordering.{nat_cmp, bool_cmp, ordering_then}
@@ -8,23 +8,23 @@ use Rattle.std.specs.Option.{unwrap_or}
 use Rattle.std.specs.Str.{bytes_eq}
 use Rattle.dv_candidates.specs.Path.{index_of}
 
--- a component that is no whole number
+-- whether the component is not a whole number
 abbrev pub is_name : List ℕ → Bool
 is_name component = is_none (index_of component)
 
--- the number that a component is; 0 for a name
+-- the value of a whole number; 0 for any other component
 abbrev pub number_of : List ℕ → ℕ
 number_of component = unwrap_or (index_of component) 0
 
--- whole numbers before names, and by their number; names by their bytes
+-- whole numbers come first, by value; then other names, by bytes
 abbrev pub component_order : List ℕ → List ℕ → Ordering
 component_order a b = ordering_then (bool_cmp (is_name a) (is_name b)) (ordering_then (nat_cmp (number_of a) (number_of b)) (slice_cmp nat_cmp a b))
 
--- component by component: the first two that differ decide, and else the shorter path stands first
+-- the first components that differ decide; a path comes before the longer ones that it begins
 abbrev pub path_order : List (List ℕ) → List (List ℕ) → Ordering
 path_order = slice_cmp component_order
 
--- a path begins another one, or equals it
+-- the first path begins the second, or equals it
 abbrev pub begins : List (List ℕ) → List (List ℕ) → Bool
 begins [] q = true
 begins (a ∷ p) [] = false

@@ -1,33 +1,34 @@
--- Updates as parsed (MongoDB manual, "Update Operators"). Which operators there are is this server's own.
+-- Parsed updates (MongoDB manual, "Update Operators"). The choice of operators is this server's own.
 use Rattle.std.specs.Prelude.{ℕ, List}
 use Rattle.dv_value.specs.Tree.{Tree, Field}
 use Rattle.dv_match.specs.Filter.{Test}
 use Rattle.dv_update.specs.declared.number.Number.{Number}
 
--- which elements $pull takes out: those that compare equal to a value, or those that pass a test
+-- which elements `$pull` removes: those equal to a value, or those that pass a test
 pub data Pulled : Type 0 where
   equal_to : Tree → Pulled
   passing : Test → Pulled
 
--- what is done where a path leads
+-- what an edit does at its path
 pub data Operation : Type 0 where
-  -- $set
+  -- `$set`
   assign : Tree → Operation
-  -- $unset
+  -- `$unset`
   take_away : Operation
-  -- $inc
+  -- `$inc`
   increase : Number → Operation
-  -- $push, with the values that are appended
+  -- `$push`, with the values to append
   append : List Tree → Operation
-  -- $pull
+  -- `$pull`
   pull : Pulled → Operation
 
--- a path, by its components, and what is done there
+-- a path, as its components, and what is done there
 abbrev pub Edit : Type 0
 Edit = List (List ℕ) × Operation
 
+-- a parsed update: a replacement, or edits
 pub data Update : Type 0 where
-  -- the fields that stand in place of all but `_id`
+  -- the new fields, which replace all but `_id`
   replacement : List Field → Update
-  -- the edits, in the order of their paths
+  -- the edits in the order of their paths
   operators : List Edit → Update

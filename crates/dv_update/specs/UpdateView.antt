@@ -1,4 +1,4 @@
--- What an update in memory stands for.
+-- What an update in memory represents.
 use Rattle.dv_update.specs.declared.form.Update.{Update}
 use Rattle.dv_update.specs.declared.form.Update.TheVariants.{Replacement, Operators}
 use Rattle.dv_update.specs.Update as form

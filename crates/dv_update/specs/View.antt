@@ -1,4 +1,4 @@
--- What the parts of an update in memory stand for.
+-- What the parts of an update in memory represent.
 use Rattle.std.specs.Prelude.{ℕ, List}
 use Rattle.dv_value.specs.View.{tree}
 use Rattle.dv_match.specs.View.{test}
@@ -23,6 +23,6 @@ operation (Pull p) = form.pull (pulled p)
 abbrev pub edit : Edit → form.Edit
 edit e = (e.path, operation e.operation)
 
--- an operation under its path
+-- a path and an operation, as an edit
 abbrev pub entry : List (List ℕ) × Operation → form.Edit
 entry e = (e.0, operation e.1)

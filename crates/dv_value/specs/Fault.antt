@@ -1,14 +1,15 @@
--- The faults as text and as numbers.
+-- Why bytes are not a document within the limits: the faults as texts and as numbers.
 use Rattle.std.specs.Prelude.{ℕ, List, ◌++◌, codes, decimal, [], ◌∷◌, ◌/◌, ◌%◌}
 use Rattle.std.specs.Fmt.{digit_glyph}
 use Rattle.std.specs.Prelude.{false}
 use Rattle.dv_value.specs.declared.fault.BsonFault.{BsonFault}
 use Rattle.dv_value.specs.declared.fault.BsonFault.TheVariants.{Truncated, BadLength, RefusedType, BadUtf8, BadBool, BadArrayName, RepeatedName, TooDeep, TooLarge, NoMemory, BadName}
 
--- a byte in two lower case hexadecimal digits
+-- a byte as two lower case hexadecimal digits
 abbrev pub hex_byte : ℕ → List ℕ
 hex_byte b = digit_glyph false (b / 16) ∷ digit_glyph false (b % 16) ∷ []
 
+-- the name of a fault
 abbrev pub fault_name : BsonFault → List ℕ
 fault_name Truncated = codes "Truncated"
 fault_name BadLength = codes "BadLength"
@@ -22,10 +23,12 @@ fault_name TooLarge = codes "TooLarge"
 fault_name NoMemory = codes "NoMemory"
 fault_name BadName = codes "BadName"
 
+-- the text of a fault: its name; for a refused type also the type byte and its offset
 abbrev pub fault_text : BsonFault → List ℕ
 fault_text (RefusedType byte at) = codes "RefusedType 0x" ++ hex_byte byte ++ codes " at " ++ decimal at
 fault_text fault = fault_name fault
 
+-- the number of a fault
 abbrev pub fault_number : BsonFault → ℕ
 fault_number Truncated = 1
 fault_number BadLength = 2

@@ -1,10 +1,10 @@
--- What is kept beside fields of how they are spelled.
+-- What a document in memory stores about its encoding.
 use Rattle.std.specs.Prelude.{◌≡◌, ℕ, ◌≤◌, List, length}
 use Rattle.dv_value.specs.Tree.{Field, document, fields_of}
 use Rattle.dv_value.specs.Spelling.{spelling, levels, IsValue}
 
--- the spelling of the fields is so long, no document is longer than it may be, and the fields are valid at each of their levels, of
--- which there are no more than a stored document may have
+-- the size is the length of the document's encoding, at most 2,147,483,647 bytes, and the document is valid, with at most 100 nesting
+-- levels
 pub record IsMeasure (size : ℕ) (d : List Field) : Type 0 where
   pub whole : size ≡ length (spelling d)
   pub within : size ≤ 2147483647

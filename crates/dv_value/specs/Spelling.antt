@@ -1,4 +1,4 @@
--- The bytes of a document, as the grammar of BSON 1.1 has them (bsonspec.org, "Specification Version 1.1").
+-- The encoding of a document as bytes, by the grammar of BSON 1.1 (bsonspec.org, "Specification Version 1.1").
 use Rattle.std.specs.Prelude.{◌≡◌, ℕ, suc, ◌+◌, ◌^◌, ◌<◌, ◌≤◌, max, false, List, [], ◌∷◌, ◌++◌, length, get_or, FitsSigned, decimal, ⊤}
 use Rattle.std.specs.Int.{w32, w64, to_le_bytes, cast_unsigned, from_bool}
 use Rattle.std.specs.Str.{IsUtf8}
@@ -7,7 +7,7 @@ use Rattle.dv_value.specs.declared.kind.Kind.TheVariants as kinds
 use Rattle.dv_value.specs.Tree.{Tree, int32, int64, string, document, array, boolean, binary, object_id, date, null, timestamp, min_key, max_key, Fields, no_fields, field, Elements, no_elements, element, Field, fields_of, list_of_fields}
 use Rattle.dv_value.specs.Names.{has_name, has_zero}
 
--- the byte that stands in front of a name, for the type of the value behind it
+-- the type byte, which precedes a field's name in the encoding and gives the type of its value
 abbrev pub type_byte : Kind → ℕ
 type_byte kinds.Text = 0x02
 type_byte kinds.Doc = 0x03
@@ -23,6 +23,7 @@ type_byte kinds.Int64 = 0x12
 type_byte kinds.MinKey = 0xFF
 type_byte kinds.MaxKey = 0x7F
 
+-- the type of a value
 abbrev pub kind_of : Tree → Kind
 kind_of (string s) = kinds.Text
 kind_of (document fs) = kinds.Doc
@@ -38,24 +39,24 @@ kind_of (int64 n) = kinds.Int64
 kind_of min_key = kinds.MinKey
 kind_of max_key = kinds.MaxKey
 
--- document: an int32, the total length; the elements; a zero byte
+-- encoded elements as a document: the total length as an int32; the elements; a zero byte
 unfoldable pub framed : List ℕ → List ℕ
 framed elements = to_le_bytes w32 (length elements + 5) ++ (elements ++ 0 ∷ [])
 
--- string: an int32, how many bytes with the closing zero; the bytes; a zero byte
+-- an encoded string: the number of its bytes, with the closing zero, as an int32; the bytes; a zero byte
 unfoldable pub counted : List ℕ → List ℕ
 counted text = to_le_bytes w32 (length text + 1) ++ (text ++ 0 ∷ [])
 
--- binary: an int32, how many bytes without the subtype; the subtype; the bytes
+-- encoded binary data: the number of bytes, without the subtype, as an int32; the subtype; the bytes
 unfoldable pub tagged : ℕ → List ℕ → List ℕ
 tagged subtype bytes = to_le_bytes w32 (length bytes) ++ subtype ∷ bytes
 
--- element: the type byte; the name and a zero byte; the value
+-- an encoded element: the type byte; the name and a zero byte; the encoding of the value
 unfoldable pub element_spelling : Kind → List ℕ → List ℕ → List ℕ
 element_spelling kind name value = type_byte kind ∷ (name ++ 0 ∷ value)
 
+-- the encodings of a value, without its type and name, of the elements of a document, and of the elements of an array from index i
 unfoldable mutual
-  -- the bytes of a value, behind its name
   pub payload : Tree → List ℕ
   payload (string s) = counted s
   payload (document fs) = framed (fields_spelling fs)
@@ -75,16 +76,17 @@ unfoldable mutual
   fields_spelling no_fields = []
   fields_spelling (field name value fs) = element_spelling (kind_of value) name (payload value) ++ fields_spelling fs
 
-  -- an array is a document whose names are the decimal numbers from 0 on, in order: here from i on
+  -- an array is encoded as a document whose names are the decimal numbers from 0, in order
   pub elements_spelling : ℕ → Elements → List ℕ
   elements_spelling i no_elements = []
   elements_spelling i (element v vs) = element_spelling (kind_of v) (decimal i) (payload v) ++ elements_spelling (suc i) vs
 
--- each is a byte
+-- each number is a byte, that is, below 256
 abbrev pub IsBytes : List ℕ → Type 0
 IsBytes bytes = (i : ℕ) → get_or bytes i 0 < 256
 
--- numbers have their width, bytes are bytes, an ObjectId has twelve, texts and names are UTF-8, and the names in a document are distinct and hold no zero byte
+-- a valid value: integers are within their width, bytes are below 256, an ObjectId has twelve bytes, strings and names are UTF-8, and
+-- the names of each document are distinct and contain no zero byte
 abbrev mutual
   pub IsValue : Tree → Type 0
   IsValue (string s) = IsUtf8 s
@@ -109,7 +111,7 @@ abbrev mutual
   AreElements no_elements = ⊤
   AreElements (element v vs) = IsValue v × AreElements vs
 
--- how many documents and arrays stand in one another: a document is a level, and one more than the deepest value in it
+-- the number of nesting levels: 0 for a simple value; a document or array counts 1 more than its deepest member
 abbrev mutual
   pub levels : Tree → ℕ
   levels (string s) = 0
@@ -134,16 +136,17 @@ abbrev mutual
   elements_levels no_elements = 0
   elements_levels (element v vs) = max (levels v) (elements_levels vs)
 
+-- the encoding of a document
 abbrev pub spelling : List Field → List ℕ
 spelling d = payload (document (fields_of d))
 
--- the bytes spell the document: a length is an int32, so no spelling is longer than 2,147,483,647 bytes
+-- the bytes are the encoding of the document, which is valid; its length is an int32, so it has at most 2,147,483,647 bytes
 pub record Spells (d : List Field) (bytes : List ℕ) : Type 0 where
   pub valid : AreFields (fields_of d)
   pub whole : bytes ≡ spelling d
   pub within : length bytes ≤ 2147483647
 
--- the document is within the limits for what is read and stored: 16,777,216 bytes and 100 levels
+-- the document is within the limits for stored documents: 16,777,216 bytes and 100 nesting levels
 pub record Fits (d : List Field) : Type 0 where
   pub size : length (spelling d) ≤ 16777216
   pub depth : levels (document (fields_of d)) ≤ 100

@@ -1,10 +1,11 @@
--- What a value in memory stands for.
+-- What a value in memory represents.
 use Rattle.std.specs.Prelude.{List, [], Option, None, Some}
 use Rattle.std.specs.declared.rc.Rc.{Rc}
 use Rattle.dv_value.specs.declared.value.Value.{Value}
 use Rattle.dv_value.specs.declared.value.Value.TheVariants.{Int32, Int64, Text, Doc, Array, Binary, ObjectId, Bool, Date, Null, Timestamp, MinKey, MaxKey}
 use Rattle.dv_value.specs.Tree.{Tree, int32, int64, string, document, array, boolean, binary, object_id, date, null, timestamp, min_key, max_key, fields_of, elements_of}
 
+-- the BSON value that a value in memory represents
 abbrev pub tree : Value → Tree
 tree (Int32 n) = int32 n
 tree (Int64 n) = int64 n
@@ -20,7 +21,7 @@ tree (Timestamp n) = timestamp n
 tree MinKey = min_key
 tree MaxKey = max_key
 
--- what a pointer that may be none holds
+-- the list that an optional shared pointer refers to; empty if there is no pointer
 abbrev pub held : {X Y : Type 0} → Option (Rc (List X) Y) → List X
 held None = []
 held (Some shared) = shared.value

@@ -1,4 +1,4 @@
-//! Values, documents and lists of values, as BSON has them, and how long their spelling is.
+//! Values and documents of BSON in memory, lists of values, and the size of their encoding.
 #![tactic(auto)]
 
 mod bytes;

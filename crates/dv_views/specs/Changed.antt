@@ -1,4 +1,4 @@
--- What changes of a collection make of its documents, and which changes it makes.
+-- What changes of a collection do to its documents.
 use Rattle.std.specs.Prelude.{◌≡◌, ℕ, List, [], ◌∷◌, map, IsSome, if◌then◌else◌, ⊤}
 use Rattle.std.specs.List.{AllByRecursion}
 use Rattle.std.specs.Str.{bytes_eq}
@@ -12,6 +12,6 @@ use Rattle.dv_views.specs.Placed.{positioned}
 abbrev pub documents_changed : List Change → List Row → List Row
 documents_changed changes documents = forget (with_changes (positioned documents) changes)
 
--- the lists, with these changes of one of them
+-- the documents of each namespace after changes of one of them
 abbrev pub with_changed : List ℕ → List Change → Lists → Lists
 with_changed namespace changes lists name = if bytes_eq namespace name then documents_changed changes (lists name) else lists name

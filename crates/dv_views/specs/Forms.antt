@@ -1,4 +1,5 @@
--- Views by what they are made of, in creation order; what stands under names where they stand over lists; and which views there can be.
+-- Views by their pipelines, in creation order: the rows of each namespace, what views read, their heights, and which new views are
+-- refused.
 use Rattle.std.specs.Prelude.{◌≡◌, ℕ, suc, true, false, ⊤, ◌||◌, ◌&&◌, Bool, List, [], ◌∷◌, ◌++◌, length, map, max, nat_lt, Option, Some, None, fold, if◌then◌else◌}
 use Rattle.std.specs.List.{AllByRecursion, list_any}
 use Rattle.std.specs.Str.{bytes_eq}
@@ -10,82 +11,87 @@ use Rattle.dv_views.specs.Placed.{ListPlaces, forms, lookups_of}
 use Rattle.dv_views.specs.declared.fault.ViewFault.{ViewFault}
 use Rattle.dv_views.specs.declared.fault.ViewFault.TheVariants.{Exists, ReadByView, LimitReached}
 
--- a view: the name that it stands under, the namespace that its rows come from, and the stages that they go through
+-- a view's name, the namespace of its source, and the stages of its pipeline
 pub record ViewForm : Type 0 where
   pub name : List ℕ
   pub source : List ℕ
   pub stages : List Stage
 
--- ---- what stands under names
+-- ---- rows of namespaces
 
--- under a view's name stand the rows of its pipeline from scratch, and elsewhere what stood there
+-- the rows of each namespace with one more view: under its name the rows of its pipeline, computed from the lists
 abbrev pub with_rows : ViewForm → Lists → Lists
 with_rows v lists name = if bytes_eq name v.name then evaluated v.stages v.source lists else lists name
 
--- with all views over the lists: one after the other, so that each reads the older ones
+-- the rows of each namespace with all views, each of which reads the collections and older views
 abbrev pub rows_over : List ViewForm → Lists → Lists
 rows_over views lists = fold (λ below v. with_rows v below) lists views
 
--- the same at positions
+-- the rows, at positions, of a pipeline over a source
 abbrev pub outs_of : List Stage → List ℕ → ListPlaces → Positioned
 outs_of stages source places = through_forms (forms stages (map places (lookups_of stages source))) (places source)
 
+-- the rows at positions of each namespace, with one more view
 abbrev pub with_places : ViewForm → ListPlaces → ListPlaces
 with_places v places name = if bytes_eq name v.name then outs_of v.stages v.source places else places name
 
+-- the rows at positions of each namespace, with all views
 abbrev pub places_over : List ViewForm → ListPlaces → ListPlaces
 places_over views places = fold (λ below v. with_places v below) places views
 
 -- ---- what views read
 
--- the names that stages over a source read: it, and each that a stage looks into
+-- the namespaces that a pipeline reads: its source, and each that it reads by `$lookup`
 abbrev pub names_read : List Stage → List ℕ → List (List ℕ)
 names_read stages source = source ∷ lookups_of stages source
 
+-- whether the name is among these
 abbrev pub is_name_among : List ℕ → List (List ℕ) → Bool
 is_name_among name names = list_any (λ other. bytes_eq name other) names
 
--- the names that are needed for some: these, and those that a view which is needed reads; the youngest view is asked first
+-- the names that are needed to compute these: themselves, and what each needed view reads, from the youngest view to the oldest
 abbrev pub needed : List ViewForm → List (List ℕ) → List (List ℕ)
 needed [] names = names
 needed (v ∷ views) names = if is_name_among v.name (needed views names) then needed views names ++ names_read v.stages v.source else needed views names
 
--- with each view, names have what it reads
+-- for each view among the names, they include what it reads
 abbrev pub IsClosed : List (List ℕ) → List ViewForm → Type 0
 IsClosed names views = AllByRecursion (λ v. is_name_among v.name names ≡ true → AllByRecursion (λ name. is_name_among name names ≡ true) (names_read v.stages v.source)) views
 
--- each view reads older ones alone: neither itself nor a younger one
+-- each view reads only older views, not itself or a younger one
 abbrev pub AreFounded : List ViewForm → Type 0
 AreFounded [] = ⊤
 AreFounded (v ∷ views) = AllByRecursion (λ other. is_read v.stages v.source other.name ≡ false) (v ∷ views) × AreFounded views
 
--- some view reads the name
+-- whether one of the views reads the namespace
 abbrev pub is_read_by : List ViewForm → List ℕ → Bool
 is_read_by views name = list_any (λ v. is_read v.stages v.source name) views
 
--- ---- how high views stand
+-- ---- heights of views
 
--- one more than the highest of what stages over a source read
+-- the height of a pipeline over a source: one more than the greatest height of what it reads
 abbrev pub height_over : (List ℕ → ℕ) → List Stage → List ℕ → ℕ
 height_over heights stages source = suc (fold (λ high name. max high (heights name)) 0 (names_read stages source))
 
+-- the height of each name, with one more view
 abbrev pub with_height : ViewForm → (List ℕ → ℕ) → List ℕ → ℕ
 with_height v below name = if bytes_eq name v.name then height_over below v.stages v.source else below name
 
--- the height of what stands under each name: 0 where that is no view
+-- the height of each name; 0 for a collection
 abbrev pub heights : List ViewForm → List ℕ → ℕ
 heights views = fold (λ below v. with_height v below) (λ name. 0) views
 
 -- ---- a new view
 
--- how many views there are at most, and how high one stands at most
+-- the greatest number of views
 abbrev pub most_views : ℕ
 most_views = 1000
 
+-- the greatest height of a view
 abbrev pub most_height : ℕ
 most_height = 8
 
--- why there can be no such view: the first fault that holds
+-- why a new view is refused, if it is: the first fault that applies
 abbrev pub fault_of_new : List ViewForm → List ℕ → List ℕ → List Stage → Option ViewFault
 fault_of_new views name source stages =
     if list_any (λ v. bytes_eq name v.name) views then Some Exists

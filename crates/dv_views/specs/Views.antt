@@ -1,4 +1,4 @@
--- Views: pipelines over namespaces, each under a name of its own and with the rows that it keeps, in creation order.
+-- Views with the rows that they store, in creation order.
 use Rattle.std.specs.Prelude.{◌≡◌, ◌≤◌, ◌⊎◌, ℕ, Bool, true, false, not, List, [], ◌∷◌, map, filter, fold, length, Option, Some, None, Err, if◌then◌else◌, IfErr, ⊤}
 use Rattle.std.specs.List.{AllByRecursion, AllZip, IsDistinct, find, list_any}
 use Rattle.std.specs.Option.{option_and_then}
@@ -10,29 +10,29 @@ use Rattle.dv_pipe.specs.Sources.{Row}
 use Rattle.dv_views.specs.Placed.{ListPlaces, lookups_of}
 use Rattle.dv_views.specs.declared.state.ViewState.TheVariants as states
 
--- what a view has taken in: the rows of its source, and those of each list that its stages look into, in their order
+-- the inputs that a view has taken in: the rows of its source, and the rows of each list that its stages read, in their order
 pub record Taken : Type 0 where
   pub left : Positioned
   pub named : List Positioned
 
--- what a live view keeps: this, its rows, and the count of the work that its changes took
+-- what a live view stores: its inputs, its rows, and the ticks of its changes
 pub record Kept : Type 0 where
   pub taken : Taken
   pub rows : List Row
   pub ticks : ℕ
 
--- a view is live: its rows are kept by changes; or it is stale and has nothing, where memory was wanting for it or for one that it
--- reads
+-- whether a view is live and stores its rows, or is stale and stores nothing, since memory ran out for it or for a view that it reads
 pub data ViewMark : Type 0 where
   live : Kept → ViewMark
   stale : ViewMark
 
+-- a view's name, its source, the stages of its pipeline, and whether it is live, with what it stores
 pub record View : Type 0 where
   pub name : List ℕ
   pub source : List ℕ
   pub stages : List Stage
   pub mark : ViewMark
 
--- what stages over a source read at places
+-- the inputs of a pipeline over a source, from the rows at positions of each namespace
 abbrev pub taken_from : List Stage → List ℕ → ListPlaces → Taken
 taken_from stages source places = record { left = places source; named = map places (lookups_of stages source) }

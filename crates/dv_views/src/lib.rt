@@ -1,5 +1,5 @@
-//! Views: pipelines under names of their own, over collections and over older views, each with rows that are kept by changes of what
-//! it reads.
+//! Views: named pipelines over collections and older views, each with stored rows, which the changes of what it reads keep up to
+//! date.
 #![tactic(auto)]
 
 mod by_id;

@@ -1,4 +1,4 @@
--- The other faults of sessions as numbers.
+-- The numbers of other faults of sessions.
 use Rattle.std.specs.Prelude.{ℕ}
 use Rattle.dv_wire.specs.declared.fault.HubFault.{HubFault}
 use Rattle.dv_wire.specs.declared.fault.HubFault.TheVariants as opening

@@ -1,4 +1,4 @@
--- Sessions, and what happens to them: one is opened, a piece of its bytes comes, it ends.
+-- Sessions and their events: a session is opened, a piece of its bytes arrives, the session ends.
 use Rattle.std.specs.Prelude.{◌≡◌, ℕ, suc, ◌≤◌, ◌<◌, ◌^◌, ◌⊎◌, List, [], ◌∷◌, ◌++◌, length, take, Option, Some, None, Result, Ok, Err, MatchOption, ◌==◌, if◌then◌else◌}
 use Rattle.std.specs.List.{concat}
 use Rattle.dv_value.specs.Tree.{Field}
@@ -20,70 +20,74 @@ use Rattle.dv_core.specs.Step.{Answer, MemoryStep, counted_step, end_session}
 
 -- ---- the messages of a session, one after the other
 
--- a reply on the wire; none is sent to a message with moreToCome
+-- the bytes of a reply; none if the message has the flag moreToCome
 abbrev pub reply_bytes : Message → List Field → List ℕ
 reply_bytes message reply = if message.more_to_come then [] else message_spelling 0 message.request_id 0 (section_spelling (body (spelling reply)))
 
--- The bytes that are sent to a message for its outcome. There are none, and the session can't go on, where there is no reply, and
--- where moreToCome would leave one out that tells of want of memory: so nothing is left undone and not told.
+-- The bytes that are sent for the outcome of a message. There are none, and the session is closed, if there is no reply, or if
+-- moreToCome would suppress a reply that reports that memory ran out. So no command fails unreported.
 abbrev pub bytes_to : Message → Outcome → Option (List ℕ)
 bytes_to message (Reply reply) = Some (reply_bytes message reply)
 bytes_to message (Wanting reply) = if message.more_to_come then None else Some (reply_bytes message reply)
 bytes_to message NoReply = None
 
--- what messages come to: the bytes that are answered to each that is carried out, none where it has no reply; the state that is left,
--- and how the session then stands
+-- what messages lead to: the bytes sent for each message that is carried out, which may be empty; the state after them; and the
+-- conversation after them
 pub record Run : Type 0 where
   pub answers : List (List ℕ)
   pub state : State
   pub conversation : Conversation
 
--- all the bytes that are answered
+-- all bytes that are sent
 abbrev pub bytes_of : Run → List ℕ
 bytes_of run = concat run.answers
 
--- this is answered before the others
+-- a run with these bytes of replies before its own
 abbrev pub in_front : List (List ℕ) → Run → Run
 in_front answers others = record { answers = answers ++ others.answers; state = others.state; conversation = others.conversation }
 
--- no message is carried out, and the session stands so
+-- the run in which no message is carried out, with the conversation that is given
 abbrev pub silence : State → Conversation → Run
 silence state conversation = record { answers = []; state = state; conversation = conversation }
 
--- one message is carried out, nothing is answered, and the session stands so
+-- the run in which one message is carried out and nothing is sent for it, with the conversation that is given
 abbrev pub unanswered : State → Conversation → Run
 unanswered state conversation = record { answers = [] ∷ []; state = state; conversation = conversation }
 
--- behind a step its bytes are sent, where there are such, and then comes what the others come to; or, where these bytes find
--- no memory, the session is closed in their place
+-- After a step its bytes are sent, if there are any, and then the other messages follow. The session is closed instead if there are
+-- none, or if memory runs out for them.
 abbrev pub Follows : Option (List ℕ) → State → (Run → Type 0) → Run → Type 0
 Follows None state Others run = run ≡ unanswered state (closed NoMemory)
 Follows (Some bytes) state Others run = ((others : Run) × Others others × (run ≡ in_front (bytes ∷ []) others)) ⊎ (run ≡ unanswered state (closed NoMemory))
 
--- what a command of a session may come to, and the state after it
+-- which outcomes a command of a session may have, and with which state after it
 abbrev pub SessionSteps : Type 1
 SessionSteps = State → ℕ → Command → Outcome → State → Type 0
 
--- the messages of a session are carried out in order by such steps, and it stands as given behind them; or it was closed among them
+-- the messages of a session are carried out in order by these steps, and then the conversation is as given; or the session is closed at
+-- one of them
 abbrev pub CarriesOutBy : SessionSteps → ℕ → State → List Message → Conversation → Run → Type 0
 CarriesOutBy Step session old [] conversation run = run ≡ silence old conversation
 CarriesOutBy Step session old (message ∷ messages) conversation run =
     (outcome : Outcome) × (mid : State) × Step old session (command_of message) outcome mid
     × Follows (bytes_to message outcome) mid (CarriesOutBy Step session mid messages conversation) run
 
+-- the messages of a session are carried out in order by steps of the reference machine, which may run out of memory; the session may be
+-- closed at one of them
 abbrev pub CarriesOutMessages : ℕ → State → List Message → Conversation → Run → Type 0
 CarriesOutMessages = CarriesOutBy MemoryStep
 
--- the same where memory is never wanting: each message is carried out by its step, and each view counts its work
+-- the run of a message with this answer, followed by the run of the other messages
 abbrev pub plain_behind : Message → Answer → (State → Run) → Run
 plain_behind message answer others = in_front (reply_bytes message answer.reply ∷ []) (others answer.state)
 
+-- what the messages of a session lead to if memory never runs out: each is carried out by its step, and live views count its work
 unfoldable pub plain_messages : ℕ → State → List Message → Conversation → Run
 plain_messages session state [] conversation = silence state conversation
 plain_messages session state (message ∷ messages) conversation =
     plain_behind message (counted_step state session (command_of message)) (λ behind. plain_messages session behind messages conversation)
 
--- what a session's stream comes to then
+-- what the stream of a session leads to if memory never runs out
 abbrev pub plain_run : ℕ → State → Split → Run
 plain_run session state stream = plain_messages session state stream.messages stream.conversation
 
@@ -91,55 +95,60 @@ plain_run session state stream = plain_messages session state stream.messages st
 pub data TakesBy (Step : SessionSteps) (session : ℕ) (old : State) (stream : Split) (run : Run) : Type 0 where
   -- all its messages are carried out
   takes_all : CarriesOutBy Step session old stream.messages stream.conversation run → TakesBy Step session old stream run
-  -- its bytes find no memory, behind any of the messages, and the session is closed
+  -- memory runs out for its bytes after some of the messages, and the session is closed
   takes_some : (count : ℕ) → CarriesOutBy Step session old (take count stream.messages) (closed NoMemory) run → TakesBy Step session old stream run
 
+-- what a session may do with a stream by steps of the reference machine
 abbrev pub TakesSplit : ℕ → State → Split → Run → Type 0
 TakesSplit = TakesBy MemoryStep
 
--- a session takes the next piece of its bytes; a closed one takes none
+-- a session receives a piece of its bytes; a closed one ignores it
 abbrev pub HearsBy : SessionSteps → ℕ → State → Conversation → List ℕ → Run → Type 0
 HearsBy Step session old (reading kept) piece run = TakesBy Step session old (split (kept ++ piece)) run
 HearsBy Step session old (closed fault) piece run = run ≡ silence old (closed fault)
 
+-- a session receives a piece of its bytes, and its messages are carried out by steps of the reference machine
 abbrev pub Hears : ℕ → State → Conversation → List ℕ → Run → Type 0
 Hears = HearsBy MemoryStep
 
--- ---- the sessions
+-- ---- all sessions
 
--- the state, the number of the next session, and the sessions that were opened and haven't ended
+-- the state, the number of the next session, and the sessions that were opened and have not ended, with their conversations
 pub record World : Type 0 where
   pub state : State
   pub next : ℕ
   pub sessions : List (ℕ × Conversation)
 
--- before a session is opened
+-- the world before the first session is opened
 abbrev pub world_of : State → World
 world_of state = record { state = state; next = 0; sessions = [] }
 
+-- the conversation of the session with this number, if there is one
 abbrev pub conversation_of : ℕ → List (ℕ × Conversation) → Option Conversation
 conversation_of session [] = None
 conversation_of session (s ∷ ss) = if s.0 == session then Some s.1 else conversation_of session ss
 
+-- the sessions with this conversation for one of them
 abbrev pub with_conversation : ℕ → Conversation → List (ℕ × Conversation) → List (ℕ × Conversation)
 with_conversation session now [] = []
 with_conversation session now (s ∷ ss) = if s.0 == session then (session, now) ∷ ss else s ∷ with_conversation session now ss
 
+-- the sessions without the one with this number
 abbrev pub sessions_but : ℕ → List (ℕ × Conversation) → List (ℕ × Conversation)
 sessions_but session [] = []
 sessions_but session (s ∷ ss) = if s.0 == session then ss else s ∷ sessions_but session ss
 
--- how many sessions may be opened and not ended
+-- the greatest number of sessions at one time
 abbrev pub session_limit : ℕ
 session_limit = 1000
 
--- how many numbers there are for sessions, from 0 on
+-- the greatest number of sessions in all; they are numbered from 0
 abbrev pub number_limit : ℕ
 number_limit = 2 ^ 32
 
 -- ---- events
 
--- a session is opened under the next number; refused where there are too many, or no number is left, or memory is wanting
+-- a session is opened with the next number; refused if 1,000 are open, if the numbers are used up, or if memory runs out
 abbrev pub Opens : World → Result SessionId HubFault → World → Type 0
 Opens old (Ok session) new =
     (length old.sessions < session_limit) × (old.next < number_limit) × (session.number ≡ old.next)
@@ -147,39 +156,46 @@ Opens old (Ok session) new =
 Opens old (Err hub_faults.TooManySessions) new = ((session_limit ≤ length old.sessions) ⊎ (number_limit ≤ old.next)) × (new ≡ old)
 Opens old (Err hub_faults.NoMemory) new = new ≡ old
 
--- what is told of how a session stands
+-- what is reported of a conversation: open, or closed by a fault
 abbrev pub fed_of : Conversation → Fed
 fed_of (reading bytes) = fed.Open
 fed_of (closed fault) = fed.Closed fault
 
--- the world behind a run of one session
+-- the world after a run of one session
 abbrev pub world_behind : ℕ → Run → World → World
 world_behind session run old = record { state = run.state; next = old.next; sessions = with_conversation session run.conversation old.sessions }
 
--- a piece of a session's bytes comes: what is answered to its messages, and whether the session goes on; to one that isn't there nothing is
+-- A piece of a session's bytes arrives: the replies to its messages, and whether the session is still open. A session that doesn't
+-- exist gets no reply.
 abbrev pub ComesBy : SessionSteps → World → ℕ → List ℕ → List (List ℕ) → Fed → World → Type 0
 ComesBy Step old session piece answers told new =
     MatchOption (conversation_of session old.sessions)
     ((answers ≡ []) × (told ≡ fed.Unknown) × (new ≡ old))
     (λ before. (run : Run) × HearsBy Step session old.state before piece run × (answers ≡ run.answers) × (told ≡ fed_of run.conversation) × (new ≡ world_behind session run old))
 
+-- a piece of a session's bytes arrives, and its messages are carried out by steps of the reference machine
 abbrev pub Comes : World → ℕ → List ℕ → List (List ℕ) → Fed → World → Type 0
 Comes = ComesBy MemoryStep
 
--- the same by the bytes of all that is answered
+-- a piece of a session's bytes arrives: the bytes of all replies, and whether the session is still open
 abbrev pub FeedsBy : SessionSteps → World → ℕ → List ℕ → List ℕ → Fed → World → Type 0
 FeedsBy Step old session piece bytes told new = (answers : List (List ℕ)) × (bytes ≡ concat answers) × ComesBy Step old session piece answers told new
 
+-- a piece of a session's bytes arrives, and its messages are carried out by steps of the reference machine: the bytes of all replies,
+-- and whether the session is still open
 abbrev pub Feeds : World → ℕ → List ℕ → List ℕ → Fed → World → Type 0
 Feeds = FeedsBy MemoryStep
 
--- pieces of a session's bytes come, one right after the other: what is answered to all, and whether the session then goes on
+-- pieces of a session's bytes arrive, one directly after the other: the bytes of all replies, and whether the session is still open at
+-- the end
 abbrev pub FeedsAllBy : SessionSteps → World → ℕ → List ℕ → List (List ℕ) → List ℕ → Fed → World → Type 0
 FeedsAllBy Step old session piece [] bytes answer new = FeedsBy Step old session piece bytes answer new
 FeedsAllBy Step old session piece (next ∷ pieces) bytes answer new =
     (first : List ℕ) × (others : List ℕ) × (mid : World) × (told : Fed) × (bytes ≡ first ++ others)
     × FeedsBy Step old session piece first told mid × FeedsAllBy Step mid session next pieces others answer new
 
+-- pieces of a session's bytes arrive, one directly after the other, and their messages are carried out by steps of the reference
+-- machine
 abbrev pub FeedsAll : World → ℕ → List ℕ → List (List ℕ) → List ℕ → Fed → World → Type 0
 FeedsAll = FeedsAllBy MemoryStep
 
@@ -188,22 +204,22 @@ abbrev pub stream_of : List ℕ → List (List ℕ) → List ℕ
 stream_of piece [] = piece
 stream_of piece (next ∷ pieces) = piece ++ stream_of next pieces
 
--- what was there stays in front, and these bytes follow it
+-- these bytes are appended to what was there
 abbrev pub Appends : List ℕ → List ℕ → (List ℕ → Type 0) → Type 0
 Appends old new AreAnswered = (bytes : List ℕ) × (new ≡ old ++ bytes) × AreAnswered bytes
 
--- the bytes of its unfinished message, where there are such
+-- the number of bytes of the unfinished message of a session; 0 if it is closed or doesn't exist
 abbrev pub unfinished_in : Option Conversation → ℕ
 unfinished_in None = 0
 unfinished_in (Some (closed fault)) = 0
 unfinished_in (Some (reading kept)) = length kept
 
--- how many bytes of a session's next piece come up to the end of its next message; all where the session takes none
+-- how many bytes of a piece belong to the session's next message, as far as its length is known; all if the session ignores them
 abbrev pub whole_front : Option Conversation → List ℕ → ℕ
 whole_front None piece = length piece
 whole_front (Some (closed fault)) piece = length piece
 whole_front (Some (reading kept)) piece = front_length kept piece
 
--- a session ends: its unfinished bytes are dropped, and its cursors end with it
+-- a session ends: the bytes of its unfinished message are dropped, and its cursors are closed
 abbrev pub end : ℕ → World → World
 end session old = record { state = end_session session old.state; next = old.next; sessions = sessions_but session old.sessions }

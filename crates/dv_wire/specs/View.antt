@@ -1,4 +1,4 @@
--- What sessions in memory stand for.
+-- What sessions in memory represent.
 use Rattle.std.specs.Prelude.{◌≡◌, ◌<◌, ◌≤◌, ◌+◌, ◌^◌, ◌⊎◌, ℕ, List, [], ◌∷◌, ◌++◌, length, drop, map, Option, Some, None, Result, Ok, Err}
 use Rattle.std.specs.List.{concat}
 use Rattle.std.specs.Io.KnownBytes.{Consumes, IsAtEnd}
@@ -10,9 +10,11 @@ use Rattle.dv_message.specs.Message.{Conversation, reading, closed}
 use Rattle.dv_wire.specs.declared.reply.Body.TheVariants as bodies
 use Rattle.dv_wire.specs.declared.hub.Fed.TheVariants as fed
 
+-- the conversation of a session
 abbrev pub conversation_seen : ConversationSeen → Conversation
 conversation_seen (Reading kept) = reading kept.items
 conversation_seen (Closed fault) = closed fault
 
+-- the number and the conversation of a session
 abbrev pub session_seen : Session → ℕ × Conversation
 session_seen s = (s.number, conversation_seen s.conversation)

@@ -4,22 +4,23 @@ use Rattle.hex.specs.Hex.{decode_of}
 use Rattle.dv_words.specs.declared.said.Line.{Line}
 use Rattle.dv_words.specs.declared.said.Line.TheVariants.{Skip, Bytes, End}
 
--- two hexadecimal digits, and how many spaces stand in front of them
+-- a pair of hexadecimal digits, with the number of spaces in front of it
 pub record HexPair : Type 0 where
   pub spaces : ℕ
   pub high : ℕ
   pub low : ℕ
 
--- pairs as they are written, and their digits alone
+-- the text of pairs, with their spaces
 abbrev pub written : List HexPair → List ℕ
 written [] = []
 written (p ∷ ps) = replicate p.spaces 32 ++ (p.high ∷ p.low ∷ written ps)
 
+-- the digits of pairs, without the spaces
 abbrev pub hex_digits : List HexPair → List ℕ
 hex_digits [] = []
 hex_digits (p ∷ ps) = p.high ∷ p.low ∷ hex_digits ps
 
--- one or more pairs, the first of them without spaces in front, whose digits decode to the bytes
+-- the text is one or more pairs, without spaces in front of the first, whose digits decode to the bytes
 pub record IsHexOf (bytes text : List ℕ) : Type 0 where
   pub high : ℕ
   pub low : ℕ
@@ -27,16 +28,17 @@ pub record IsHexOf (bytes text : List ℕ) : Type 0 where
   pub whole : text ≡ high ∷ low ∷ written others
   pub value : decode_of (high ∷ low ∷ hex_digits others) ≡ Ok bytes
 
+-- an empty line, or a comment
 abbrev pub IsSkipped : List ℕ → Type 0
 IsSkipped text = (text ≡ []) ⊎ ((comment : List ℕ) × (text ≡ 35 ∷ comment))
 
--- the forms of a line: empty or a comment; a number, a space and pairs; a number and ` end`
+-- the forms of a line: empty or a comment; a number, a space and pairs; a number and ` end`; the number is below 1,000
 abbrev pub HasForm : Line → List ℕ → Type 0
 HasForm Skip text = IsSkipped text
 HasForm (Bytes number bytes) text = (number < 1000) × ((pairs : List ℕ) × (text ≡ decimal number ++ 32 ∷ pairs) × IsHexOf bytes pairs)
 HasForm (End number) text = (number < 1000) × (text ≡ decimal number ++ codes " end")
 
--- the text is a line that says this
+-- the text is this line, and has at most 131,200 bytes
 pub record IsLine (line : Line) (text : List ℕ) : Type 0 where
   pub form : HasForm line text
   pub limit : length text ≤ 131200

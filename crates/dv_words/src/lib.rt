@@ -1,4 +1,4 @@
-//! The program's words, the lines of its scripts, and why it ends.
+//! The program's arguments, the lines of its scripts, and why it ends.
 #![tactic(auto)]
 
 pub mod fault;
