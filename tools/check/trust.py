@@ -87,7 +87,8 @@ class Trust:
 
 
 def count(items):
-    return sum(len(item.lines) for item in items)
+    """How many lines some items have, without comments and empty lines."""
+    return sum(1 for item in items for line in item.lines if line.strip() and not line.lstrip().startswith("--"))
 
 
 class Plan:
@@ -416,7 +417,7 @@ def show(trust):
         for key, number in row.items():
             total[key] += number
     print("%-16s %6d %6d %6d %6d" % ("all", total["files", 0], total["lines", 0], total["files", 1], total["lines", 1]))
-    print("to believe: %d lines of definitions, with their comments and without imports; %d for the program alone" % (trust.lines, trust.of_program()))
+    print("to believe: %d lines of definitions, without comments and imports; %d for the program alone" % (trust.lines, trust.of_program()))
     for module, kind in plan.kinds.items():
         if kind == "split":
             outer, inner = trust.parts(everything.files[module])

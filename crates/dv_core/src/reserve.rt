@@ -2,8 +2,7 @@
 
 ghost use Rattle.std.specs.Prelude.{◌≡◌};
 
-use dv_command::{Command, Refusal};
-use dv_command::first_name;
+use dv_command::{Command, Refusal, first_name};
 use std::alloc::Global;
 
 /// How many bytes are kept.
