@@ -66,7 +66,7 @@ fn pairs_of(
     for document in documents.iter() {
         add_keys(alloc, &mut pairs, path, unique, document)?;
     }
-    Ok(pairs)
+    Ok(pairs.packed()?)
 }
 
 /// Adds the pairs of the keys of a document that has none yet. Refused with `Duplicate` where the pairs are those of a unique

@@ -1,8 +1,8 @@
 pub mod Lists
 pub mod Ends
 pub mod Entries
-pub mod Firsts
 pub mod Several
+pub mod Few
 pub mod Noted
 pub mod Between
 pub mod Chosen
@@ -12,5 +12,6 @@ pub mod Sound
 pub mod Only
 pub mod Bars
 pub mod Copied
+pub mod Packed
 pub mod Left
 pub mod Gone

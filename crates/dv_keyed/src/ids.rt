@@ -1,12 +1,12 @@
 //! The documents that stand under one key.
 
-ghost use Rattle.std.specs.Prelude.{◌≡◌, ◌||◌, ◌&&◌, ◌↔◌, not, [], ◌∷◌, ◌++◌, map, IsTrue, IfOk, OnErr, OnOk};
+ghost use Rattle.std.specs.Prelude.{◌≡◌, ◌||◌, ◌&&◌, ◌↔◌, not, [], ◌∷◌, ◌++◌, filter, map, IsTrue, IfOk, OnErr, OnOk};
 ghost use Rattle.std.specs.List.{list_any};
 ghost use Rattle.std.specs.Option.{option_map};
 ghost use Rattle.std.specs.BTreeSet.{contains};
 ghost use Rattle.std.specs.Ordering.{is_eq};
 ghost use Rattle.dv_order.specs.Key.{KeyTree, key_order};
-ghost use Rattle.dv_keyed.specs.Inner.Ids.{has_first, has_in};
+ghost use Rattle.dv_keyed.specs.Inner.Ids.{has_in};
 ghost use Rattle.dv_keyed.specs.Inner.Ids as defined;
 ghost use Rattle.dv_keyed.specs.Inner.Keys.{has_key};
 
@@ -15,13 +15,25 @@ use dv_value::NoMemory;
 use std::alloc::Global;
 use std::collections::BTreeSet;
 use std::marker::Model;
+use std::mem::replace;
 
-/// A set of keys of `_id`s. Under most keys stands one document, for which a tree would make room for fifteen: so one stands
-/// beside the tree.
+/// How many keys may be in a list, in which each is looked at.
+const FEW: usize = 16;
+
+/// A set of keys of `_id`s.
 #[derive(Debug, Drop)]
 pub(crate) struct Ids {
-    first: Option<Key>,
-    others: BTreeSet<Key>,
+    alloc: Global,
+    kept: Kept,
+}
+
+/// Where the keys are. Under most keys stands one document, which needs no memory of its own; where there are few, a node of a set
+/// would have room for more.
+#[derive(Debug, Drop)]
+enum Kept {
+    One(Key),
+    Few(Vec<Key>),
+    Many(BTreeSet<Key>),
 }
 
 impl Model for Ids {
@@ -35,7 +47,7 @@ impl Model for Ids {
 
     ghost coded = { coded_list coded_key };
 
-    ghost view = { λ i. ids_kept i.first i.others.keys };
+    ghost view = { λ i. ids_kept i.kept };
 }
 
 impl Ids {
@@ -44,8 +56,8 @@ impl Ids {
         ensures { result ≡ [] }
     {
         Ids {
-            first: None,
-            others: BTreeSet::new(alloc),
+            alloc,
+            kept: Kept::Few(Vec::new(alloc)),
         }
     }
 
@@ -54,8 +66,8 @@ impl Ids {
         ensures { result ≡ id ∷ [] }
     {
         Ids {
-            first: Some(id),
-            others: BTreeSet::new(alloc),
+            alloc,
+            kept: Kept::One(id),
         }
     }
 
@@ -63,31 +75,42 @@ impl Ids {
     pub(crate) fn contains(&self, id: &Key) -> bool
         ensures { result ≡ has_key id.now self.now }
     {
-        is_first(&self.first, id) || self.others.contains(id)
+        match &self.kept {
+            Kept::One(first) => id == first,
+            Kept::Few(ids) => is_among(ids, id),
+            Kept::Many(ids) => ids.contains(id),
+        }
     }
 
     /// Whether another one is there that isn't gone.
     pub(crate) fn has_another(&self, id: &Key, gone: Option<&Ids>) -> bool
         ensures { result ≡ list_any (defined.is_another id.now (option_map (λ ids. ids.now) gone.entry)) self.now }
     {
-        let first = match &self.first {
-            Some(first) => is_another(first, id, gone),
-            None => false,
-        };
-        first || has_another_among(&self.others, id, gone)
+        match &self.kept {
+            Kept::One(first) => is_another(first, id, gone),
+            Kept::Few(ids) => ids.iter().any(|other| is_another(other, id, gone)),
+            Kept::Many(ids) => ids.iter().any(|other| is_another(other, id, gone)),
+        }
     }
 
     /// Whether there is none.
     pub(crate) fn is_empty(&self) -> bool
         ensures { IsTrue result ↔ (self.now ≡ []) }
     {
-        self.first.is_none() && self.others.is_empty()
+        match &self.kept {
+            Kept::One(_) => false,
+            Kept::Few(ids) => ids.is_empty(),
+            Kept::Many(ids) => ids.is_empty(),
+        }
     }
 
     /// How many there are.
     pub(crate) fn len(&self) -> usize {
-        let first = usize::from(self.first.is_some());
-        self.others.len().saturating_add(first)
+        match &self.kept {
+            Kept::One(_) => 1,
+            Kept::Few(ids) => ids.len(),
+            Kept::Many(ids) => ids.len(),
+        }
     }
 
     /// Adds one. Where memory is wanting, nothing changes.
@@ -95,47 +118,80 @@ impl Ids {
         ensures ok { OnOk result ((i : KeyTree) → has_key i self.new ≡ (has_key i self.old || is_eq (key_order i id.now))) }
         ensures err { OnErr result ((i : KeyTree) → has_key i self.new ≡ has_key i self.old) }
     {
-        if self.first.is_none() {
-            self.first = Some(id.try_clone()?);
-            return Ok(());
+        match &mut self.kept {
+            Kept::One(first) => {
+                if id == first {
+                    return Ok(());
+                }
+                let few = Kept::Few(both(self.alloc, first, id)?);
+                drop(replace(&mut self.kept, few));
+                Ok(())
+            }
+            Kept::Few(ids) => {
+                if is_among(ids, id) {
+                    return Ok(());
+                }
+                if ids.len() < FEW {
+                    return push_copy(ids, id);
+                }
+                let many = Kept::Many(set_with(self.alloc, ids, id)?);
+                drop(replace(&mut self.kept, many));
+                Ok(())
+            }
+            Kept::Many(ids) => insert_into(ids, id),
         }
-        insert_into(&mut self.others, id)
     }
 
     /// Takes out one, where it is there. Takes no memory.
     pub(crate) fn take_out(&mut self, id: &Key)
         ensures { (i : KeyTree) → has_key i self.new ≡ (has_key i self.old && not (is_eq (key_order i id.now))) }
     {
-        drop_first(&mut self.first, id);
-        let _ = self.others.remove(id);
+        match &mut self.kept {
+            Kept::One(first) => {
+                if id == first {
+                    let none = Kept::Few(Vec::new(self.alloc));
+                    drop(replace(&mut self.kept, none));
+                }
+            }
+            Kept::Few(ids) => drop_equal(ids, id),
+            Kept::Many(ids) => {
+                let _ = ids.remove(id);
+            }
+        }
     }
 
     /// A copy of its own. Fails where memory is wanting.
     pub(crate) fn try_clone(&self, alloc: Global) -> Result<Self, NoMemory>
         ensures { IfOk result (λ copy. copy ≡ self.now) }
     {
-        Ok(Ids {
-            first: copy_of_first(&self.first)?,
-            others: copy_of_set(alloc, &self.others)?,
-        })
+        let kept = match &self.kept {
+            Kept::One(first) => Kept::One(first.try_clone()?),
+            Kept::Few(ids) => Kept::Few(copy_of_list(alloc, ids)?),
+            Kept::Many(ids) => Kept::Many(copy_of_set(alloc, ids)?),
+        };
+        Ok(Ids { alloc, kept })
     }
 
     /// Adds all of them to a list. Where memory is wanting, some of them are added.
     pub(crate) fn add_to<'i>(&'i self, found: &mut Vec<&'i Key>) -> Result<(), NoMemory>
         ensures { OnOk result (map (λ i. i.now) found.new.items ≡ map (λ i. i.now) found.old.items ++ self.now) }
     {
-        if let Some(first) = &self.first {
-            found.push(first)?;
+        match &self.kept {
+            Kept::One(first) => {
+                found.push(first)?;
+                Ok(())
+            }
+            Kept::Few(ids) => add_each_to(found, ids),
+            Kept::Many(ids) => add_all_to(found, ids),
         }
-        add_all_to(found, &self.others)
     }
 }
 
-/// Whether another one is among these that isn't gone.
-fn has_another_among(ids: &BTreeSet<Key>, id: &Key, gone: Option<&Ids>) -> bool
-    ensures { result ≡ list_any (defined.is_another id.now (option_map (λ ids. ids.now) gone.entry)) ids.now.keys }
+/// Whether an equal one is in the list.
+fn is_among(ids: &[Key], id: &Key) -> bool
+    ensures { result ≡ has_key id.now ids.now }
 {
-    ids.iter().any(|other| is_another(other, id, gone))
+    ids.iter().any(|other| id == other)
 }
 
 /// Whether one is another than this one, and isn't gone.
@@ -155,25 +211,6 @@ fn is_in(ids: Option<&Ids>, id: &Key) -> bool
     }
 }
 
-fn is_first(first: &Option<Key>, id: &Key) -> bool
-    ensures { result ≡ has_first id.now first.now }
-{
-    match first {
-        Some(first) => id == first,
-        None => false,
-    }
-}
-
-/// A copy of the first one, where it is there. Fails where memory is wanting.
-fn copy_of_first(first: &Option<Key>) -> Result<Option<Key>, NoMemory>
-    ensures { IfOk result (λ copy. copy ≡ first.now) }
-{
-    match first {
-        Some(first) => Ok(Some(first.try_clone()?)),
-        None => Ok(None),
-    }
-}
-
 /// A copy of the set. Fails where memory is wanting.
 fn copy_of_set(alloc: Global, ids: &BTreeSet<Key>) -> Result<BTreeSet<Key>, NoMemory>
     ensures { IfOk result (λ copy. copy.keys ≡ ids.now.keys) }
@@ -185,13 +222,63 @@ fn copy_of_set(alloc: Global, ids: &BTreeSet<Key>) -> Result<BTreeSet<Key>, NoMe
     Ok(copy)
 }
 
-/// Takes the first one away where it is equal to this one.
-fn drop_first(first: &mut Option<Key>, id: &Key)
-    ensures { (i : KeyTree) → has_first i first.new ≡ (has_first i first.old && not (is_eq (key_order i id.now))) }
+/// The two keys. Fails where memory is wanting.
+fn both(alloc: Global, first: &Key, second: &Key) -> Result<Vec<Key>, NoMemory>
+    ensures { IfOk result (λ keys. keys.items ≡ first.now ∷ second.now ∷ []) }
 {
-    if is_first(first, id) {
-        drop(first.take());
+    let mut keys = Vec::with_capacity(alloc, 2)?;
+    keys.push(first.try_clone()?)?;
+    keys.push(second.try_clone()?)?;
+    Ok(keys)
+}
+
+/// The set of the keys and of one more. Fails where memory is wanting.
+fn set_with(alloc: Global, ids: &[Key], id: &Key) -> Result<BTreeSet<Key>, NoMemory>
+    ensures { IfOk result (λ set. (i : KeyTree) → contains key_order set i ≡ (has_key i ids.now || is_eq (key_order i id.now))) }
+{
+    let mut set = BTreeSet::new(alloc);
+    'ids: for other in ids {
+        insert_into(&mut set, other)?;
     }
+    insert_into(&mut set, id)?;
+    Ok(set)
+}
+
+/// Puts a copy of the key behind the others. Where memory is wanting, nothing changes.
+fn push_copy(ids: &mut Vec<Key>, id: &Key) -> Result<(), NoMemory>
+    ensures ok { OnOk result ((i : KeyTree) → has_key i ids.new.items ≡ (has_key i ids.old.items || is_eq (key_order i id.now))) }
+    ensures err { OnErr result (ids.new.items ≡ ids.old.items) }
+{
+    ids.push(id.try_clone()?)?;
+    Ok(())
+}
+
+/// Takes out the keys that are equal to this one.
+fn drop_equal(ids: &mut Vec<Key>, id: &Key)
+    ensures { ids.new.items ≡ filter (λ other. not (is_eq (key_order id.now other))) ids.old.items }
+{
+    ids.retain(|other| id != other);
+}
+
+/// A copy of the list. Fails where memory is wanting.
+fn copy_of_list(alloc: Global, ids: &[Key]) -> Result<Vec<Key>, NoMemory>
+    ensures { IfOk result (λ copy. copy.items ≡ ids.now) }
+{
+    let mut copy = Vec::with_capacity(alloc, ids.len())?;
+    'ids: for id in ids {
+        copy.push(id.try_clone()?)?;
+    }
+    Ok(copy)
+}
+
+/// Adds each of the ids to a list. Where memory is wanting, some of them are added.
+fn add_each_to<'i>(found: &mut Vec<&'i Key>, ids: &'i [Key]) -> Result<(), NoMemory>
+    ensures { OnOk result (map (λ i. i.now) found.new.items ≡ map (λ i. i.now) found.old.items ++ ids.now) }
+{
+    'ids: for id in ids {
+        found.push(id)?;
+    }
+    Ok(())
 }
 
 /// Adds all of the ids to a list. Where memory is wanting, some of them are added.

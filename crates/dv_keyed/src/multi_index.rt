@@ -127,6 +127,22 @@ impl MultiIndex {
         self.pairs.clash(keys, id)
     }
 
+    /// The same pairs, in as few nodes of their tree as hold them. Fails with `NoMemory` when memory runs out.
+    pub fn packed(self) -> Result<Self, NoMemory>
+        ensures { IfOk result (λ packed. (k i : KeyTree) → has_pair k i packed ≡ has_pair k i self) }
+    {
+        let MultiIndex {
+            alloc,
+            pairs,
+            several,
+        } = self;
+        Ok(MultiIndex {
+            alloc,
+            pairs: pairs.packed()?,
+            several,
+        })
+    }
+
     /// A copy of its own. Fails with `NoMemory` when memory runs out.
     pub fn try_clone(&self) -> Result<Self, NoMemory>
         ensures { IfOk result (λ copy. copy ≡ self.now) }

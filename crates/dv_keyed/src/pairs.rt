@@ -1,6 +1,7 @@
 //! Sets of pairs of a key and an `_id`, by which the documents are found that have a key.
 
 ghost use Rattle.std.specs.Prelude.{◌≡◌, ◌||◌, ◌&&◌, true, false, not, [], map, filter, OnErr, OnOk, IfOk};
+ghost use Rattle.std.specs.BTreeMap.{IsFromIterResult};
 ghost use Rattle.std.specs.Iterator.{IsFinite};
 ghost use Rattle.std.specs.List.{list_any};
 ghost use Rattle.std.specs.List.Sorted.{IsStrictlySortedBy};
@@ -118,6 +119,17 @@ impl Pairs {
             Some(ids) => ids.has_another(id, gone.entries.get(key)),
             None => false,
         }
+    }
+
+    /// The same pairs, in as few nodes as hold them. Fails where memory is wanting.
+    pub(crate) fn packed(self) -> Result<Self, NoMemory>
+        ensures { IfOk result (λ packed. (k i : KeyTree) → has_pair k i packed ≡ has_pair k i self) }
+    {
+        let Pairs { alloc, entries } = self;
+        Ok(Pairs {
+            alloc,
+            entries: built_anew(alloc, entries)?,
+        })
     }
 
     /// A copy of its own. Fails where memory is wanting.
@@ -307,6 +319,13 @@ fn first_behind<'i, I: Iterator<Item = (&'i Key, &'i Ids)>>(
         count = count.saturating_add(ids.len());
     }
     None
+}
+
+/// The same entries, in nodes that are filled one after the other. Fails where memory is wanting.
+fn built_anew(alloc: Global, entries: BTreeMap<Key, Ids>) -> Result<BTreeMap<Key, Ids>, NoMemory>
+    ensures { IfOk result (IsFromIterResult key_order entries.entries) }
+{
+    entries.into_iter().collect(alloc)
 }
 
 /// A copy of the entries. Fails where memory is wanting.

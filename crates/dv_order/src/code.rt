@@ -2,13 +2,7 @@
 
 ghost use Rattle.std.specs.Prelude.{ℕ, suc, ◌+◌, ◌*◌, ◌≡◌, ◌<◌, ◌≤◌, ◌^◌, ◌++◌, true};
 ghost use Rattle.std.specs.Int.{to_be_bytes, w32, w64};
-ghost use Rattle.dv_value.specs.View.{tree};
-ghost use Rattle.dv_order.specs.Order.{canon, class};
-ghost use Rattle.dv_order.specs.Key.{value as key_of_tree};
-ghost use Rattle.dv_order.specs.Codes.{after, integer_at, key_of_code, lead, offset, value_high, value_low};
-
-use crate::comparison::class_of;
-use dv_value::Value;
+ghost use Rattle.dv_order.specs.Codes.{after, integer_at, lead, offset};
 
 /// What a key is compared by first.
 #[derive(Clone, Copy, Debug, Drop)]
@@ -95,71 +89,4 @@ pub(crate) fn object_id_of(high: u64, low: u32) -> [u8; 12]
     let [a, b, c, d, e, f, g, h] = high.to_be_bytes();
     let [i, j, k, l] = low.to_be_bytes();
     [a, b, c, d, e, f, g, h, i, j, k, l]
-}
-
-/// The code of the value's key. Takes no memory.
-pub(crate) fn code_of(value: &Value) -> KeyCode
-    ensures class { result.class ≡ class (tree value.now) }
-    ensures high { result.high ≡ value_high (tree value.now) }
-    ensures low { result.low ≡ value_low (tree value.now) }
-    ensures exact { result.is_exact ≡ true → key_of_code result.class result.high result.low ≡ key_of_tree (canon (tree value.now)) }
-{
-    let class = class_of(value);
-    match value {
-        Value::Int32(number) => KeyCode {
-            class,
-            high: offset_of(i64::from(*number)),
-            low: 0,
-            is_exact: true,
-        },
-        Value::Int64(number) | Value::Date(number) => KeyCode {
-            class,
-            high: offset_of(*number),
-            low: 0,
-            is_exact: true,
-        },
-        Value::Text(text) => {
-            let (high, low) = numbers_of_bytes(text.as_str().as_bytes());
-            KeyCode {
-                class,
-                high,
-                low,
-                is_exact: false,
-            }
-        }
-        Value::ObjectId(id) => {
-            let (high, low) = numbers_of_bytes(id);
-            KeyCode {
-                class,
-                high,
-                low,
-                // Always so; that it is looked at stands in place of a proof, and costs nothing where keys are compared.
-                is_exact: object_id_of(high, low) == *id,
-            }
-        }
-        Value::Bool(truth) => KeyCode {
-            class,
-            high: u64::from(*truth),
-            low: 0,
-            is_exact: true,
-        },
-        Value::Timestamp(number) => KeyCode {
-            class,
-            high: *number,
-            low: 0,
-            is_exact: true,
-        },
-        Value::MinKey | Value::Null | Value::MaxKey => KeyCode {
-            class,
-            high: 0,
-            low: 0,
-            is_exact: true,
-        },
-        Value::Doc(_) | Value::Array(_) | Value::Binary { .. } => KeyCode {
-            class,
-            high: 0,
-            low: 0,
-            is_exact: false,
-        },
-    }
 }

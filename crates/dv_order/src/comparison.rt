@@ -52,7 +52,12 @@ pub fn compare(a: &Value, b: &Value) -> Ordering
 }
 
 /// The order of two values of binary data: the lengths decide, then the subtypes, then the bytes.
-fn compare_binaries(subtype: u8, bytes: &[u8], other_subtype: u8, other_bytes: &[u8]) -> Ordering
+pub(crate) fn compare_binaries(
+    subtype: u8,
+    bytes: &[u8],
+    other_subtype: u8,
+    other_bytes: &[u8],
+) -> Ordering
     ensures { result ≡ order (binary subtype bytes.now) (binary other_subtype other_bytes.now) }
 {
     let lengths = bytes.len().cmp(&other_bytes.len());
@@ -118,7 +123,7 @@ fn compare_labels(name: &str, a: &Value, other_name: &str, b: &Value) -> Orderin
 #[cycle(compare)]
 // Apart, so that no registers are saved where numbers or strings are compared.
 #[inline(never)]
-fn compare_lists(a: &List, b: &List) -> Ordering
+pub(crate) fn compare_lists(a: &List, b: &List) -> Ordering
     ensures { result ≡ elements_order (elements_of a.now) (elements_of b.now) }
 {
     let xs = a.as_slice();

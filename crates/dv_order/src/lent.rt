@@ -1,14 +1,13 @@
 //! Keys of texts and documents, lent by what holds these.
 
 ghost use Rattle.std.specs.Prelude.{◌≡◌, IfOk};
-ghost use Rattle.dv_value.specs.View.{tree};
-ghost use Rattle.dv_order.specs.Order.{class, order};
+ghost use Rattle.dv_order.specs.Order.{class};
 ghost use Rattle.dv_order.specs.Key.{key_order};
 ghost use Rattle.dv_order.specs.LentKeys.{lent_key, lent_value};
 
-use crate::comparison::{class_of, compare_documents};
+use crate::comparison::compare_documents;
 use crate::key::Key;
-use dv_value::{Document, NoMemory, Str, Value};
+use dv_value::{Document, NoMemory};
 use std::alloc::Global;
 use std::cmp::Ordering;
 
@@ -38,12 +37,7 @@ impl<'a> LentKey<'a> {
     pub fn to_key(&self, alloc: Global) -> Result<Key, NoMemory>
         ensures { IfOk result (λ key. key ≡ lent_key self.now) }
     {
-        match self {
-            LentKey::Text(text) => Ok(Key::of_value(Value::Text(Str::of(String::from_str(
-                alloc, text,
-            )?)))),
-            LentKey::Document(document) => Ok(Key::of_value(Value::Doc(document.try_clone()?))),
-        }
+        Key::of_lent(alloc, self)
     }
 
     /// Where its value stands among the classes of values.
@@ -54,16 +48,5 @@ impl<'a> LentKey<'a> {
             LentKey::Text(_) => 4,
             LentKey::Document(_) => 5,
         }
-    }
-}
-
-/// The order of the value and that of the key.
-pub(crate) fn compare_to_lent(value: &Value, key: &LentKey) -> Ordering
-    ensures { result ≡ order (tree value.now) (lent_value key.now) }
-{
-    match (value, key) {
-        (Value::Text(a), LentKey::Text(b)) => a.as_str().cmp(b),
-        (Value::Doc(a), LentKey::Document(b)) => compare_documents(a, b),
-        _ => class_of(value).cmp(&key.class()),
     }
 }

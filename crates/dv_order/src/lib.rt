@@ -8,6 +8,9 @@ pub mod laws;
 mod lent;
 mod placed;
 mod same;
+mod shown;
+mod small;
+mod source;
 
 pub use code::KeyCode;
 pub use comparison::{compare, same_class};

@@ -63,7 +63,8 @@ pub returns-clause-pairs : goal.returns-clause-pairs
 returns-clause-pairs c = λ k id.
     let path = c.args.path.now in
     let was = has_pair k id c.loop-document.pairs in
-    sym (or-false was)
+    c.in_ok-packed.ensures k id
+    ∙ sym (or-false was)
     ∙ ap (λ ds. was || some-has k id path ds) (sym c.in-None.ensures.steps.0)
     ∙ c.loop-document.invariant.keys k id
     ∙ some-has-found k id path c.args.documents.now c.iter-document-items.ensures.ascending

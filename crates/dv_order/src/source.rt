@@ -1,0 +1,253 @@
+//! What a key holds in memory.
+
+ghost use Rattle.std.specs.Prelude.{◌≡◌, ◌≤◌, Some, IfOk, IfSome, length, take};
+ghost use Rattle.dv_value.specs.Tree.{string, array, binary, elements_of};
+ghost use Rattle.dv_value.specs.View.{tree};
+ghost use Rattle.dv_order.specs.Order.{canon};
+ghost use Rattle.dv_order.specs.Key.{first_value, key_at, value as key_of_tree};
+ghost use Rattle.dv_order.specs.Source.{source_value};
+ghost use Rattle.dv_order.specs.Inner.Sources.{IsLarge, IsSound, IsTextIn, shown_key};
+
+use crate::shown::Shown;
+use crate::small::Small;
+use dv_value::{Bytes, Document, List, NoMemory, Str, Value};
+use std::alloc::Global;
+use std::rc::Rc;
+
+/// What a key is made of.
+#[derive(Debug, Drop)]
+pub(crate) enum Source {
+    /// No value has it.
+    NoElement,
+    Small(Small),
+    /// A text, with zeros behind it.
+    Short { len: u8, bytes: [u8; 22] },
+    /// The same, of up to 24 bytes: as many as an ObjectId's hexadecimal digits.
+    Middle { len: u8, bytes: Rc<[u8; 24]> },
+    /// The same, of up to 40 bytes.
+    Long { len: u8, bytes: Rc<[u8; 40]> },
+    Document(Document),
+    /// Any other value.
+    Shared(Rc<Value>),
+    /// The document whose first field has the value.
+    First(Document),
+}
+
+impl Source {
+    /// That of the key of the value. Fails where memory is wanting.
+    pub(crate) fn of(value: &Value) -> Result<Self, NoMemory>
+        ensures value { IfOk result (λ source. key_at (source_value source) ≡ key_of_tree (canon (tree value.now))) }
+        ensures sound { IfOk result IsSound }
+    {
+        match Small::of(value) {
+            Some(small) => Ok(Source::Small(small)),
+            None => of_large(value),
+        }
+    }
+
+    /// That of the key of the text. Fails where memory is wanting.
+    pub(crate) fn of_text(alloc: Global, text: &str) -> Result<Self, NoMemory>
+        ensures value { IfOk result (λ source. key_at (source_value source) ≡ key_of_tree (string text.now)) }
+        ensures sound { IfOk result IsSound }
+    {
+        match of_padded(alloc, text)? {
+            Some(source) => Ok(source),
+            None => share(alloc, Value::Text(Str::of(String::from_str(alloc, text)?))),
+        }
+    }
+
+    /// That of the key of the document's first value, if it takes no memory.
+    pub(crate) fn of_first(document: &Document) -> Option<Self>
+        ensures value { IfSome result (λ source. key_at (source_value source) ≡ key_at (first_value document.now)) }
+        ensures sound { IfSome result IsSound }
+    {
+        let (_, value) = document.entry(0)?;
+        if let Some(small) = Small::of(value) {
+            return Some(Source::Small(small));
+        }
+        match value {
+            Value::Text(text) => of_short(text.as_str()),
+            _ => None,
+        }
+    }
+
+    /// A copy, which shares its memory. Fails where memory is wanting.
+    pub(crate) fn try_clone(&self) -> Result<Self, NoMemory>
+        requires { IsSound self.now }
+        ensures value { IfOk result (λ copy. key_at (source_value copy) ≡ key_at (source_value self.now)) }
+        ensures sound { IfOk result IsSound }
+    {
+        Ok(match self {
+            Source::NoElement => Source::NoElement,
+            Source::Small(small) => Source::Small(*small),
+            Source::Short { len, bytes } => Source::Short {
+                len: *len,
+                bytes: *bytes,
+            },
+            Source::Middle { len, bytes } => Source::Middle {
+                len: *len,
+                bytes: bytes.clone()?,
+            },
+            Source::Long { len, bytes } => Source::Long {
+                len: *len,
+                bytes: bytes.clone()?,
+            },
+            Source::Document(document) => Source::Document(document.try_clone()?),
+            Source::Shared(value) => Source::Shared(value.clone()?),
+            Source::First(document) => return of_first_value(document),
+        })
+    }
+
+    /// The key as it is looked at.
+    pub(crate) fn shown(&self) -> Shown<'_>
+        requires { IsSound self.now }
+        ensures { shown_key result ≡ key_at (source_value self.now) }
+    {
+        match self {
+            Source::NoElement => Shown::Nothing,
+            Source::Small(small) => Shown::Small(*small),
+            Source::Short { len, bytes } => Shown::Text(text_in(bytes.as_slice(), *len)),
+            Source::Middle { len, bytes } => Shown::Text(text_in(bytes.as_slice(), *len)),
+            Source::Long { len, bytes } => Shown::Text(text_in(bytes.as_slice(), *len)),
+            Source::Document(document) => Shown::Document(document),
+            Source::Shared(value) => Shown::of(value.as_ref()),
+            Source::First(document) => match document.entry(0) {
+                Some((_, value)) => Shown::of(value),
+                None => Shown::Nothing,
+            },
+        }
+    }
+}
+
+/// That of the key of a value that isn't small. Fails where memory is wanting.
+fn of_large(value: &Value) -> Result<Source, NoMemory>
+    requires { IsLarge (tree value.now) }
+    ensures value { IfOk result (λ source. key_at (source_value source) ≡ key_of_tree (canon (tree value.now))) }
+    ensures sound { IfOk result IsSound }
+{
+    match value {
+        Value::Text(text) => of_owned_text(text),
+        Value::Doc(document) => Ok(Source::Document(document.try_clone()?)),
+        Value::Array(list) => of_list(list),
+        Value::Binary { subtype, bytes } => of_binary(*subtype, bytes),
+        _ => unreachable!(),
+    }
+}
+
+/// That of the key of the document's first value. Fails where memory is wanting.
+fn of_first_value(document: &Document) -> Result<Source, NoMemory>
+    ensures value { IfOk result (λ source. key_at (source_value source) ≡ key_at (first_value document.now)) }
+    ensures sound { IfOk result IsSound }
+{
+    match document.entry(0) {
+        Some((_, value)) => Source::of(value),
+        None => Ok(Source::NoElement),
+    }
+}
+
+/// That of the key of the text, whose allocator a copy tells. Fails where memory is wanting.
+fn of_owned_text(text: &Str) -> Result<Source, NoMemory>
+    ensures value { IfOk result (λ source. key_at (source_value source) ≡ key_of_tree (string text.now)) }
+    ensures sound { IfOk result IsSound }
+{
+    if let Some(source) = of_short(text.as_str()) {
+        return Ok(source);
+    }
+    let copy = text.try_clone()?.into_inner();
+    let alloc = *copy.allocator();
+    match of_padded(alloc, copy.as_str())? {
+        Some(source) => Ok(source),
+        None => share(alloc, Value::Text(Str::of(copy))),
+    }
+}
+
+fn of_list(list: &List) -> Result<Source, NoMemory>
+    ensures value { IfOk result (λ source. source_value source ≡ Some (array (elements_of list.now))) }
+    ensures sound { IfOk result IsSound }
+{
+    let copy = list.try_clone()?.into_inner();
+    let alloc = *copy.allocator();
+    share(alloc, Value::Array(List::of(copy)))
+}
+
+fn of_binary(subtype: u8, bytes: &Bytes) -> Result<Source, NoMemory>
+    ensures value { IfOk result (λ source. source_value source ≡ Some (binary subtype bytes.now)) }
+    ensures sound { IfOk result IsSound }
+{
+    let copy = bytes.try_clone()?.into_inner();
+    let alloc = *copy.allocator();
+    share(
+        alloc,
+        Value::Binary {
+            subtype,
+            bytes: Bytes::of(copy),
+        },
+    )
+}
+
+/// The value behind a pointer, which copies share. Fails where memory is wanting.
+fn share(alloc: Global, value: Value) -> Result<Source, NoMemory>
+    ensures value { IfOk result (λ source. source_value source ≡ Some (tree value)) }
+    ensures sound { IfOk result IsSound }
+{
+    Ok(Source::Shared(Rc::new(alloc, value)?))
+}
+
+/// That of a text of up to 22 bytes.
+fn of_short(text: &str) -> Option<Source>
+    ensures value { IfSome result (λ source. source_value source ≡ Some (string text.now)) }
+    ensures sound { IfSome result IsSound }
+{
+    let text = text.as_bytes();
+    if text.len() > 22 {
+        return None;
+    }
+    let len = text.len() as u8;
+    let bytes = padded::<22>(text)?;
+    Some(Source::Short { len, bytes })
+}
+
+/// That of a text of up to 40 bytes. Fails where memory is wanting.
+fn of_padded(alloc: Global, text: &str) -> Result<Option<Source>, NoMemory>
+    ensures value { IfOk result (λ found. IfSome found (λ source. source_value source ≡ Some (string text.now))) }
+    ensures sound { IfOk result (λ found. IfSome found IsSound) }
+{
+    if let Some(source) = of_short(text) {
+        return Ok(Some(source));
+    }
+    let text = text.as_bytes();
+    if text.len() > 40 {
+        return Ok(None);
+    }
+    let len = text.len() as u8;
+    if let Some(bytes) = padded::<24>(text) {
+        let bytes = Rc::new(alloc, bytes)?;
+        return Ok(Some(Source::Middle { len, bytes }));
+    }
+    if let Some(bytes) = padded::<40>(text) {
+        let bytes = Rc::new(alloc, bytes)?;
+        return Ok(Some(Source::Long { len, bytes }));
+    }
+    Ok(None)
+}
+
+/// The text with zeros behind it, if so many bytes hold it.
+fn padded<const N: usize>(text: &[u8]) -> Option<[u8; N]>
+    ensures within { IfSome result (λ bytes. length text.now ≤ length bytes) }
+    ensures text { IfSome result (λ bytes. take (length text.now) bytes ≡ text.now) }
+{
+    if N < text.len() {
+        return None;
+    }
+    let mut bytes = [0; N];
+    bytes[..text.len()].copy_from_slice(text);
+    Some(bytes)
+}
+
+/// The text that the first bytes are.
+fn text_in(bytes: &[u8], len: u8) -> &str
+    requires { IsTextIn len bytes.now }
+    ensures { result.now ≡ take len bytes.now }
+{
+    unsafe { str::from_utf8_unchecked(&bytes[..usize::from(len)]) }
+}
