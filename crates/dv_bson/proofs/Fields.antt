@@ -1,10 +1,10 @@
 -- The fields that are read one behind another: how they are named, and that they are what a document or an array spells.
-use Rattle.std.proofs.Common.{◌≡◌, ℕ, suc, ◌+◌, ◌%◌, ◌^◌, ◌<◌, max, Bool, true, false, eqb, List, [], ◌∷◌, ◌++◌, length, map, decimal, Ok, refl, sym, ap, ap₂, subst, ◌∙◌, arith}
+use Rattle.std.proofs.Common.{◌≡◌, ℕ, suc, ◌+◌, ◌-◌, ◌%◌, ◌^◌, ◌<◌, ◌≤◌, max, Bool, true, false, eqb, List, [], ◌∷◌, ◌++◌, length, take, drop, slice_index_or, map, decimal, Ok, refl, sym, ap, ap₂, subst, ◌∙◌, arith}
 use Rattle.std.specs.Prelude.{⊤}
 use Rattle.std.specs.Str.{IsUtf8, is_utf8, bytes_eq}
 use Rattle.std.proofs.lemmas.Bool.{ne_eqb, or_from, or_parts, false_from_ne_true, both_ways}
-use Rattle.std.proofs.lemmas.Fmt.{decimal_by_steps, IsAscii-decimal}
-use Rattle.std.proofs.lemmas.List.{length_push}
+use Rattle.std.proofs.lemmas.Fmt.{decimal_by_steps, decimal_digit, IsAscii-decimal}
+use Rattle.std.proofs.lemmas.List.{length_push, take_all}
 use Rattle.std.proofs.lemmas.Slice.Eq.{bytes_eq-Decides}
 use Rattle.std.proofs.lemmas.Str.{IsUtf8-from_is_utf8, is_utf8-from_IsUtf8, IsUtf8-from_ascii}
 use Rattle.dv_value.specs.declared.fault.BsonFault.TheVariants.{BadLength, BadUtf8, BadArrayName, RepeatedName}
@@ -65,6 +65,23 @@ checked_again true seen name rest lt h =
 pub name_again : (in_array : Bool) (seen : List Field) (name rest : List ℕ) → length seen < 2 ^ 64 → IsNamed in_array seen name → name_at in_array seen (name ++ 0 ∷ rest) ≡ Ok (name, rest)
 unfolding name_at
 name_again in_array seen name rest lt h = ap (named_by in_array seen) (cut_again name rest (IsNamed-zero in_array seen name lt h)) ∙ checked_again in_array seen name rest lt h
+
+-- the name of an element whose place has one digit
+pub digit_again : (place digit : ℕ) (seen : List Field) (rest : List ℕ) → place < 10 → digit ≡ 48 + place → length seen ≡ place → name_at true seen (digit ∷ 0 ∷ rest) ≡ Ok (decimal place, rest)
+digit_again place digit seen rest few is here =
+    let one : decimal place ≡ digit ∷ [] = decimal_digit place few ∙ ap (λ (d : ℕ). d ∷ []) (sym is) in
+    subst (λ (name : List ℕ). name_at true seen (name ++ 0 ∷ rest) ≡ Ok (decimal place, rest)) one (name_again true seen (decimal place) rest (omega (arith, here)) (ap decimal (sym here)))
+
+pub digit_shown : (place : ℕ) (bytes : List ℕ) → place < 10 → 2 ≤ length bytes → slice_index_or bytes 0 0 ≡ 48 + place → slice_index_or bytes 1 0 ≡ 0 → (seen : List Field) → length seen ≡ place
+    → name_at true seen bytes ≡ Ok (decimal place, take (length bytes - 2) (drop 2 bytes))
+digit_shown place [] few long first second seen here = absurd (omega arith)
+digit_shown place (digit ∷ []) few long first second seen here = absurd (omega arith)
+digit_shown place (digit ∷ end ∷ rest) few long first second seen here =
+    let closes : end ≡ 0 = second in
+    let shown : digit ≡ 48 + place = first in
+    let count : length (digit ∷ end ∷ rest) - 2 ≡ length rest = omega arith in
+    let behind : take (length rest) rest ≡ rest = take_all (length rest) rest (omega arith) in
+    rw (count, closes, behind) (digit_again place digit seen rest few shown here)
 
 -- ---- fields behind those that were seen
 

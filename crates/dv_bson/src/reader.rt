@@ -1,6 +1,6 @@
 //! Documents from bytes.
 
-ghost use Rattle.std.specs.Prelude.{◌≡◌, ℕ, ◌+◌, ◌<◌, ◌≤◌, ◌++◌, ◌⊎◌, true, false, List as Entries, take, length, map, decimal, IfOk, IfErr, MatchResult};
+ghost use Rattle.std.specs.Prelude.{◌≡◌, ℕ, ◌+◌, ◌<◌, ◌≤◌, ◌++◌, ◌⊎◌, true, false, List as Entries, ◌∷◌, [], take, length, map, decimal, IfOk, IfErr, MatchResult, OnOk};
 ghost use Rattle.dv_value.specs.Tree.{Field};
 ghost use Rattle.dv_value.specs.View.{tree};
 ghost use Rattle.dv_value.specs.Spelling.{Spells, Fits};
@@ -12,7 +12,7 @@ use crate::reading::{
     behind_index, binary_of, boolean_of, date_of, field_name_of, frame_of, front_kind_of, int32_of,
     int64_of, kind_of, object_id_of, outermost_frame_of, text_of, timestamp_of,
 };
-use dv_value::{BsonFault, Document, FRAME, Fields, Kind, List, MAX_LEVELS, Value};
+use dv_value::{BsonFault, Document, FRAME, Fields, Kind, List, MAX_LEVELS, NoMemory, Value};
 use std::alloc::Global;
 
 /// A value of this type, which stands at `at` in the outermost document, with so many levels left inside
@@ -191,6 +191,32 @@ fn document_of(
     Ok(Document::of(alloc, fields, (elements.len() + FRAME) as u32)?)
 }
 
+/// Puts an element behind the others, which so many bytes begin, and so many follow.
+fn add_element(
+    values: &mut Vec<Value>,
+    value: Value,
+    left: usize,
+    behind: usize,
+) -> Result<(), NoMemory>
+    requires { behind < left }
+    ensures { OnOk result (values.new.items ≡ values.old.items ++ value ∷ []) }
+{
+    if values.is_empty() {
+        values.reserve_exact(room_behind(left, behind))?;
+    }
+    values.push(value)?;
+    Ok(())
+}
+
+/// For how many elements room is made with the first one, which so many bytes begin, and so many follow: for as many as there are
+/// if all are as long as that, so that elements are seldom moved, and never for many.
+fn room_behind(left: usize, behind: usize) -> usize
+    requires { behind < left }
+    ensures { result ≤ 12 }
+{
+    (left / (left - behind)).min(12)
+}
+
 /// The array whose elements these are, the first of them at `at` in the outermost document, with so many
 /// levels left, itself among them.
 #[cycle(reader)]
@@ -213,7 +239,7 @@ fn list_of(
     let mut rest = elements;
     'elements: while !rest.is_empty() {
         let (value, after) = element_of(alloc, levels - 1, like, at, &values, rest)?;
-        values.push(value)?;
+        add_element(&mut values, value, rest.len(), after.len())?;
         at += rest.len() - after.len();
         rest = after;
     }

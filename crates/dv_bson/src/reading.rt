@@ -204,11 +204,29 @@ pub(crate) fn new_name_of<'a>(
 pub(crate) fn behind_index(place: usize, bytes: &[u8]) -> Result<&[u8], ReadError>
     ensures { (seen : Entries Field) → length seen ≡ place → Gives (λ rest. (decimal place, rest.now)) result (name_at true seen bytes.now) }
 {
+    // Most arrays are short.
+    if let Some(rest) = behind_digit(place, bytes) {
+        return Ok(rest);
+    }
     let (name, rest) = name_of(bytes)?;
     if name == Buffer::new().format(place) {
         Ok(rest)
     } else {
         Err(ReadError::Fault(BsonFault::BadArrayName))
+    }
+}
+
+/// The same where the place has one digit, and that stands there.
+fn behind_digit(place: usize, bytes: &[u8]) -> Option<&[u8]>
+    ensures { IfSome result (λ rest. (seen : Entries Field) → length seen ≡ place → name_at true seen bytes.now ≡ Ok (decimal place, rest.now)) }
+{
+    let [digit, zero, rest @ ..] = bytes else {
+        return None;
+    };
+    if place < 10 && *digit == 48 + place as u8 && *zero == 0 {
+        Some(rest)
+    } else {
+        None
     }
 }
 

@@ -139,6 +139,9 @@ list_of-returns-in_err-value t c =
     let failed = rw c.deref.ensures.value at c.in_err-value.ensures in
     rw (p.1, p.2) (ends _ _ _ _ _ _ _ _ (some_left _ (sym c.is_empty.ensures ∙ c.elements-test.true)) failed c.elements.invariant.read)
 
+pub list_of-add_element-requires : goal.list_of-add_element-requires
+list_of-add_element-requires t c = shorter _ _ _ _ _ _ c.in_ok-value.ensures
+
 pub list_of-overflow_sub-at : goal.list_of-overflow_sub-at
 list_of-overflow_sub-at t c = omega (arith, shorter _ _ _ _ _ _ c.in_ok-value.ensures)
 
@@ -147,7 +150,7 @@ list_of-elements-smaller t c = shorter _ _ _ _ _ _ c.in_ok-value.ensures
 
 pub list_of-elements-preserved : goal.list_of-elements-preserved
 list_of-elements-preserved t c = record {
-  read = let made = rw c.deref.ensures.value at c.in_ok-value.ensures in rw (c.in_ok-push.ensures.items, numbered_push c.elements.values.items c.in_ok-value.value) (goes_on _ _ _ _ _ _ _ _ made c.elements.invariant.read);
+  read = let made = rw c.deref.ensures.value at c.in_ok-value.ensures in rw (c.in_ok-add_element.ensures, numbered_push c.elements.values.items c.in_ok-value.value) (goes_on _ _ _ _ _ _ _ _ made c.elements.invariant.read);
   in_range = omega (arith, c.elements.invariant.in_range, shorter _ _ _ _ _ _ c.in_ok-value.ensures);
 }
 
