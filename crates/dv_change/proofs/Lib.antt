@@ -9,3 +9,6 @@ pub mod Behind
 pub mod Alone
 pub mod Underway
 pub mod Lists
+pub mod Flat
+pub mod Passing
+pub mod Alive

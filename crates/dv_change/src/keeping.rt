@@ -125,7 +125,7 @@ impl<O: Operator> Turn for Keeping<O> {
 }
 
 /// Takes a change into the list at the place.
-fn take_in_at(
+pub(crate) fn take_in_at(
     lists: &mut [BTreeMap<Pos, Document>],
     place: usize,
     change: Change,
@@ -140,7 +140,7 @@ fn take_in_at(
 }
 
 /// Takes the changes into the rows, one after the other.
-fn take_in_all(
+pub(crate) fn take_in_all(
     rows: &mut BTreeMap<Pos, Document>,
     changes: Vec<Change>,
 ) -> Result<Vec<Taken>, NoMemory>

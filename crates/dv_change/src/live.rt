@@ -174,7 +174,7 @@ fn put_each(rows: &mut BTreeMap<Pos, Document>, changes: Vec<Change>) -> Result<
 }
 
 /// Carries the change out.
-fn put(rows: &mut BTreeMap<Pos, Document>, change: Change) -> Result<(), NoMemory>
+pub(crate) fn put(rows: &mut BTreeMap<Pos, Document>, change: Change) -> Result<(), NoMemory>
     ensures { OnOk result (rows.new.entries ≡ with_change rows.old.entries change) }
 {
     match change {

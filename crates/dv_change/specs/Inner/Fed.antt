@@ -83,7 +83,3 @@ module _ {O : Type 0} (makes : O → List Positioned → Positioned → Position
     pub out : now ≡ before ++ told_along (through_forms forms rows) (pass_in input change forms rows)
     pub ticks : after ≡ raised first (work_in input change forms rows)
     pub leads : with_changes (through_forms forms rows) (pass_in input change forms rows) ≡ through_forms (forms_after input change forms) (left_after input change rows)
-
-  -- and these rows come out of the last one
-  abbrev pub HasMade : List O → Positioned → List Form → Positioned → Type 0
-  HasMade operators out forms rows = AreHeld operators forms rows × (out ≡ through_forms forms rows)

@@ -1,0 +1,11 @@
+-- What is told so far stands behind the others.
+use Rattle.std.proofs.Common.{◌≡◌, ◌++◌}
+use Rattle.std.specs.Vec.Iter.{into_iter_items}
+use Rattle.dv_change.specs.Inner.Beginning.{BeginsWith}
+use Rattle.dv_change.proofs.operators.push_all.Given as goal
+
+abbrev pub invariant-all : goal.invariant-all
+invariant-all l = record {
+  out : l.out.items ++ into_iter_items l.taken-iterator ≡ l.fn.out.items ++ l.fn.all.items;
+  begins : BeginsWith l.out.items l.fn.out.items;
+}
