@@ -7,12 +7,12 @@ use Rattle.std.specs.Option.{IfSome, option_map}
 use Rattle.std.specs.Str.{bytes_eq}
 use Rattle.std.specs.String.{string_bytes}
 use Rattle.std.proofs.lemmas.Slice.Eq.{bytes_eq-Decides}
-use Rattle.dv_change.specs.declared.live.Live.{Live}
+use Rattle.dv_change.specs.declared.live_rows.LiveRows.{LiveRows}
 use Rattle.dv_change.specs.Changes.{Positioned}
 use Rattle.dv_change.specs.Inner.Changes.{IsPositioned}
 use Rattle.dv_pipe.specs.Sources.{Row}
 use Rattle.dv_pipe.specs.Stages.{Lists, evaluated}
-use Rattle.dv_views.specs.declared.turner.Turner.{Turner}
+use Rattle.dv_views.specs.declared.stage_operator.StageOperator.{StageOperator}
 use Rattle.dv_views.specs.Inner.Based.{IsBasedOn}
 use Rattle.dv_views.specs.Inner.Body.{Body}
 use Rattle.dv_views.specs.Inner.ById.{AreAtIds, at_ids_through}
@@ -125,10 +125,10 @@ module _ {Y : Type 0} where
 
 -- ---- the rows in memory
 
-pub entries_at_ids : (b : Body) (rows : Live Turner) (places : ListPlaces) (shown : List Row) → AreKept b.mark (taken_from b.stages b.source places) shown → b.mark ≡ live (kept_seen rows) → IsSoundLive b.stages rows → AreAtIds (outs_of b.stages b.source places) → AreAtIds rows.rows.entries
+pub entries_at_ids : (b : Body) (rows : LiveRows StageOperator) (places : ListPlaces) (shown : List Row) → AreKept b.mark (taken_from b.stages b.source places) shown → b.mark ≡ live (kept_seen rows) → IsSoundLive b.stages rows → AreAtIds (outs_of b.stages b.source places) → AreAtIds rows.rows.entries
 entries_at_ids b rows places shown kept is sound are =
     let right : AreKept (live (kept_seen rows)) (taken_from b.stages b.source places) shown = subst (λ (m : ViewMark). AreKept m (taken_from b.stages b.source places) shown) is kept in
     subst (λ (es : Positioned). AreAtIds es) (sym (entries_are b.stages rows sound ∙ ap (outs_made b.stages) right.0)) are
 
-pub entries_positioned : (b : Body) (rows : Live Turner) → IsSoundLive b.stages rows → IsPositioned rows.rows.entries
+pub entries_positioned : (b : Body) (rows : LiveRows StageOperator) → IsSoundLive b.stages rows → IsPositioned rows.rows.entries
 entries_positioned b rows sound = subst (λ (es : Positioned). IsPositioned es) (sym (entries_are b.stages rows sound)) (live_outs b.stages rows sound)

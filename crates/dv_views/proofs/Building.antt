@@ -14,22 +14,22 @@ use Rattle.dv_order.specs.Key.{key_order}
 use Rattle.dv_order.specs.OwnKeys.{IsOwn}
 use Rattle.dv_coll.specs.Collection.{IsAscending, id_key}
 use Rattle.dv_change.specs.declared.input.Input.TheVariants.{Left}
-use Rattle.dv_change.specs.declared.live.Live.{Live}
+use Rattle.dv_change.specs.declared.live_rows.LiveRows.{LiveRows}
 use Rattle.dv_change.specs.Changes.{forget}
 use Rattle.dv_change.specs.Inner.Changes.{IsPositioned}
 use Rattle.dv_change.specs.Positions.{IsExact, pos_order}
 use Rattle.dv_pipe.specs.Sources.{Row, Source, lists_of, rows_under}
 use Rattle.dv_pipe.specs.Stages.{Lists, evaluated}
 use Rattle.dv_pipe.specs.declared.stage.Stage.{Stage}
-use Rattle.dv_views.specs.declared.turner.Turner.{Turner}
+use Rattle.dv_views.specs.declared.stage_operator.StageOperator.{StageOperator}
 use Rattle.dv_views.specs.Inner.Filled.{lists_in_turn, rows_filled}
 use Rattle.dv_views.specs.Flow.{outs_made}
 use Rattle.dv_views.specs.Forms.{is_name_among, names_read}
 use Rattle.dv_views.specs.Inner.Ground.{IsBuilt, IsLive, IsLiveView, IsPlacedUnder, outs_below, outs_of_mark, outs_of_view}
-use Rattle.dv_views.specs.Inner.Keeping.{IsSoundLive, kept_seen, left_of, lists_of_all, named_of}
+use Rattle.dv_views.specs.Inner.Keeping.{IsSoundLive, kept_seen, lists_of_all, taken_seen}
 use Rattle.dv_views.specs.Placed.{lookups_of, own_position, positioned}
 use Rattle.dv_views.specs.Inner.Turned.{turned_rows}
-use Rattle.dv_views.specs.Inner.Turning.{empty_lists}
+use Rattle.dv_views.specs.Inner.Operating.{empty_lists}
 use Rattle.dv_views.specs.Views.{ViewMark, Taken, View, live, taken_from}
 use Rattle.dv_views.specs.Inner.Views.{AreInOrder, Views, view_under}
 use Rattle.dv_views.proofs.Filling.{all_filled, source_filled}
@@ -62,10 +62,10 @@ places_are_positioned ds ascending = record { ascending = ascending-places ds as
 
 -- ---- what stands under a name
 
-pub live_outs : (stages : List Stage) (rows : Live Turner) → IsSoundLive stages rows → IsPositioned (outs_made stages (kept_seen rows).taken)
-live_outs stages rows sound = ordered_outs stages (named_of rows.chain) (left_of rows.chain rows.rows.entries) sound.positioned
+pub live_outs : (stages : List Stage) (rows : LiveRows StageOperator) → IsSoundLive stages rows → IsPositioned (outs_made stages (kept_seen rows).taken)
+live_outs stages rows sound = ordered_outs stages (taken_seen rows).named (taken_seen rows).left sound.kept.positioned
 
-pub live_placed : (stages : List Stage) (mark : ViewMark) (rows : Live Turner) → mark ≡ live (kept_seen rows) → IsSoundLive stages rows → IsLive mark × IsPositioned (outs_of_mark stages mark)
+pub live_placed : (stages : List Stage) (mark : ViewMark) (rows : LiveRows StageOperator) → mark ≡ live (kept_seen rows) → IsSoundLive stages rows → IsLive mark × IsPositioned (outs_of_mark stages mark)
 live_placed stages mark rows is sound = subst (λ (m : ViewMark). IsLive m × IsPositioned (outs_of_mark stages m)) (sym is) (tt, live_outs stages rows sound)
 
 -- what holds whatever comes
@@ -109,14 +109,13 @@ module _ (older : Views) (lists : Lists) where
         ∙ all_filled (lookups_of stages source) (outs_below older lists) (all-positioned (lookups_of stages source) placed))
         ∙ source_filled (outs_below older lists source) (map (outs_below older lists) (lookups_of stages source)) own.1
 
-    pub built : (fresh some : Taken) (whole after : Live Turner) → fresh ≡ record { left = []; named = empty_lists (lists_of_all stages) } → some ≡ lists_in_turn 0 (lookups_of stages source) (outs_below older lists) fresh
-        → (kept_seen whole).taken ≡ rows_filled Left some (outs_below older lists source) → IsSoundLive stages whole → after.chain ≡ whole.chain → after.rows.entries ≡ whole.rows.entries → after.ticks ≡ 0
+    pub built : (fresh some : Taken) (whole after : LiveRows StageOperator) → fresh ≡ record { left = []; named = empty_lists (lists_of_all stages) } → some ≡ lists_in_turn 0 (lookups_of stages source) (outs_below older lists) fresh
+        → (kept_seen whole).taken ≡ rows_filled Left some (outs_below older lists source) → IsSoundLive stages whole → taken_seen after ≡ taken_seen whole → after.rows.entries ≡ whole.rows.entries → after.ticks ≡ 0
         → IsBuilt stages source older lists (live (kept_seen after))
-    built fresh some whole after none is all sound chain entries ticks =
-        let left : (kept_seen after).taken ≡ (kept_seen whole).taken = λ i. record { left = left_of (chain i) (entries i); named = named_of (chain i) } in
-        let taken = left ∙ all ∙ all-taken fresh some none is in (
+    built fresh some whole after none is all sound same entries ticks =
+        let taken = same ∙ all ∙ all-taken fresh some none is in (
           taken,
-          ap forget entries ∙ rows_are_made stages whole sound ∙ ap (turned_rows stages) (sym left),
+          ap forget entries ∙ rows_are_made stages whole sound ∙ ap (turned_rows stages) (sym same),
           subst (λ (t : Taken). IsPositioned t.left) (sym taken) own.1,
           ticks,
           (own.0, all-live (lookups_of stages source) placed),

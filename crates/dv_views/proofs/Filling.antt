@@ -18,7 +18,7 @@ use Rattle.dv_change.specs.Positions.{PosTree, pos_order}
 use Rattle.dv_views.specs.Inner.Filled.{lists_in_turn, puts_of, rows_filled}
 use Rattle.dv_views.specs.Flow.{taken_after}
 use Rattle.dv_views.specs.Placed.{ListPlaces}
-use Rattle.dv_views.specs.Inner.Turning.{empty_lists}
+use Rattle.dv_views.specs.Inner.Operating.{empty_lists}
 use Rattle.dv_views.specs.Views.{Taken}
 
 -- ---- one list among others

@@ -7,8 +7,8 @@ use Rattle.std.specs.Str.{bytes_eq}
 use Rattle.std.specs.String.{string_bytes}
 use Rattle.indexmap.specs.IndexMap.{set_value_at}
 use Rattle.dv_change.specs.declared.change.Change.{Change}
-use Rattle.dv_change.specs.declared.live.Live.{Live}
-use Rattle.dv_views.specs.declared.turner.Turner.{Turner}
+use Rattle.dv_change.specs.declared.live_rows.LiveRows.{LiveRows}
+use Rattle.dv_views.specs.declared.stage_operator.StageOperator.{StageOperator}
 use Rattle.dv_views.specs.Inner.Body.{Body}
 use Rattle.dv_views.specs.Flow.{Told, arrivals, is_reached, outs_made, told_at, flow_with_told}
 use Rattle.dv_views.specs.Forms.{names_read}
@@ -218,7 +218,7 @@ module _ {Y : Type 0} where
       height = ap (λ (b : Body). b.height) is;
     }
 
-    module _ (before after : Live Turner) (told : List Change) (apart : AreNamedApart (views es)) (turns : Turns old.stages (arrivals old.stages old.source come) before [] after told)
+    module _ (before after : LiveRows StageOperator) (told : List Change) (apart : AreNamedApart (views es)) (turns : Turns old.stages (arrivals old.stages old.source come) before [] after told)
         (lives : AllByRecursion (λ name. IsLiveView (view_under name (views_before n es))) (names_read old.stages old.source)) where
       pub turned_on : is_reached old.stages old.source come ≡ true → old.mark ≡ live (kept_seen before) → new ≡ record old { mark = live (kept_seen after); told = Some told } → IsTakenAt namespace changes n es left
       turned_on reached was is = record {
@@ -242,7 +242,7 @@ module _ {Y : Type 0} where
           live = λ _ _ other among.
               distance_at other (views_before n es) (apart-take n es apart) ∙ nearest (view_under other (views_before n es)) (each_among (λ m. IsLiveView (view_under m (views_before n es))) (names_read old.stages old.source) other lives among);
         });
-        well = λ _. subst (λ (b : Body). IsWellKept b.stages b.mark) (sym is) (rows_are_made old.stages after turns.sound, turns.sound.positioned);
+        well = λ _. subst (λ (b : Body). IsWellKept b.stages b.mark) (sym is) (rows_are_made old.stages after turns.sound, turns.sound.kept.positioned);
         height = ap (λ (b : Body). b.height) is;
       }
 
@@ -264,7 +264,7 @@ module _ {Y : Type 0} where
       pub stale_at : (new : Body) → true ≡ is_reached old.stages old.source (told_found namespace changes n es) → new ≡ record old { mark = stale; told = Some [] } → IsTakenAt namespace changes n es (set_value_at es n new)
       stale_at new reached is = made_stale namespace changes n es (set_value_at es n new) old new there refl (sym (reached ∙ ap (is_reached old.stages old.source) found-is)) is
 
-      pub turned_at : (a b : Body) (before after : Live Turner) (told : List Change) (stages : List Stage) (source : List ℕ) → true ≡ is_reached old.stages old.source (told_found namespace changes n es) → a ≡ record old { mark = stale; told = Some [] }
+      pub turned_at : (a b : Body) (before after : LiveRows StageOperator) (told : List Change) (stages : List Stage) (source : List ℕ) → true ≡ is_reached old.stages old.source (told_found namespace changes n es) → a ≡ record old { mark = stale; told = Some [] }
           → stages ≡ a.stages → source ≡ a.source → old.mark ≡ live (kept_seen before) → Turns stages (arrivals stages source (told_found namespace changes n (set_value_at es n a))) before [] after told
           → AllByRecursion (λ name. IsLiveView (view_under name (views_before n (set_value_at es n a)))) (names_read stages source) → b ≡ record a { mark = live (kept_seen after); told = Some told }
           → IsTakenAt namespace changes n es (set_value_at (set_value_at es n a) n b)
@@ -288,7 +288,7 @@ module _ {Y : Type 0} where
           made_stale namespace changes n es (set_value_at (set_value_at es n a) n b) old b there (written_twice n es a b) (sym (reached ∙ ap (is_reached old.stages old.source) found-is)) (same ∙ was)
 
       -- it is put back where all went well, and else stays stale
-      pub settled_at : {P E : Type 0} (r : Result P E) (rows : P → Live Turner) (told : P → List Change) (a b : Body) (before : Live Turner) (stages : List Stage) (source : List ℕ) → true ≡ is_reached old.stages old.source (told_found namespace changes n es) → a ≡ record old { mark = stale; told = Some [] }
+      pub settled_at : {P E : Type 0} (r : Result P E) (rows : P → LiveRows StageOperator) (told : P → List Change) (a b : Body) (before : LiveRows StageOperator) (stages : List Stage) (source : List ℕ) → true ≡ is_reached old.stages old.source (told_found namespace changes n es) → a ≡ record old { mark = stale; told = Some [] }
           → stages ≡ a.stages → source ≡ a.source → old.mark ≡ live (kept_seen before) → IfOk r (λ p. Turns stages (arrivals stages source (told_found namespace changes n (set_value_at es n a))) before [] (rows p) (told p))
           → IfOk r (λ _. AllByRecursion (λ name. IsLiveView (view_under name (views_before n (set_value_at es n a)))) (names_read stages source)) → IfOk r (λ p. b ≡ record a { mark = live (kept_seen (rows p)); told = Some (told p) }) → IfErr r (λ _. b ≡ a)
           → IsTakenAt namespace changes n es (set_value_at (set_value_at es n a) n b)

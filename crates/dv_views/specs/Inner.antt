@@ -8,7 +8,7 @@ pub mod Examples
 pub mod Fault
 pub mod Code
 pub mod Body
-pub mod Turning
+pub mod Operating
 pub mod Turned
 pub mod Older
 pub mod Ground

@@ -16,8 +16,8 @@ ghost use Rattle.dv_change.specs.Inner.Changes.{IsPositioned};
 ghost use Rattle.dv_views.specs.Inner.ById.{AreAtIds, AreById};
 
 use crate::places::place_of;
-use crate::turner::Turner;
-use dv_change::{Live, Pos};
+use crate::stage_operator::StageOperator;
+use dv_change::{LiveRows, Pos};
 use dv_order::{Key, key_of};
 use dv_value::{Bytes, Document, List, NoMemory, Value};
 use std::alloc::Global;
@@ -31,7 +31,7 @@ use std::ops::Bound;
 pub struct Standing<'a> {
     alloc: Global,
     base: &'a str,
-    live: &'a Live<Turner>,
+    live: &'a LiveRows<StageOperator>,
 }
 
 impl<'a> Model for Standing<'a> {
@@ -52,7 +52,7 @@ impl<'a> Model for Standing<'a> {
 
 impl<'a> Standing<'a> {
     /// Rows that are kept by changes, and their base.
-    pub(crate) fn of(alloc: Global, base: &'a str, live: &'a Live<Turner>) -> Self
+    pub(crate) fn of(alloc: Global, base: &'a str, live: &'a LiveRows<StageOperator>) -> Self
         requires { IsPositioned live.now.rows.entries }
         ensures { result ≡ (base.now, live.now.rows.entries) }
     {
@@ -83,7 +83,7 @@ impl<'a> Standing<'a> {
 #[derive(Drop)]
 pub struct RowsById<'a> {
     alloc: Global,
-    live: &'a Live<Turner>,
+    live: &'a LiveRows<StageOperator>,
 }
 
 impl<'a> Model for RowsById<'a> {

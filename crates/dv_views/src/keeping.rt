@@ -3,25 +3,53 @@
 ghost use Rattle.std.specs.Prelude.{◌≡◌, ◌∷◌, [], length, map, IfOk};
 ghost use Rattle.std.specs.Option.{option_map};
 ghost use Rattle.dv_change.specs.Changes.{with_changes};
-ghost use Rattle.dv_change.specs.Inner.Changes.{IsPositioned};
 ghost use Rattle.dv_change.specs.Inputs.{HasInput};
 ghost use Rattle.dv_views.specs.Flow.{arriving};
-ghost use Rattle.dv_views.specs.Inner.Keeping.{IsSoundLive, Turns, kept_seen};
+ghost use Rattle.dv_views.specs.Inner.Keeping.{IsSoundLive, Turns, kept_seen, lists_of_all};
+ghost use Rattle.dv_views.specs.Inner.Operating.{empty_lists};
 
-use crate::turner::Turner;
-use dv_change::{Change, Input, Live};
+use crate::stage_operator::{StageOperator, operators_of};
+use dv_change::{Change, Input, LiveRows, Pos};
 use dv_pipe::Pipeline;
-use dv_value::NoMemory;
+use dv_value::{Document, NoMemory};
+use std::alloc::Global;
+use std::collections::BTreeMap;
+
+/// Rows of stages that have taken in nothing; `lists` is how many lists they look into. Fails where memory is wanting.
+pub(crate) fn nothing_taken_in(
+    alloc: Global,
+    pipeline: &Pipeline,
+    lists: usize,
+) -> Result<LiveRows<StageOperator>, NoMemory>
+    requires { lists ≡ lists_of_all pipeline.now }
+    ensures sound { IfOk result (λ live. IsSoundLive pipeline.now live) }
+    ensures taken { IfOk result (λ live. (kept_seen live).taken ≡ record { left = []; named = empty_lists lists }) }
+{
+    let operators = operators_of(alloc, pipeline.stages())?;
+    let empty = lists_of_no_rows(alloc, lists)?;
+    Ok(LiveRows::new(alloc, operators, empty))
+}
+
+/// So many lists of no rows. Fails where memory is wanting.
+fn lists_of_no_rows(alloc: Global, count: usize) -> Result<Vec<BTreeMap<Pos, Document>>, NoMemory>
+    ensures { IfOk result (λ lists. map (λ m. m.entries) lists.items ≡ empty_lists count) }
+{
+    let mut lists = Vec::with_capacity(alloc, count)?;
+    'lists: for _ in 0..count {
+        lists.push(BTreeMap::new(alloc))?;
+    }
+    Ok(lists)
+}
 
 /// Takes in what is told to an input, one change after the other, where anything is, and tells what changes of the rows behind
 /// what is in `told`. Fails where memory is wanting; then the rows are dropped.
 pub(crate) fn taken_in_told(
-    live: Live<Turner>,
+    live: LiveRows<StageOperator>,
     pipeline: &Pipeline,
     input: Input,
     changes: Option<&[Change]>,
     told: &mut Vec<Change>,
-) -> Result<Live<Turner>, NoMemory>
+) -> Result<LiveRows<StageOperator>, NoMemory>
     requires sound { IsSoundLive pipeline.now live }
     requires input { HasInput input (kept_seen live).taken.named }
     ensures { IfOk result (λ after. Turns pipeline.now (arriving input (option_map (λ all. all.now) changes.entry)) live told.old.items after told.new.items) }
@@ -34,12 +62,12 @@ pub(crate) fn taken_in_told(
 
 /// Takes in changes of an input, one after the other.
 fn taken_in_each(
-    live: Live<Turner>,
+    live: LiveRows<StageOperator>,
     pipeline: &Pipeline,
     input: Input,
     changes: &[Change],
     told: &mut Vec<Change>,
-) -> Result<Live<Turner>, NoMemory>
+) -> Result<LiveRows<StageOperator>, NoMemory>
     requires sound { IsSoundLive pipeline.now live }
     requires input { HasInput input (kept_seen live).taken.named }
     ensures { IfOk result (λ after. Turns pipeline.now (map (λ change. record { input = input; change = change }) changes.now) live told.old.items after told.new.items) }
@@ -53,31 +81,28 @@ fn taken_in_each(
 
 /// Takes in a change of an input.
 pub(crate) fn taken_in(
-    live: Live<Turner>,
+    live: LiveRows<StageOperator>,
     pipeline: &Pipeline,
     input: Input,
     change: &Change,
     told: &mut Vec<Change>,
-) -> Result<Live<Turner>, NoMemory>
+) -> Result<LiveRows<StageOperator>, NoMemory>
     requires sound { IsSoundLive pipeline.now live }
     requires input { HasInput input (kept_seen live).taken.named }
     ensures { IfOk result (λ after. Turns pipeline.now (record { input = input; change = change.now } ∷ []) live told.old.items after told.new.items) }
 {
-    change.is_exact();
-    dv_change::laws::changes_keep_rows_in_order();
     live.take(input, change.try_clone()?, told)
 }
 
 /// Takes in rows of the source, where none of it was taken in. Counts nothing. Fails where memory is wanting; then the rows are
 /// dropped.
 pub(crate) fn filled_left(
-    live: Live<Turner>,
+    live: LiveRows<StageOperator>,
     pipeline: &Pipeline,
     puts: Vec<Change>,
-) -> Result<Live<Turner>, NoMemory>
+) -> Result<LiveRows<StageOperator>, NoMemory>
     requires sound { IsSoundLive pipeline.now live }
     requires empty { (kept_seen live).taken.left ≡ [] }
-    requires positioned { IsPositioned (with_changes [] puts.items) }
     ensures sound { IfOk result (λ after. IsSoundLive pipeline.now after) }
     ensures taken { IfOk result (λ after. (kept_seen after).taken ≡ record { left = with_changes [] puts.items; named = (kept_seen live).taken.named }) }
 {

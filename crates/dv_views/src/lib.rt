@@ -13,9 +13,9 @@ mod passing;
 mod places;
 mod registry;
 mod rows;
+mod stage_operator;
 mod standing;
 mod state;
-mod turner;
 mod view;
 
 pub use by_id::{RowsBetween, RowsById, Standing};

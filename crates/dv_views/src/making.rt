@@ -18,12 +18,12 @@ ghost use Rattle.dv_views.specs.Placed.{positioned};
 ghost use Rattle.dv_views.specs.Views.{live};
 ghost use Rattle.dv_views.specs.Inner.Views.{AreInOrder, is_stale, view_under};
 
-use crate::keeping::{filled_left, taken_in};
+use crate::keeping::{filled_left, nothing_taken_in, taken_in};
 use crate::older::older;
 use crate::places::document_put;
-use crate::turner::{Turner, turners_of};
+use crate::stage_operator::StageOperator;
 use crate::view::View;
-use dv_change::{Change, Input, Live};
+use dv_change::{Change, Input, LiveRows};
 use dv_pipe::{Pipeline, Sources};
 use dv_value::{Document, NoMemory, Str};
 use indexmap::IndexMap;
@@ -46,7 +46,7 @@ pub(crate) fn made(
     pipeline: &Pipeline,
     source: &str,
     lookups: &[Str],
-) -> Result<Live<Turner>, NoMemory>
+) -> Result<LiveRows<StageOperator>, NoMemory>
     requires lookups { lookups.now ≡ defined.lookups_of pipeline.now source.now }
     requires read { AllByRecursion (λ name. AreInOrder (lists_of ground.now.sources.now name)) (names_read pipeline.now source.now) }
     requires live { AllByRecursion (λ name. IsNoStale (view_under name (views_before ground.now.place ground.now.views.now.entries))) (names_read pipeline.now source.now) }
@@ -54,8 +54,7 @@ pub(crate) fn made(
     ensures built { IfOk result (λ rows. IsBuilt pipeline.now source.now (views_before ground.now.place ground.now.views.now.entries) (lists_of ground.now.sources.now) (live (kept_seen rows))) }
 {
     // With the lists that stages look into there first, each row of the source is made once.
-    let turners = turners_of(alloc, pipeline.stages())?;
-    let fresh = Live::new(alloc, turners);
+    let fresh = nothing_taken_in(alloc, pipeline, lookups.len())?;
     let some = filled_lists(alloc, fresh, pipeline, ground, lookups)?;
     let puts = puts_under(alloc, ground, source)?;
     let whole = filled_left(some, pipeline, puts)?;
@@ -65,11 +64,11 @@ pub(crate) fn made(
 /// Puts in what stands under the name of each list that a stage looks into.
 fn filled_lists(
     alloc: Global,
-    live: Live<Turner>,
+    live: LiveRows<StageOperator>,
     pipeline: &Pipeline,
     ground: &Ground<'_>,
     lookups: &[Str],
-) -> Result<Live<Turner>, NoMemory>
+) -> Result<LiveRows<StageOperator>, NoMemory>
     requires sound { IsSoundLive pipeline.now live }
     requires count { length lookups.now ≡ lists_of_all pipeline.now }
     requires ordered { AllByRecursion (λ name. AreInOrder (lists_of ground.now.sources.now name)) lookups.now }
@@ -89,11 +88,11 @@ fn filled_lists(
 /// Takes in changes of an input, one after the other, of which nothing is told.
 fn filled_each(
     alloc: Global,
-    live: Live<Turner>,
+    live: LiveRows<StageOperator>,
     pipeline: &Pipeline,
     input: Input,
     puts: Vec<Change>,
-) -> Result<Live<Turner>, NoMemory>
+) -> Result<LiveRows<StageOperator>, NoMemory>
     requires sound { IsSoundLive pipeline.now live }
     requires input { HasInput input (kept_seen live).taken.named }
     ensures sound { IfOk result (λ live. IsSoundLive pipeline.now live) }
@@ -132,7 +131,7 @@ fn puts_of_view(alloc: Global, view: &View) -> Result<Vec<Change>, NoMemory>
 }
 
 /// The rows, each put at its position. Fails where memory is wanting.
-fn puts_of_rows(alloc: Global, rows: &Live<Turner>) -> Result<Vec<Change>, NoMemory>
+fn puts_of_rows(alloc: Global, rows: &LiveRows<StageOperator>) -> Result<Vec<Change>, NoMemory>
     ensures { IfOk result (λ puts. puts.items ≡ puts_of rows.now.rows.entries) }
 {
     let mut puts = Vec::with_capacity(alloc, rows.len())?;
@@ -160,11 +159,11 @@ fn puts_of_documents(alloc: Global, documents: &[&Document]) -> Result<Vec<Chang
 /// Takes in a change of an input, of which nothing is told.
 fn put_in(
     alloc: Global,
-    live: Live<Turner>,
+    live: LiveRows<StageOperator>,
     pipeline: &Pipeline,
     input: Input,
     change: &Change,
-) -> Result<Live<Turner>, NoMemory>
+) -> Result<LiveRows<StageOperator>, NoMemory>
     requires sound { IsSoundLive pipeline.now live }
     requires input { HasInput input (kept_seen live).taken.named }
     ensures sound { IfOk result (λ live. IsSoundLive pipeline.now live) }

@@ -19,9 +19,9 @@ ghost use Rattle.dv_views.specs.Inner.Views.{AreNamedApart, view_under};
 
 use crate::keeping::taken_in_told;
 use crate::older::older;
-use crate::turner::Turner;
+use crate::stage_operator::StageOperator;
 use crate::view::View;
-use dv_change::{Change, Input, Live};
+use dv_change::{Change, Input, LiveRows};
 use dv_pipe::Pipeline;
 use dv_value::{NoMemory, Str};
 use indexmap::IndexMap;
@@ -112,11 +112,11 @@ impl<'a> Passing<'a> {
     fn turned(
         &self,
         alloc: Global,
-        live: Live<Turner>,
+        live: LiveRows<StageOperator>,
         pipeline: &Pipeline,
         source: &str,
         lookups: &[Str],
-    ) -> Result<(Live<Turner>, Vec<Change>), Left>
+    ) -> Result<(LiveRows<StageOperator>, Vec<Change>), Left>
         requires sound { IsSoundLive pipeline.now live }
         requires lookups { lookups.now ≡ defined.lookups_of pipeline.now source.now }
         ensures turns { IfOk result (λ r. Turns pipeline.now (arrivals pipeline.now source.now (told_found self.now.namespace.now self.now.changes.now self.now.place self.now.views.now.entries)) live [] r.0 r.1.items) }
@@ -135,11 +135,11 @@ impl<'a> Passing<'a> {
     /// Takes in what comes to each list.
     fn taken_by_lists(
         &self,
-        live: Live<Turner>,
+        live: LiveRows<StageOperator>,
         pipeline: &Pipeline,
         lookups: &[Str],
         told: &mut Vec<Change>,
-    ) -> Result<Live<Turner>, NoMemory>
+    ) -> Result<LiveRows<StageOperator>, NoMemory>
         requires sound { IsSoundLive pipeline.now live }
         requires count { length lookups.now ≡ lists_of_all pipeline.now }
         ensures { IfOk result (λ after. Turns pipeline.now (arriving_at_lists 0 lookups.now (told_found self.now.namespace.now self.now.changes.now self.now.place self.now.views.now.entries)) live told.old.items after told.new.items) }

@@ -4,8 +4,8 @@ ghost use Rattle.std.specs.Prelude.{◌≡◌};
 ghost use Rattle.std.specs.Iterator.{YieldsFirstRef, item_count};
 ghost use Rattle.dv_change.specs.Changes.{forget};
 
-use crate::turner::Turner;
-use dv_change::{Live, Pos};
+use crate::stage_operator::StageOperator;
+use dv_change::{LiveRows, Pos};
 use dv_value::Document;
 use std::collections::btree_map::Values;
 use std::marker::Model;
@@ -30,7 +30,7 @@ impl<'a> Model for Rows<'a> {
 
 impl<'a> Rows<'a> {
     /// The rows that are kept by changes.
-    pub(crate) fn of_kept(live: &'a Live<Turner>) -> Self
+    pub(crate) fn of_kept(live: &'a LiveRows<StageOperator>) -> Self
         ensures { result ≡ forget live.now.rows.entries }
     {
         Rows { rows: live.rows() }

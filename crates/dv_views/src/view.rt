@@ -9,9 +9,9 @@ ghost use Rattle.dv_views.specs.Views.{live, stale};
 ghost use Rattle.dv_views.specs.Inner.Views.{is_stale, kept_rows, mark_rows, state_of_mark, mark_ticks};
 
 use crate::rows::Rows;
+use crate::stage_operator::StageOperator;
 use crate::state::ViewState;
-use crate::turner::Turner;
-use dv_change::{Change, Live};
+use dv_change::{Change, LiveRows};
 use dv_pipe::Pipeline;
 use dv_value::Str;
 use std::fmt;
@@ -36,7 +36,7 @@ pub(crate) struct View {
 #[derive(Drop)]
 pub(crate) enum Mark {
     /// Its rows, kept by changes.
-    Live(Live<Turner>),
+    Live(LiveRows<StageOperator>),
     /// Nothing, since its rows have to be made anew.
     Stale,
 }
@@ -72,7 +72,7 @@ impl View {
         pipeline: Pipeline,
         lookups: Vec<Str>,
         height: usize,
-        rows: Live<Turner>,
+        rows: LiveRows<StageOperator>,
     ) -> Self
         requires lookups { lookups.items ≡ defined.lookups_of pipeline source }
         requires sound { IsSoundLive pipeline rows }
@@ -171,7 +171,7 @@ impl View {
     }
 
     /// Its rows, where they are kept by changes.
-    pub(crate) fn live(&self) -> Option<&Live<Turner>>
+    pub(crate) fn live(&self) -> Option<&LiveRows<StageOperator>>
         ensures kept { IfSome result (λ rows. self.now.mark ≡ live (kept_seen rows.now)) }
         ensures sound { IfSome result (λ rows. IsSoundLive self.now.stages rows.now) }
         ensures none { is_none result ≡ is_stale self.now.mark }
@@ -201,7 +201,7 @@ impl View {
 
     /// Takes out the rows that are kept by changes, where they are, for a change that comes to the view: it is stale then, and
     /// tells of no change.
-    pub(crate) fn take_out(&mut self, nothing: Vec<Change>) -> Option<Live<Turner>>
+    pub(crate) fn take_out(&mut self, nothing: Vec<Change>) -> Option<LiveRows<StageOperator>>
         requires { nothing.items ≡ [] }
         ensures left { self.new ≡ record self.old { mark = stale; told = Some [] } }
         ensures kept { IfSome result (λ rows. self.old.mark ≡ live (kept_seen rows)) }
@@ -215,7 +215,10 @@ impl View {
     }
 
     /// Puts back the rows behind a change, and what is told of it, where all went well.
-    pub(crate) fn settle<E: Drop>(&mut self, turned: Result<(Live<Turner>, Vec<Change>), E>)
+    pub(crate) fn settle<E: Drop>(
+        &mut self,
+        turned: Result<(LiveRows<StageOperator>, Vec<Change>), E>,
+    )
         requires { IfOk turned (λ r. IsSoundLive self.old.stages r.0) }
         ensures live { IfOk turned (λ r. self.new ≡ record self.old { mark = live (kept_seen r.0); told = Some r.1.items }) }
         ensures left { IfErr turned (λ _. self.new ≡ self.old) }
@@ -227,7 +230,7 @@ impl View {
     }
 
     /// Keeps these rows from now on.
-    pub(crate) fn keep(&mut self, rows: Live<Turner>)
+    pub(crate) fn keep(&mut self, rows: LiveRows<StageOperator>)
         requires { IsSoundLive self.old.stages rows }
         ensures { self.new ≡ record self.old { mark = live (kept_seen rows) } }
     {

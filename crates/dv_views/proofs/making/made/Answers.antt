@@ -1,31 +1,22 @@
-use Rattle.std.proofs.Common.{◌≡◌, ℕ, List, [], ap, length, subst, sym, ◌∙◌}
+use Rattle.std.proofs.Common.{◌≡◌, ℕ, List, [], ap, length, map, subst, sym, ◌∙◌}
 use Rattle.std.specs.List.{AllByRecursion}
-use Rattle.dv_change.specs.Changes.{Positioned, with_changes}
-use Rattle.dv_change.specs.Inner.Changes.{IsPositioned}
-use Rattle.dv_change.specs.Inner.RowLaws.{positioned-none}
+use Rattle.dv_change.specs.Changes.{with_changes}
 use Rattle.dv_pipe.specs.Sources.{lists_of}
-use Rattle.dv_pipe.specs.declared.stage.Stage.{Stage}
 use Rattle.dv_views.specs.Inner.Filled.{lists_in_turn}
 use Rattle.dv_views.specs.Inner.Ground.{IsPlacedUnder, outs_below}
 use Rattle.dv_views.specs.Inner.Keeping.{kept_seen}
 use Rattle.dv_views.specs.Inner.Made.{IsNoStale}
 use Rattle.dv_views.specs.Inner.Older.{views_before}
-use Rattle.dv_views.specs.Inner.Turning.{AreFresh}
+use Rattle.dv_views.specs.Inner.Operating.{empty_lists}
 use Rattle.dv_views.specs.Views.{Taken}
 use Rattle.dv_views.specs.Inner.Views.{AreInOrder, view_under}
 use Rattle.dv_views.proofs.Building.{built}
-use Rattle.dv_views.proofs.Filling.{lists_left, puts_filled, puts_lead}
-use Rattle.dv_views.proofs.Rolling.{fresh_named, fresh_turners, left_fresh, lookups_count, sound_fresh}
+use Rattle.dv_views.proofs.Filling.{lists_left, puts_filled}
+use Rattle.dv_views.proofs.Rolling.{lookups_count, sound_still}
 use Rattle.dv_views.proofs.making.made.Goals as goal
 
-pub new-fresh-requires : goal.new-fresh-requires
-new-fresh-requires c = fresh_turners c.args.pipeline.now c.in_ok-turners.turners.items (subst (λ (ss : List Stage). AreFresh ss c.in_ok-turners.turners.items) c.stages.ensures c.in_ok-turners.ensures)
-
-pub filled_lists-requires-clause-sound : goal.filled_lists-requires-clause-sound
-filled_lists-requires-clause-sound c =
-    let stages = c.args.pipeline.now in
-    let fresh = subst (AreFresh stages) (sym c.new-fresh.ensures.turns) (subst (λ (ss : List Stage). AreFresh ss c.in_ok-turners.turners.items) c.stages.ensures c.in_ok-turners.ensures) in
-    sound_fresh positioned-none stages c.new-fresh.result fresh c.new-fresh.ensures.taken
+pub nothing_taken_in-requires : goal.nothing_taken_in-requires
+nothing_taken_in-requires c = ap length c.requires.lookups ∙ lookups_count c.args.pipeline.now c.args.source.now
 
 pub filled_lists-requires-clause-count : goal.filled_lists-requires-clause-count
 filled_lists-requires-clause-count c = ap length c.requires.lookups ∙ lookups_count c.args.pipeline.now c.args.source.now
@@ -48,19 +39,13 @@ puts_under-requires-clause-live c = c.requires.live.0
 
 pub filled_left-requires-clause-empty : goal.filled_left-requires-clause-empty
 filled_left-requires-clause-empty c =
-    let stages = c.args.pipeline.now in
     let lists = lists_of c.args.ground.now.sources.now in
     let older = views_before c.args.ground.now.place c.args.ground.now.views.now.entries in
-    let live = c.new-fresh.result in
-    let fresh = subst (AreFresh stages) (sym c.new-fresh.ensures.turns) (subst (λ (ss : List Stage). AreFresh ss c.in_ok-turners.turners.items) c.stages.ensures c.in_ok-turners.ensures) in
-    ap (λ (t : Taken). t.left) c.in_ok-some.ensures.taken ∙ lists_left 0 c.args.lookups.now (outs_below older lists) (kept_seen live).taken ∙ left_fresh positioned-none stages live fresh c.new-fresh.ensures.taken
+    ap (λ (t : Taken). t.left) c.in_ok-some.ensures.taken ∙ lists_left 0 c.args.lookups.now (outs_below older lists) (kept_seen c.in_ok-fresh.fresh).taken ∙ ap (λ (t : Taken). t.left) c.in_ok-fresh.ensures.taken
 
-pub filled_left-requires-clause-positioned : goal.filled_left-requires-clause-positioned
-filled_left-requires-clause-positioned c =
-    let lists = lists_of c.args.ground.now.sources.now in
-    let older = views_before c.args.ground.now.place c.args.ground.now.views.now.entries in
-    let are = c.in_ok-puts.ensures.placed.1 in
-    subst (λ (rows : Positioned). IsPositioned rows) (sym (ap (with_changes []) c.in_ok-puts.ensures.puts ∙ puts_lead (outs_below older lists c.args.source.now) are)) are
+pub returns-clause-sound : goal.returns-clause-sound
+returns-clause-sound c =
+    sound_still c.args.pipeline.now c.in_ok-whole.whole c.counted_anew.result c.in_ok-whole.ensures.sound (λ i. map (λ m. m.entries) ((c.counted_anew.ensures.lists i).items)) c.counted_anew.ensures.live
 
 pub returns-clause-built : goal.returns-clause-built
 returns-clause-built c =
@@ -68,12 +53,12 @@ returns-clause-built c =
     let source = c.args.source.now in
     let lists = lists_of c.args.ground.now.sources.now in
     let older = views_before c.args.ground.now.place c.args.ground.now.views.now.entries in
-    let live = c.new-fresh.result in
-    let fresh = subst (AreFresh stages) (sym c.new-fresh.ensures.turns) (subst (λ (ss : List Stage). AreFresh ss c.in_ok-turners.turners.items) c.stages.ensures c.in_ok-turners.ensures) in
     let placed = subst (λ (names : List (List ℕ)). AllByRecursion (IsPlacedUnder older lists) names) c.requires.lookups c.in_ok-some.ensures.placed in
+    let fresh = (kept_seen c.in_ok-fresh.fresh).taken in
     let some = (kept_seen c.in_ok-some.some).taken in
-    let none : some.left ≡ [] = ap (λ (t : Taken). t.left) c.in_ok-some.ensures.taken ∙ lists_left 0 c.args.lookups.now (outs_below older lists) (kept_seen live).taken ∙ left_fresh positioned-none stages live fresh c.new-fresh.ensures.taken in
-    built older lists stages source placed c.in_ok-puts.ensures.placed (kept_seen live).taken (kept_seen c.in_ok-some.some).taken c.in_ok-whole.whole c.counted_anew.result
-    (λ i. record { left = left_fresh positioned-none stages live fresh c.new-fresh.ensures.taken i; named = fresh_named stages live.chain fresh i })
-    (c.in_ok-some.ensures.taken ∙ ap (λ (names : List (List ℕ)). lists_in_turn 0 names (outs_below older lists) (kept_seen live).taken) c.requires.lookups)
-    (c.in_ok-whole.ensures.taken ∙ (λ i. record { left = with_changes (sym none i) (c.in_ok-puts.ensures.puts i); named = some.named }) ∙ sym (puts_filled (outs_below older lists source) some)) c.in_ok-whole.ensures.sound c.counted_anew.ensures.chain c.counted_anew.ensures.rows c.counted_anew.ensures.ticks
+    let none : some.left ≡ [] = ap (λ (t : Taken). t.left) c.in_ok-some.ensures.taken ∙ lists_left 0 c.args.lookups.now (outs_below older lists) fresh ∙ ap (λ (t : Taken). t.left) c.in_ok-fresh.ensures.taken in
+    let count = ap length c.requires.lookups ∙ lookups_count stages source in
+    built older lists stages source placed c.in_ok-puts.ensures.placed fresh some c.in_ok-whole.whole c.counted_anew.result (c.in_ok-fresh.ensures.taken ∙ ap (λ n. record { left = []; named = empty_lists n }) count)
+    (c.in_ok-some.ensures.taken ∙ ap (λ (names : List (List ℕ)). lists_in_turn 0 names (outs_below older lists) fresh) c.requires.lookups)
+    (c.in_ok-whole.ensures.taken ∙ (λ i. record { left = with_changes (sym none i) (c.in_ok-puts.ensures.puts i); named = some.named }) ∙ sym (puts_filled (outs_below older lists source) some)) c.in_ok-whole.ensures.sound
+    (λ i. record { left = c.counted_anew.ensures.left i; named = map (λ m. m.entries) ((c.counted_anew.ensures.lists i).items) }) c.counted_anew.ensures.rows c.counted_anew.ensures.ticks
