@@ -1,11 +1,11 @@
 -- Edits each of which parts from the next one.
-use Rattle.std.proofs.Common.{◌≡◌, refl, List, [], ◌∷◌, ℕ, false, length, map, arith}
+use Rattle.std.proofs.Common.{◌≡◌, refl, ap, ◌∙◌, List, [], ◌∷◌, ℕ, false, Ok, length, map, arith}
 use Rattle.std.specs.List.{list_any, AllByRecursion}
 use Rattle.std.specs.declared.cmp.Ordering.TheVariants.{Less}
-use Rattle.dv_update.specs.Parsing.{conflicts, has_conflict}
+use Rattle.dv_update.specs.Parsing.{conflicts, has_conflict, in_order, placed, sorted}
 use Rattle.dv_update.specs.PathOrder.{path_order, begins}
 use Rattle.dv_update.specs.Inner.Collected.{Steps}
-use Rattle.dv_update.specs.Update.{Edit}
+use Rattle.dv_update.specs.Update.{Edit, operators}
 use Rattle.dv_update.specs.View.{edit}
 use Rattle.dv_update.specs.declared.form.Edit as memory
 use Rattle.dv_update.proofs.Lawful.{through}
@@ -56,3 +56,12 @@ no_conflict es s = none-conflict es (all-before es s)
 pub none-left : (edits : List memory.Edit) → length edits ≡ 0 → Steps (map edit edits)
 none-left [] none = tt
 none-left (e ∷ edits) none = absurd (omega arith)
+
+sorted-steps : (es : List Edit) → Steps es → sorted es ≡ es
+sorted-steps [] s = refl
+sorted-steps (e ∷ []) s = refl
+sorted-steps (e ∷ d ∷ es) s = ap (placed e) (sorted-steps (d ∷ es) s.2) ∙ rw (s.0) refl
+
+-- they are in order
+pub steps-in_order : (es : List Edit) → Steps es → in_order es ≡ Ok (operators es)
+steps-in_order es s = rw (no_conflict es s, sorted-steps es s) refl

@@ -159,10 +159,14 @@ fn parts_from(a: &Path, b: &Path) -> bool
 }
 
 /// The edits in the order of their paths. Refused with `Conflict` where one path begins or equals another, and with
-/// `NoMemory`. In time n log n: in order, a path that begins others stands right before the first of them.
+/// `NoMemory`. In time n log n: in order, a path that begins others stands right before the first of them. Edits that stand so
+/// already are given back as they are.
 pub(crate) fn in_order(alloc: Global, edits: Vec<Edit>) -> Result<Edits, UpdateFault>
     ensures { Gives operators result (defined.in_order (map edit edits.items)) }
 {
+    if are_apart(&edits) {
+        return Ok(Edits::of(edits));
+    }
     let places = by_path(alloc, edits)?;
     listed(alloc, places)
 }
