@@ -1,7 +1,7 @@
 -- The rows of an $unwind by what putting a value at a path, or taking one away, makes of a row.
 use Rattle.std.proofs.Common.{◌≡◌, ◌≢◌, ◌∙◌, ap, sym, refl, ℕ, Bool, true, false, List, [], ◌∷◌, map, Some, None, option_and_then, Ok, ◌⊎◌, inl, inr, if◌then◌else◌}
 use Rattle.std.specs.Str.{bytes_eq}
-use Rattle.dv_value.specs.Tree.{Tree, int32, int64, string, document, array, boolean, binary, object_id, date, null, timestamp, min_key, max_key, Fields, Field, fields_of, list_of_fields, Elements, no_elements, element, list_of_elements}
+use Rattle.dv_value.specs.Tree.{Tree, int32, int64, string, document, array, boolean, binary, object_id, date, null, timestamp, min_key, max_key, Field, fields_of, list_of_fields, Elements, no_elements, element, list_of_elements}
 use Rattle.dv_value.specs.Names.{value_under, with_value_under, without}
 use Rattle.dv_candidates.specs.Candidates.{Candidate}
 use Rattle.dv_path.specs.Placing as placing
@@ -9,7 +9,7 @@ use Rattle.dv_path.specs.Placing.{put, put_behind, result_map}
 use Rattle.dv_path.specs.Removing.{remove, left_behind}
 use Rattle.dv_row.specs.Parsing.{unwinding}
 use Rattle.dv_row.specs.Row.{Row}
-use Rattle.dv_row.specs.Unwinding.{in_document, reached, changed_under, set_through, unwound_rows, unwound}
+use Rattle.dv_row.specs.Unwinding.{reached, changed_under, set_through, unwound_rows, unwound}
 use Rattle.dv_row.specs.declared.unwind.Unwind.{Unwind}
 use Rattle.dv_row.proofs.Unwound.{gone-through}
 

@@ -9,9 +9,9 @@ use Rattle.dv_row.specs.Row.{Row}
 use Rattle.dv_row.specs.Unwinding.{in_document, reached, set_under, changed_under, set_through}
 use Rattle.dv_row.proofs.Unwound.{gone-through, list-of-fields_of}
 
-pub set-innermost : (cs : List Crossing) (c : Crossing) (v : Candidate) → set_inward (cs ++ c ∷ []) v ≡ set_inward cs (Some (document (fields_of (set_under c.component.now v c.document.now))))
+pub set-innermost : (cs : List Crossing) (c : Crossing) (v : Candidate) → set_inward (cs ++ c ∷ []) v ≡ set_inward cs (Some (document (fields_of (set_under c.component.now v c.document))))
 set-innermost [] c v = refl
-set-innermost (k ∷ cs) c v = ap (λ w. Some (document (fields_of (set_under k.component.now w k.document.now)))) (set-innermost cs c v)
+set-innermost (k ∷ cs) c v = ap (λ w. Some (document (fields_of (set_under k.component.now w k.document)))) (set-innermost cs c v)
 
 -- what the rest of a path leads to from what stands before it, and what setting a value there makes of that
 abbrev reached_from : List (List ℕ) → Candidate → Candidate
@@ -53,7 +53,7 @@ module _ (path : List (List ℕ)) (row : Row) (w : Tree) (there : reached path r
     pub never-none : ((look : List Field → Candidate) → in_document look found ≡ None) → ⊥
     never-none none = let no : None ≡ Some w = sym (none (reached (name ∷ rest))) ∙ sym on_way.leads ∙ there in cc
 
-    pub on-way_next : (more : List Crossing) (c : Crossing) → more ≡ inner ++ c ∷ [] → found ≡ Some (document (fields_of c.document.now)) → c.component.now ≡ name → IsOnWay path row first more rest (value_under name c.document.now)
+    pub on-way_next : (more : List Crossing) (c : Crossing) → more ≡ inner ++ c ∷ [] → found ≡ Some (document (fields_of c.document)) → c.component.now ≡ name → IsOnWay path row first more rest (value_under name c.document)
     on-way_next more c pushed is named = rw pushed (record {
       leads = on_way.leads ∙ from_here ∙ reached-first name rest d;
       sets = λ v.
@@ -63,7 +63,7 @@ module _ (path : List (List ℕ)) (row : Row) (w : Tree) (there : reached path r
     })
       where
         d : Row
-        d = c.document.now
+        d = c.document
 
         from_here : reached_from (name ∷ rest) found ≡ reached (name ∷ rest) d
         from_here = ap (in_document (reached (name ∷ rest))) is ∙ ap (reached (name ∷ rest)) (list-of-fields_of d)

@@ -1,7 +1,7 @@
 -- The value of a path that stands in a document, component by component.
-use Rattle.std.proofs.Common.{◌≡◌, ◌∙◌, ap, sym, subst, refl, List, [], ◌∷◌, ◌++◌, ℕ, ◌+◌, ◌<◌, ◌≤◌, length, drop, get_or, Some, None, option_and_then}
+use Rattle.std.proofs.Common.{◌≡◌, ◌∙◌, ap, sym, subst, refl, List, [], ◌∷◌, ◌++◌, ℕ, ◌+◌, ◌<◌, ◌≤◌, length, drop, get_or, Option, Some, None, IfSome, option_and_then}
 use Rattle.dv_value.specs.Tree.{Tree, Field, document, fields_of}
-use Rattle.dv_value.specs.Names.{value_under}
+use Rattle.dv_value.specs.Names.{value_under, value_at}
 use Rattle.dv_value.specs.View.{tree}
 use Rattle.dv_value.specs.declared.value.Value.{Value}
 use Rattle.dv_candidates.specs.Candidates.{Candidate}
@@ -61,6 +61,14 @@ module _ (path : List (List ℕ)) (d : Row) (name : List ℕ) (rest : List (List
           go (n ∷ names) (Value.Doc fs) more plain single = absurd (plain fs refl)
           go (n ∷ names) (Value.Array vs) more plain single = absurd (single vs refl)
           go (n ∷ names) v more plain single = refl
+
+-- a path of one name leads to what the document has there
+pub alone-leads : (name : List ℕ) (d : Row) → value_under name d ≡ expr d (name ∷ [])
+alone-leads name d = (last-there (name ∷ []) d name [] d (left-whole (name ∷ []) (name ∷ []) d refl) (value_under name d) refl refl).0
+
+pub shown-at : (place : Option ℕ) (found leads : Candidate) (d : Row) → IfSome place (λ i. found ≡ Some (value_at i d)) → found ≡ leads → IfSome place (λ i. Some (value_at i d) ≡ leads)
+shown-at None found leads d shown is = tt
+shown-at (Some i) found leads d shown is = sym shown ∙ is
 
 pub last-is_some : {X : Type 0} (xs : List X) (x : X) → xs ++ x ∷ [] ≡ [] → ⊥
 last-is_some [] x e = cc

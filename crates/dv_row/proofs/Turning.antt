@@ -1,7 +1,7 @@
 -- Documents that are gone through field by field, and those around them.
 use Rattle.std.proofs.Common.{◌≡◌, ◌∙◌, ap, sym, subst, refl, Bool, true, false, not, ◌&&◌, ◌==◌, List, [], ◌∷◌, ◌++◌, ℕ, zero, suc, ◌+◌, ◌*◌, ◌<◌, ◌≤◌, take, drop, length, Some, None, slice_get, arith, if◌then◌else◌}
 use Rattle.std.specs.List.{list_any}
-use Rattle.dv_value.specs.Names.{AreNamed}
+use Rattle.dv_value.specs.Names.{AreNamed, value_at}
 use Rattle.dv_value.specs.Tree.{Tree, document, Field, fields_of}
 use Rattle.dv_value.specs.Inner.Tree.{weight, fields_weight}
 use Rattle.dv_candidates.specs.Candidates.{Candidate}
@@ -37,6 +37,11 @@ none-past : {X : Type 0} (xs : List X) (i : ℕ) → length xs ≤ i → slice_g
 none-past [] i h = refl
 none-past (x ∷ xs) zero h = absurd (omega arith)
 none-past (x ∷ xs) (suc i) h = none-past xs i (omega arith)
+
+pub value-here : (d : Row) (i : ℕ) (f : Field) → Some f ≡ slice_get d i → value_at i d ≡ f.1
+value-here [] i f here = absurd cc
+value-here (g ∷ d) zero f here = let same : g ≡ f = cc in ap (λ (h : Field). h.1) same
+value-here (g ∷ d) (suc i) f here = value-here d i f here
 
 abbrev pub weighs : List Field → ℕ
 weighs fs = fields_weight (fields_of fs)

@@ -203,7 +203,8 @@ impl Asked {
             included.push(id)?;
         }
         let shown = Paths::of(included)?;
-        Ok(Project::Include(shown, Computed::of(computed)))
+        let computed = Computed::of(computed).sharing(alloc)?;
+        Ok(Project::Include(shown, computed))
     }
 }
 

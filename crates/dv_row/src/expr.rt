@@ -1,13 +1,14 @@
 //! Expressions.
 
-ghost use Rattle.std.specs.Prelude.{◌≡◌, ◌++◌, [], map, IfOk, OnOk, OnErr};
+ghost use Rattle.std.specs.Prelude.{◌≡◌, ◌<◌, [], Some, length, map, IfOk, IfSome, OnOk, OnErr};
 ghost use Rattle.std.specs.Option.{option_map};
-ghost use Rattle.dv_value.specs.Tree.{fields_of};
+ghost use Rattle.dv_value.specs.Names.{value_at};
 ghost use Rattle.dv_value.specs.View.{tree};
 ghost use Rattle.dv_row.specs.Expressions as defined;
 ghost use Rattle.dv_row.specs.Inner.ExpressionView.{expression_seen, named};
 ghost use Rattle.dv_row.specs.Inner.RowValueView.{row_value};
 
+use crate::conflict::has_conflict;
 use crate::row_value::{RowValue, made, path_value};
 use dv_candidates::Path;
 use dv_path::expr_value;
@@ -42,6 +43,8 @@ pub struct ComputedField {
 #[derive(Debug, Drop)]
 pub struct Computed {
     fields: Vec<ComputedField>,
+    /// Whether the same field of the row is known to be shown more than once.
+    repeats: bool,
 }
 
 impl Model for Computed {
@@ -101,6 +104,32 @@ impl Expr {
         }
     }
 
+    /// Puts the path behind others, if it has one name, and those of fields in this.
+    #[cycle(shown)]
+    fn push_shown(&self, shown: &mut Vec<Path>) -> Result<(), NoMemory> {
+        match self {
+            Expr::Path(path) if path.components().len() == 1 => shown.push(path.try_clone()?)?,
+            Expr::Document(computed) => computed.push_shown(shown)?,
+            Expr::Path(_) | Expr::Constant(_) => {}
+        }
+        Ok(())
+    }
+
+    /// The place of the row's field whose value this is, if it is a path of one name.
+    #[tactic(auto, unfolding(crate::specs::Expressions::value_of))]
+    fn place_in(&self, row: &Document) -> Option<usize>
+        ensures value { IfSome result (λ place. Some (value_at place row.now) ≡ defined.value_of (expression_seen self.now) row.now) }
+        ensures within { IfSome result (λ place. place < length row.now) }
+    {
+        let Expr::Path(path) = self else {
+            return None;
+        };
+        match path.components() {
+            [only] => row.place_of(only.as_str()),
+            _ => None,
+        }
+    }
+
     /// A copy of its own. Fails with `NoMemory` when memory runs out.
     #[cycle(expr_copying)]
     pub fn try_clone(&self) -> Result<Self, NoMemory>
@@ -132,7 +161,49 @@ impl Computed {
     pub fn of(fields: Vec<ComputedField>) -> Self
         ensures { result ≡ defined.computed_of (map named fields.items) }
     {
-        Computed { fields }
+        Computed {
+            fields,
+            repeats: false,
+        }
+    }
+
+    /// The same fields. If some of them show the same field of a row, they will share its text. Fails where memory is wanting.
+    pub(crate) fn sharing(self, alloc: Global) -> Result<Self, NoMemory>
+        ensures { IfOk result (λ computed. computed ≡ self) }
+    {
+        let mut shown = Vec::new(alloc);
+        self.push_shown(&mut shown)?;
+        let Computed { fields, repeats: _ } = self;
+        Ok(Computed {
+            fields,
+            repeats: has_conflict(shown),
+        })
+    }
+
+    /// Puts the paths of one name behind others, of fields in fields too.
+    #[cycle(shown)]
+    fn push_shown(&self, shown: &mut Vec<Path>) -> Result<(), NoMemory> {
+        for field in &self.fields {
+            field.expr.push_shown(shown)?;
+        }
+        Ok(())
+    }
+
+    /// Puts the fields that aren't missing behind those of a document. Fails where memory is wanting.
+    pub(crate) fn push_computed(
+        &self,
+        alloc: Global,
+        row: &Document,
+        document: &mut Document,
+    ) -> Result<(), NoMemory>
+        ensures { OnOk result (document.new ≡ defined.with_computed self.now row.now document.old) }
+    {
+        if self.repeats {
+            let row = row.try_share()?;
+            self.push_values(alloc, &row, document)
+        } else {
+            self.push_values(alloc, row, document)
+        }
     }
 
     /// The fields in written order.
@@ -144,7 +215,7 @@ impl Computed {
 
     /// Puts the fields that aren't missing behind those of a document.
     #[cycle(values)]
-    pub(crate) fn push_values(
+    fn push_values(
         &self,
         alloc: Global,
         row: &Document,
@@ -153,8 +224,11 @@ impl Computed {
         ensures { OnOk result (document.new ≡ defined.with_computed self.now row.now document.old) }
     {
         'fields: for field in &self.fields {
-            let value = field.expr.value(alloc, row)?;
-            push_field(document, field.name.as_str(), value)?;
+            let name = field.name.as_str();
+            match field.expr.place_in(row) {
+                Some(place) => show_field(document, name, row, place)?,
+                None => push_field(document, name, field.expr.value(alloc, row)?)?,
+            }
         }
         Ok(())
     }
@@ -168,7 +242,10 @@ impl Computed {
         for field in &self.fields {
             fields.push(field.try_clone()?)?;
         }
-        Ok(Computed { fields })
+        Ok(Computed {
+            fields,
+            repeats: self.repeats,
+        })
     }
 }
 
@@ -212,6 +289,23 @@ pub fn push_field(document: &mut Document, name: &str, value: Option<Value>) -> 
         return Ok(());
     };
     match document.push(name, value) {
+        Err(BsonFault::NoMemory) => Err(AllocError),
+        _ => Ok(()),
+    }
+}
+
+/// The same of a field that shows the value of the one at `place` of another document, as `push_shown` of `Document` does.
+pub(crate) fn show_field(
+    document: &mut Document,
+    name: &str,
+    from: &Document,
+    place: usize,
+) -> Result<(), NoMemory>
+    requires { place < length from.now }
+    ensures ok { OnOk result (document.new ≡ defined.with_field_behind name.now (Some (value_at place from.now)) document.old) }
+    ensures err { OnErr result (document.new ≡ document.old) }
+{
+    match document.push_shown(name, from, place) {
         Err(BsonFault::NoMemory) => Err(AllocError),
         _ => Ok(()),
     }

@@ -1,14 +1,14 @@
 //! `$project`.
 
-ghost use Rattle.std.specs.Prelude.{◌≡◌, not, IfOk};
+ghost use Rattle.std.specs.Prelude.{◌≡◌, Some, IfOk, IsTrue};
 ghost use Rattle.std.specs.Option.{option_map};
-ghost use Rattle.dv_value.specs.Tree.{fields_of, elements_of, list_of_elements};
+ghost use Rattle.dv_value.specs.Tree.{Tree, elements_of, list_of_elements};
 ghost use Rattle.dv_value.specs.View.{tree};
 ghost use Rattle.dv_value.specs.Names.{AreNamed};
 ghost use Rattle.dv_row.specs.Projecting as defined;
 ghost use Rattle.dv_row.specs.Inner.Turns.{IsTurn};
 
-use crate::expr::{Computed, push_field};
+use crate::expr::{Computed, push_field, show_field};
 use crate::level::{Level, Turn, led_into};
 use crate::paths::Paths;
 use crate::ways::Ways;
@@ -46,7 +46,7 @@ impl Project {
         match self {
             Project::Include(paths, computed) => {
                 let mut shown = row_left(alloc, true, paths, row, before)?;
-                computed.push_values(alloc, row, &mut shown)?;
+                computed.push_computed(alloc, row, &mut shown)?;
                 Ok(shown)
             }
             Project::Exclude(paths) => row_left(alloc, false, paths, row, before),
@@ -134,10 +134,26 @@ fn go_on<'a>(alloc: Global, keeps: bool, level: Level<'a>) -> Result<Turn<'a>, N
             };
             return Ok(Turn::Entered(outer, inner));
         }
-        let kept = value_left(alloc, keeps, &behind, value)?;
-        push_field(&mut left, name, kept)?;
+        if stays(keeps, &behind) {
+            show_field(&mut left, name, document, place)?;
+        } else {
+            let kept = value_left(alloc, keeps, &behind, value)?;
+            push_field(&mut left, name, kept)?;
+        }
     }
     Ok(Turn::Ended(left))
+}
+
+/// Whether a value at which the ways stand is left as it is, whatever it is.
+#[tactic(auto, unfolding(crate::specs::Projecting::left_inside))]
+fn stays(keeps: bool, ways: &Ways<'_>) -> bool
+    ensures { IsTrue result → ((v : Tree) → defined.left_of_value keeps ways.now v ≡ Some v) }
+{
+    if ways.is_empty() {
+        !keeps
+    } else {
+        keeps && ways.any_ends()
+    }
 }
 
 /// What is left of a value at which the ways stand.

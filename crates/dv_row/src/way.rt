@@ -13,10 +13,18 @@ use dv_candidates::{Component, Path, behind};
 use dv_value::{Document, NoMemory, Value};
 use std::alloc::Global;
 
-/// A document that a path leads through, and the component by which it leads on.
+/// A document in a row, and the component by which a path leads on from it.
 #[derive(Clone, Copy, Debug)]
-pub(crate) struct Crossing<'a> {
+pub(crate) struct Stop<'a> {
     document: &'a Document,
+    component: &'a Component,
+}
+
+/// A copy of a document that a path leads through, and the component by which it leads on. What is made of the copy shares its
+/// long texts and binaries.
+#[derive(Debug, Drop)]
+pub(crate) struct Crossing<'a> {
+    document: Document,
     component: &'a Component,
 }
 
@@ -29,7 +37,7 @@ pub(crate) struct Way<'a> {
     inner: Vec<Crossing<'a>>,
 }
 
-impl<'a> Crossing<'a> {
+impl<'a> Stop<'a> {
     /// The document that the path comes to next, if one is there.
     fn next(&self) -> Option<&'a Document>
         ensures { MatchOption result ((look : List Field → Candidate) → in_document look (value_under self.now.component.now self.now.document.now) ≡ None) (λ next. value_under self.now.component.now self.now.document.now ≡ Some (document_tree (fields_of next.now))) }
@@ -43,9 +51,22 @@ impl<'a> Crossing<'a> {
         }
     }
 
+    /// The way on from here. Fails where memory is wanting.
+    fn crossing(&self) -> Result<Crossing<'a>, NoMemory>
+        ensures document { IfOk result (λ crossing. crossing.document ≡ self.now.document.now) }
+        ensures component { IfOk result (λ crossing. crossing.component.now ≡ self.now.component.now) }
+    {
+        Ok(Crossing {
+            document: self.document.try_share()?,
+            component: self.component,
+        })
+    }
+}
+
+impl<'a> Crossing<'a> {
     /// The document with the value in place of the one under the component's name, or without that one.
     fn with(&self, value: Option<Value>) -> Result<Document, NoMemory>
-        ensures { IfOk result (λ set. set ≡ set_under self.now.component.now (option_map tree value) self.now.document.now) }
+        ensures { IfOk result (λ set. set ≡ set_under self.now.component.now (option_map tree value) self.now.document) }
     {
         let name = self.component.as_str();
         let mut set = self.document.try_clone()?;
@@ -64,21 +85,21 @@ impl<'a> Way<'a> {
         ensures { IfOk result (λ way. (v : Candidate) → set_through path.now v row.now ≡ set_on_way way v) }
     {
         let components = path.components();
-        let outermost = Crossing {
+        let mut last = Stop {
             document: row,
             component: &components[0],
         };
-        let mut last = outermost;
+        let outermost = last.crossing()?;
         let mut inner = Vec::new(alloc);
         'components: for component in behind(components) {
             let Some(document) = last.next() else {
                 unreachable!();
             };
-            last = Crossing {
+            last = Stop {
                 document,
                 component,
             };
-            inner.push(last)?;
+            inner.push(last.crossing()?)?;
         }
         Ok(Way { outermost, inner })
     }

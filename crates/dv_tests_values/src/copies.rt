@@ -6,7 +6,7 @@ use dv_path::Path;
 use dv_pipe::{Pipeline, Project, Sources, evaluate};
 use dv_testing::spelled::{array_in, bytes_of, document};
 use dv_update::Update;
-use dv_value::{Document, Value};
+use dv_value::{Document, Str, Value};
 use std::alloc::Global;
 use std::test::Fail;
 
@@ -120,5 +120,37 @@ fn a_copied_index_has_the_same_pairs(rt: HostRuntime) -> Result<(), Fail> {
     let copy = pairs.try_clone()?;
     let text = format!(in alloc; "{pairs:?}")?;
     assert_eq!(rt; format!(in alloc; "{copy:?}")?.as_str(), text.as_str());
+    Ok(())
+}
+
+/// `{a: "xxx.."}`, of a text that is long enough to be shared.
+fn with_long_text(alloc: Global) -> Result<Document, Fail> {
+    let mut text = String::new(alloc);
+    for _ in 0..300 {
+        text.push('x')?;
+    }
+    let mut document = Document::new(alloc);
+    document.push("a", Value::Text(Str::of(text)))?;
+    Ok(document)
+}
+
+/// The field shown behind one more, which is taken away again.
+fn shown_alone(alloc: Global, document: &Document) -> Result<Document, Fail> {
+    let mut shown = Document::new(alloc);
+    shown.push("n", Value::Null)?;
+    if let Some(place) = document.place_of("a") {
+        shown.push_shown("a", document, place)?;
+    }
+    shown.remove("n")?;
+    Ok(shown)
+}
+
+#[test]
+fn a_shared_text_is_shown(rt: HostRuntime) -> Result<(), Fail> {
+    let alloc = rt.alloc();
+    let document = with_long_text(alloc)?;
+    let shown = shown_alone(alloc, &document.try_share()?)?;
+    let bytes = bytes_of(alloc, &document)?;
+    assert_eq!(rt; bytes_of(alloc, &shown)?.as_slice(), bytes.as_slice());
     Ok(())
 }

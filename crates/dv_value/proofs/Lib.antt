@@ -13,3 +13,4 @@ pub mod Shallow
 pub mod Last
 pub mod Removed
 pub mod Dropped
+pub mod Overlaid

@@ -2,6 +2,8 @@
 pub mod Tree
 pub mod TreeCode
 pub mod ViewFalls
+pub mod Covers
+pub mod CoversFall
 pub mod Kept
 pub mod Places
 pub mod Spelled

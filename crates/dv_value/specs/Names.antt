@@ -1,5 +1,5 @@
 -- The names of a document's fields.
-use Rattle.std.specs.Prelude.{◌≡◌, ℕ, ◌==◌, ◌||◌, Bool, false, List, [], ◌∷◌, Option, Some, None, if◌then◌else◌, ⊤}
+use Rattle.std.specs.Prelude.{◌≡◌, ℕ, zero, suc, ◌==◌, ◌||◌, Bool, false, List, [], ◌∷◌, Option, Some, None, if◌then◌else◌, ⊤}
 use Rattle.std.specs.List.{position_from}
 use Rattle.std.specs.Str.{bytes_eq}
 use Rattle.dv_value.specs.Tree.{Tree, Field, null}
@@ -17,6 +17,12 @@ bare name = (name, null)
 abbrev pub value_under : List ℕ → List Field → Option Tree
 value_under name [] = None
 value_under name (f ∷ fs) = if bytes_eq name f.0 then Some f.1 else value_under name fs
+
+-- the value of the field at an index, counted from 0; null where there is no such field
+abbrev pub value_at : ℕ → List Field → Tree
+value_at place [] = null
+value_at zero (f ∷ fs) = f.1
+value_at (suc place) (f ∷ fs) = value_at place fs
 
 -- the index of the first field with this name, counted from 0, if any
 abbrev pub place_under : List ℕ → List Field → Option ℕ

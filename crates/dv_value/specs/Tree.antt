@@ -1,5 +1,5 @@
 -- BSON values and documents as mathematical values, in the terms of the BSON specification (bsonspec.org, version 1.1).
-use Rattle.std.specs.Prelude.{ℕ, suc, ◌+◌, ℤ, Bool, List, [], ◌∷◌}
+use Rattle.std.specs.Prelude.{ℕ, ℤ, Bool, List, [], ◌∷◌}
 
 -- a value; the fields of a document; the elements of an array
 mutual

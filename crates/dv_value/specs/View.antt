@@ -1,9 +1,12 @@
 -- What a value in memory represents.
 use Rattle.std.specs.Prelude.{List, [], Option, None, Some}
-use Rattle.std.specs.declared.rc.Rc.{Rc}
+use Rattle.dv_value.specs.declared.value.Content.{Content}
+use Rattle.dv_value.specs.declared.value.Content.TheVariants.{Empty, Own, Over}
+use Rattle.dv_value.specs.declared.value.Cover.{Cover}
+use Rattle.dv_value.specs.declared.value.Cover.TheVariants.{Absent, Shared}
 use Rattle.dv_value.specs.declared.value.Value.{Value}
 use Rattle.dv_value.specs.declared.value.Value.TheVariants.{Int32, Int64, Text, Doc, Array, Binary, ObjectId, Bool, Date, Null, Timestamp, MinKey, MaxKey}
-use Rattle.dv_value.specs.Tree.{Tree, int32, int64, string, document, array, boolean, binary, object_id, date, null, timestamp, min_key, max_key, fields_of, elements_of}
+use Rattle.dv_value.specs.Tree.{Tree, int32, int64, string, document, array, boolean, binary, object_id, date, null, timestamp, min_key, max_key, Field, fields_of, elements_of}
 
 -- the BSON value that a value in memory represents
 abbrev pub tree : Value → Tree
@@ -21,7 +24,13 @@ tree (Timestamp n) = timestamp n
 tree MinKey = min_key
 tree MaxKey = max_key
 
--- the list that an optional shared pointer refers to; empty if there is no pointer
-abbrev pub held : {X Y : Type 0} → Option (Rc (List X) Y) → List X
-held None = []
-held (Some shared) = shared.value
+-- the shared value that takes the place of a field's own, if any
+abbrev pub covering : Cover → Option Tree
+covering Absent = None
+covering (Shared text) = Some text
+
+-- the fields that a document has of its own
+abbrev pub held : Content → List Field
+held Empty = []
+held (Own fields) = fields.value
+held (Over fields) = fields.value

@@ -10,13 +10,15 @@ mod dropping;
 mod field_lists;
 mod lists;
 mod measures;
+mod overlays;
 mod sharing;
+mod showing;
 
 use crate::bytes::Bytes;
 use crate::kind::Kind;
 use crate::name_list::Names;
 use crate::text::Str;
-use crate::value::dropping::drop_values;
+use crate::value::dropping::{drop_shared, drop_values};
 use std::alloc::Global;
 use std::marker::Model;
 use std::mem::size_of;
@@ -90,14 +92,51 @@ pub(crate) struct Measured {
     size: Option<u32>,
 }
 
+/// A text or a binary that documents share.
+#[cycle(value)]
+#[derive(Debug)]
+pub(crate) struct SharedText {
+    value: Rc<Value>,
+}
+
+/// What a field shows instead of its own value, if anything.
+#[cycle(value)]
+#[derive(Debug, Drop)]
+pub(crate) enum Cover {
+    /// It shows its own value.
+    Absent,
+    /// It shows this one.
+    Shared(SharedText),
+}
+
+/// Fields, some of which show values that other documents share.
+#[cycle(value)]
+#[derive(Debug)]
+pub(crate) struct Overlay {
+    /// A field that is covered has null of its own.
+    fields: Fields,
+    /// One for each field.
+    covers: Vec<Cover>,
+}
+
+/// What a document holds. Its fields are shared with its copies until one of them is changed.
+#[cycle(value)]
+#[derive(Debug, Drop)]
+pub(crate) enum Content {
+    /// No field, since a new document takes no memory.
+    Empty,
+    /// Fields with values of their own.
+    Own(Rc<Measured>),
+    /// Fields, some of which show values that other documents share, too.
+    Over(Rc<Overlay>),
+}
+
 /// Fields in the order in which they were added. No two have one name, and no name holds a zero byte.
 #[cycle(value)]
 #[derive(Debug, Drop)]
 pub struct Document {
     alloc: Global,
-    /// Shared by a document and its copies until one of them is changed. None if there is no field, since a new document takes no
-    /// memory.
-    fields: Option<Rc<Measured>>,
+    content: Content,
 }
 
 /// The values of an array, in order.
@@ -164,6 +203,70 @@ impl Drop for Measured {
     }
 }
 
+impl Model for SharedText {
+    ghost use Rattle.std.specs.Prelude.{◌*◌};
+    ghost use Rattle.dv_value.specs.Tree.{Tree};
+    ghost use Rattle.dv_value.specs.Inner.Tree.{weight};
+    ghost use Rattle.dv_value.specs.Inner.TreeCode.{coded_tree};
+    ghost use Rattle.dv_value.specs.Inner.Covers.{IsText};
+
+    ghost Value = { Tree };
+
+    ghost coded = { coded_tree };
+
+    ghost use Rattle.dv_value.specs.View.{tree};
+
+    ghost view = { λ s. tree s.value.value };
+
+    ghost invariant = { λ s. IsText (tree s.value.value) };
+
+    ghost size = { λ v. 3 * weight v };
+
+    ghost use Rattle.std.proofs.Common.{arith};
+    ghost use Rattle.dv_value.specs.Inner.ViewFalls.{value_falls};
+
+    ghost size_decreases = { λ s h. omega (arith, value_falls s.value.value) };
+}
+
+impl Drop for SharedText {
+    fn drop(self) {
+        drop_shared(self);
+    }
+}
+
+impl Model for Overlay {
+    ghost use Rattle.std.specs.Prelude as prelude;
+    ghost use Rattle.std.specs.Prelude.{ℕ, suc, ◌*◌, map};
+    ghost use Rattle.std.specs.Coded.{coded_list, coded×, coded_ℕ};
+    ghost use Rattle.dv_value.specs.Tree.{Field, fields_of};
+    ghost use Rattle.dv_value.specs.Inner.Tree.{fields_weight};
+    ghost use Rattle.dv_value.specs.Inner.TreeCode.{coded_tree};
+    ghost use Rattle.dv_value.specs.Inner.Covers.{covered, AreCovered};
+
+    ghost Value = { prelude.List Field };
+
+    ghost coded = { coded_list (coded× (coded_list coded_ℕ) coded_tree) };
+
+    ghost use Rattle.dv_value.specs.View.{covering};
+
+    ghost view = { λ o. covered o.fields (map covering o.covers.items) };
+
+    ghost invariant = { λ o. AreCovered o.fields (map covering o.covers.items) };
+
+    ghost size = { λ fs. suc (3 * fields_weight (fields_of fs)) };
+
+    ghost use Rattle.std.proofs.Common.{arith};
+    ghost use Rattle.dv_value.specs.Inner.CoversFall.{covers_fall, own_fall};
+
+    ghost size_decreases = { λ o h. omega (arith, own_fall o.fields (map covering o.covers.items) h, covers_fall o.fields o.covers.items h) };
+}
+
+impl Drop for Overlay {
+    fn drop(self) {
+        drop_values(self.into_values());
+    }
+}
+
 impl Model for Document {
     ghost use Rattle.std.specs.Prelude as prelude;
     ghost use Rattle.std.specs.Prelude.{ℕ, suc, ◌*◌};
@@ -178,7 +281,7 @@ impl Model for Document {
 
     ghost use Rattle.dv_value.specs.View.{held};
 
-    ghost view = { λ d. held d.fields };
+    ghost view = { λ d. held d.content };
 
     ghost size = { λ fs. suc (suc (3 * fields_weight (fields_of fs))) };
 

@@ -10,7 +10,7 @@ use Rattle.dv_row.specs.Unwinding.{set_under}
 -- a value set under the last of these documents: what stands in place of the first one then
 abbrev pub set_inward : List Crossing → Candidate → Candidate
 set_inward [] v = v
-set_inward (c ∷ cs) v = Some (document (fields_of (set_under c.component.now (set_inward cs v) c.document.now)))
+set_inward (c ∷ cs) v = Some (document (fields_of (set_under c.component.now (set_inward cs v) c.document)))
 
 abbrev pub set_on_way : Way → Candidate → Row
-set_on_way way v = set_under way.outermost.component.now (set_inward way.inner.items v) way.outermost.document.now
+set_on_way way v = set_under way.outermost.component.now (set_inward way.inner.items v) way.outermost.document

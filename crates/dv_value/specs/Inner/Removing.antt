@@ -1,5 +1,5 @@
 -- Of `Removing`, what only bodies and proofs need.
-use Rattle.std.specs.Prelude.{◌≡◌, ℕ, List, [], ◌∷◌, is_some, Bool}
+use Rattle.std.specs.Prelude.{◌≡◌, ℕ, List, is_some, Bool}
 use Rattle.std.specs.FinMap as finite
 use Rattle.std.specs.List.{list_any}
 use Rattle.std.specs.Str.{bytes_eq}

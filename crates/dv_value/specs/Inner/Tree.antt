@@ -1,5 +1,5 @@
 -- Of `Tree`, what only bodies and proofs need.
-use Rattle.std.specs.Prelude.{ℕ, suc, ◌+◌, ℤ, Bool, List, [], ◌∷◌}
+use Rattle.std.specs.Prelude.{ℕ, suc, ◌+◌}
 use Rattle.dv_value.specs.Tree.{Tree, Fields, Elements, int32, int64, string, document, array, boolean, binary, object_id, date, null, timestamp, min_key, max_key, no_fields, field, no_elements, element}
 
 -- how many values there are in a value, itself among them

@@ -10,7 +10,7 @@ use Rattle.dv_value.specs.Tree.{fields_of, elements_of}
 use Rattle.dv_value.specs.Inner.Tree.{weight, fields_weight, elements_weight}
 use Rattle.dv_value.specs.View.{tree}
 
-value_falls : (v : Value) → deep-Value v ≤ 3 * weight (tree v)
+pub value_falls : (v : Value) → deep-Value v ≤ 3 * weight (tree v)
 value_falls (Int32 n) = omega arith
 value_falls (Int64 n) = omega arith
 value_falls (Text s) = omega arith

@@ -10,7 +10,7 @@ ghost use Rattle.dv_value.specs.View.{tree};
 use crate::NoMemory;
 use crate::fault::BsonFault;
 use crate::limits::{document_size, is_shallow};
-use crate::value::{Document, Fields, Measured, Value};
+use crate::value::{Content, Document, Fields, Measured, Overlay, Value};
 use std::alloc::Global;
 use std::rc::Rc;
 
@@ -21,7 +21,7 @@ impl Document {
     {
         Document {
             alloc,
-            fields: None,
+            content: Content::Empty,
         }
     }
 
@@ -34,8 +34,8 @@ impl Document {
             return Ok(Document::new(alloc));
         }
         let fields = Measured::of(Fields::beside(alloc, like)?, None);
-        let fields = Some(Rc::new(alloc, fields)?);
-        Ok(Document { alloc, fields })
+        let content = Content::Own(Rc::new(alloc, fields)?);
+        Ok(Document { alloc, content })
     }
 
     /// The document with these fields, whose encoding is so long. The fields' unused room is freed. Fails with `NoMemory` when
@@ -48,8 +48,8 @@ impl Document {
             return Ok(Document::new(alloc));
         }
         fields.trim();
-        let fields = Some(Rc::new(alloc, Measured::of(fields, Some(size)))?);
-        Ok(Document { alloc, fields })
+        let content = Content::Own(Rc::new(alloc, Measured::of(fields, Some(size)))?);
+        Ok(Document { alloc, content })
     }
 
     /// How many fields there are.
@@ -58,9 +58,10 @@ impl Document {
         // No name holds a zero byte, and no two fields have one name.
         ensures named { AreNamed self.now }
     {
-        match &self.fields {
-            Some(measured) => measured.fields().len(),
-            None => 0,
+        match &self.content {
+            Content::Own(measured) => measured.fields().len(),
+            Content::Over(overlay) => overlay.count(),
+            Content::Empty => 0,
         }
     }
 
@@ -75,9 +76,10 @@ impl Document {
     pub fn entry(&self, place: usize) -> Option<(&str, &Value)>
         ensures { option_map (λ field. (field.0.now, tree field.1.now)) result ≡ slice_get self.now place }
     {
-        match &self.fields {
-            Some(measured) => measured.fields().entry(place),
-            None => None,
+        match &self.content {
+            Content::Own(measured) => measured.fields().entry(place),
+            Content::Over(overlay) => overlay.shown(place),
+            Content::Empty => None,
         }
     }
 
@@ -85,9 +87,10 @@ impl Document {
     pub fn get(&self, name: &str) -> Option<&Value>
         ensures { option_map (λ value. tree value.now) result ≡ value_under name.now self.now }
     {
-        match &self.fields {
-            Some(measured) => measured.fields().get(name),
-            None => None,
+        match &self.content {
+            Content::Own(measured) => measured.fields().get(name),
+            Content::Over(overlay) => overlay.value_named(name),
+            Content::Empty => None,
         }
     }
 
@@ -107,7 +110,7 @@ impl Document {
 
     /// Whether a field with the name can be added, or why it can't be.
     #[tactic(auto, using(crate::proofs::Named::places))]
-    fn check_new(&self, name: &str) -> Result<(), BsonFault>
+    pub(super) fn check_new(&self, name: &str) -> Result<(), BsonFault>
         ensures ok { OnOk result ((has_zero name.now ≡ false) × (has_name name.now self.now ≡ false)) }
         ensures err { IfErr result (λ e. ((e ≡ BsonFault.BadName) × (has_zero name.now ≡ true) × (has_name name.now self.now ≡ false)) ⊎ ((e ≡ BsonFault.RepeatedName) × (has_name name.now self.now ≡ true) × (has_zero name.now ≡ false))) }
     {
@@ -125,9 +128,10 @@ impl Document {
         ensures has { result ≡ has_name name.now self.now }
         ensures named { AreNamed self.now }
     {
-        match &self.fields {
-            Some(measured) => measured.fields().has(name),
-            None => false,
+        match &self.content {
+            Content::Own(measured) => measured.fields().has(name),
+            Content::Over(overlay) => overlay.has_named(name),
+            Content::Empty => false,
         }
     }
 
@@ -140,10 +144,11 @@ impl Document {
         ensures ok { OnOk result (self.new ≡ self.old ++ (name.now, tree value) ∷ []) }
         ensures err { OnErr result (self.new ≡ self.old) }
     {
-        match &mut self.fields {
-            Some(shared) => Rc::make_mut(shared)?.add(name, value),
-            None => {
-                self.fields = Some(first_field(self.alloc, name, value)?);
+        match &mut self.content {
+            Content::Own(shared) => Rc::make_mut(shared)?.add(name, value),
+            Content::Over(overlay) => Rc::make_mut(overlay)?.add_own(name, value),
+            Content::Empty => {
+                self.content = Content::Own(first_field(self.alloc, name, value)?);
                 Ok(())
             }
         }
@@ -154,9 +159,9 @@ impl Document {
     pub(crate) fn reserve_one(&mut self) -> Result<(), NoMemory>
         ensures { self.new ≡ self.old }
     {
-        match &mut self.fields {
-            Some(shared) => Rc::make_mut(shared)?.reserve_one(),
-            None => Ok(()),
+        match &mut self.content {
+            Content::Own(shared) => Rc::make_mut(shared)?.reserve_one(),
+            Content::Over(_) | Content::Empty => Ok(()),
         }
     }
 
@@ -172,10 +177,13 @@ impl Document {
             drop(value);
             return Ok(None);
         }
-        match &mut self.fields {
-            Some(shared) => Ok(Rc::make_mut(shared)?.replace(name, value)),
-            None => unreachable!(),
+        if let Content::Own(shared) = &mut self.content {
+            return Ok(Rc::make_mut(shared)?.replace(name, value));
         }
+        let mut owned = self.owned()?;
+        let before = owned.replace(name, value);
+        self.content = Content::Own(Rc::new(self.alloc, owned)?);
+        Ok(before)
     }
 
     /// Puts the value in place of the one under the name, which is dropped. If no field has the name, nothing is changed and the
@@ -187,9 +195,10 @@ impl Document {
         ensures ok { OnOk result (self.new ≡ with_value_under name.now (tree value) self.old) }
         ensures err { OnErr result (self.new ≡ self.old) }
     {
-        match &mut self.fields {
-            Some(shared) => put_value(self.alloc, shared, name, value),
-            None => Ok(Some(value)),
+        match &mut self.content {
+            Content::Own(shared) => put_value(self.alloc, shared, name, value),
+            Content::Over(overlay) => put_over(self.alloc, overlay, name, value),
+            Content::Empty => Ok(Some(value)),
         }
     }
 
@@ -202,10 +211,13 @@ impl Document {
         let Some(Value::Array(_)) = self.get(name) else {
             return Ok(());
         };
-        match &mut self.fields {
-            Some(shared) => Rc::make_mut(shared)?.push_element(name, value),
-            None => Ok(()),
+        if let Content::Own(shared) = &mut self.content {
+            return Rc::make_mut(shared)?.push_element(name, value);
         }
+        let mut owned = self.owned()?;
+        owned.push_element(name, value)?;
+        self.content = Content::Own(Rc::new(self.alloc, owned)?);
+        Ok(())
     }
 
     /// Takes away the field with the name, and returns its value. If no field has the name, it returns none and changes nothing. If
@@ -218,10 +230,13 @@ impl Document {
         if !self.has(name) {
             return Ok(None);
         }
-        match &mut self.fields {
-            Some(shared) => Rc::make_mut(shared)?.remove(name),
-            None => unreachable!(),
+        if let Content::Own(shared) = &mut self.content {
+            return Rc::make_mut(shared)?.remove(name);
         }
+        let mut owned = self.owned()?;
+        let before = owned.remove(name)?;
+        self.content = Content::Own(Rc::new(self.alloc, owned)?);
+        Ok(before)
     }
 
     /// Keeps the length of the encoding with the fields, if there is one, no copy shares them and they have at most 100 levels.
@@ -240,18 +255,19 @@ impl Document {
         if !is_shallow(self, size) {
             return;
         }
-        if let Some(shared) = &mut self.fields {
+        if let Content::Own(shared) = &mut self.content {
             if let Some(own) = Rc::get_mut(shared) {
                 own.keep(size as u32);
             }
         }
     }
 
-    /// Whether a copy shares the fields.
+    /// Whether a copy shares the fields, or another document may share values.
     fn is_shared(&self) -> bool {
-        match &self.fields {
-            Some(shared) => Rc::strong_count(shared) > 1,
-            None => false,
+        match &self.content {
+            Content::Own(shared) => Rc::strong_count(shared) > 1,
+            Content::Over(_) => true,
+            Content::Empty => false,
         }
     }
 
@@ -259,9 +275,9 @@ impl Document {
     pub(crate) fn kept_size(&self) -> Option<u32>
         ensures { IfSome result (λ size. IsMeasure size self.now) }
     {
-        match &self.fields {
-            Some(measured) => measured.size(),
-            None => None,
+        match &self.content {
+            Content::Own(measured) => measured.size(),
+            Content::Over(_) | Content::Empty => None,
         }
     }
 
@@ -281,14 +297,27 @@ impl Document {
     pub fn try_clone(&self) -> Result<Self, NoMemory>
         ensures { IfOk result (λ copy. copy ≡ self.now) }
     {
-        let fields = match &self.fields {
-            Some(fields) => Some(fields.clone()?),
-            None => None,
+        let content = match &self.content {
+            Content::Own(fields) => Content::Own(fields.clone()?),
+            Content::Over(fields) => Content::Over(fields.clone()?),
+            Content::Empty => Content::Empty,
         };
         Ok(Document {
             alloc: self.alloc,
-            fields,
+            content,
         })
+    }
+
+    /// Copies of the fields, which own their values. Fails where memory is wanting.
+    fn owned(&self) -> Result<Measured, NoMemory>
+        ensures { IfOk result (λ owned. owned ≡ self.now) }
+    {
+        let mut fields = Fields::beside(self.alloc, self)?;
+        'fields: for place in 0..self.len() {
+            let (name, value) = self.field(place);
+            fields.add(name, value.try_clone()?)?;
+        }
+        Ok(Measured::of(fields, None))
     }
 }
 
@@ -305,6 +334,29 @@ fn put_value(
     ensures err { OnErr result (shared.new.value ≡ shared.old.value) }
 {
     let Some(place) = shared.fields().place_of(name) else {
+        return Ok(Some(value));
+    };
+    if let Some(own) = Rc::get_mut(shared) {
+        own.put_at(place, value);
+        return Ok(None);
+    }
+    let changed = shared.copy_with(place, value)?;
+    *shared = Rc::new(alloc, changed)?;
+    Ok(None)
+}
+
+/// The same of fields, some of which show values that other documents share: those that stay are shared, too.
+fn put_over(
+    alloc: Global,
+    shared: &mut Rc<Overlay>,
+    name: &str,
+    value: Value,
+) -> Result<Option<Value>, NoMemory>
+    ensures back { IfOk result (λ back. option_map tree back ≡ (if has_name name.now shared.old.value then None else Some (tree value))) }
+    ensures ok { OnOk result (shared.new.value ≡ with_value_under name.now (tree value) shared.old.value) }
+    ensures err { OnErr result (shared.new.value ≡ shared.old.value) }
+{
+    let Some(place) = shared.place_named(name) else {
         return Ok(Some(value));
     };
     if let Some(own) = Rc::get_mut(shared) {

@@ -1,12 +1,13 @@
 //! How the fields of documents are dropped: in a loop, since rows of views may have documents in one another some thousand
 //! times.
 
-ghost use Rattle.std.specs.Prelude.{◌≡◌, ◌+◌, ◌<◌, IfSome, map};
+ghost use Rattle.std.specs.Prelude.{◌≡◌, ◌+◌, ◌<◌, ◌≤◌, IfSome, map};
 ghost use Rattle.dv_value.specs.Tree.{fields_of, elements_of};
+ghost use Rattle.dv_value.specs.Inner.Covers.{IsText};
 ghost use Rattle.dv_value.specs.Inner.Tree.{weight, fields_weight, elements_weight};
 ghost use Rattle.dv_value.specs.View.{tree};
 
-use crate::value::{Document, Fields, List, Measured, Value};
+use crate::value::{Content, Document, Fields, List, Measured, SharedText, Value};
 use std::rc::Rc;
 
 /// Drops the values and all that is in them. Takes no memory, and no more stack where they are deep.
@@ -16,6 +17,24 @@ pub(super) fn drop_values(values: Vec<Value>) {
         left = opened(value, left);
     }
     left.destroy_empty();
+}
+
+/// Lets go of a text or a binary, and drops it if nothing else shares it. No other value is in it.
+pub(super) fn drop_shared(text: SharedText) {
+    let Some(value) = text.into_value() else {
+        return;
+    };
+    match value {
+        Value::Text(_text) => {}
+        Value::Binary {
+            subtype: _,
+            bytes: _bytes,
+        } => {}
+        Value::Doc(_) | Value::Array(_) => unreachable!(),
+        Value::Int32(_) | Value::Int64(_) | Value::Bool(_) | Value::Date(_) => {}
+        Value::ObjectId(_) | Value::Timestamp(_) => {}
+        Value::Null | Value::MinKey | Value::MaxKey => {}
+    }
 }
 
 /// Drops a value but for those in it. Gives these and the others, which are left.
@@ -62,11 +81,14 @@ impl Value {
 impl Document {
     /// The values, unless a copy shares them.
     fn into_values(self) -> Option<Vec<Value>>
-        ensures { IfSome result (λ values. elements_weight (elements_of (map tree values.items)) ≡ fields_weight (fields_of self)) }
+        ensures { IfSome result (λ values. elements_weight (elements_of (map tree values.items)) ≤ fields_weight (fields_of self)) }
     {
-        let Document { alloc: _, fields } = self;
-        let own = Rc::into_inner(fields?)?;
-        Some(own.into_values())
+        let Document { alloc: _, content } = self;
+        match content {
+            Content::Own(shared) => Some(Rc::into_inner(shared)?.into_values()),
+            Content::Over(shared) => Some(Rc::into_inner(shared)?.into_values()),
+            Content::Empty => None,
+        }
     }
 }
 
@@ -83,10 +105,20 @@ impl Measured {
 impl Fields {
     /// The values.
     #[tactic(auto, using(crate::proofs::Dropped::fields_weigh_as_values))]
-    fn into_values(self) -> Vec<Value>
+    pub(super) fn into_values(self) -> Vec<Value>
         ensures { elements_weight (elements_of (map tree result.items)) ≡ fields_weight (fields_of self) }
     {
         let Fields { names: _, values } = self;
         values
+    }
+}
+
+impl SharedText {
+    /// The value, unless something else shares it.
+    fn into_value(self) -> Option<Value>
+        ensures { IfSome result (λ value. IsText (tree value)) }
+    {
+        let SharedText { value } = self;
+        Rc::into_inner(value)
     }
 }

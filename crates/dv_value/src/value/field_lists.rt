@@ -10,7 +10,7 @@ ghost use Rattle.dv_value.specs.View.{tree};
 use crate::NoMemory;
 use crate::name_list::Names;
 use crate::value::copies::{copies_of, copies_with};
-use crate::value::{Document, Fields, Value};
+use crate::value::{Content, Document, Fields, Value};
 use std::alloc::Global;
 use std::mem::replace;
 use std::rc::Rc;
@@ -30,13 +30,21 @@ impl Fields {
     pub(super) fn beside(alloc: Global, document: &Document) -> Result<Self, NoMemory>
         ensures { IfOk result (λ fields. fields ≡ []) }
     {
-        match &document.fields {
-            Some(measured) => Ok(Fields {
-                names: measured.fields().names.clone()?,
-                values: Vec::with_capacity(alloc, measured.fields().len())?,
-            }),
-            None => Fields::with_room(alloc, 0),
+        match &document.content {
+            Content::Own(measured) => measured.fields().none_beside(alloc),
+            Content::Over(overlay) => overlay.own_fields().none_beside(alloc),
+            Content::Empty => Fields::with_room(alloc, 0),
         }
+    }
+
+    /// No fields, with room for as many as there are here, whose names they may share. Fails where memory is wanting.
+    fn none_beside(&self, alloc: Global) -> Result<Self, NoMemory>
+        ensures { IfOk result (λ fields. fields ≡ []) }
+    {
+        Ok(Fields {
+            names: self.names.clone()?,
+            values: Vec::with_capacity(alloc, self.len())?,
+        })
     }
 
     /// No fields yet of a document that is read. The names to expect are those of the document that came before it; without one

@@ -4,7 +4,7 @@ ghost use Rattle.std.specs.Prelude.{◌≡◌, map};
 ghost use Rattle.dv_value.specs.View.{tree};
 
 use crate::limits::MAX_LEVELS;
-use crate::value::{Document, Fields, Measured, Value};
+use crate::value::{Content, Document, Fields, Measured, Value};
 use std::rc::Rc;
 
 impl Document {
@@ -22,10 +22,10 @@ impl Document {
     fn share_names_within(&mut self, with: &Document, levels: u32)
         ensures { self.new ≡ self.old }
     {
-        let Some(shared) = &mut self.fields else {
+        let Content::Own(shared) = &mut self.content else {
             return;
         };
-        let Some(others) = &with.fields else {
+        let Content::Own(others) = &with.content else {
             return;
         };
         if let Some(own) = Rc::get_mut(shared) {

@@ -1,4 +1,4 @@
-use Rattle.std.proofs.Common.{◌≡◌, ◌∙◌, ◌+◌, ◌-◌, ◌++◌, ◌∷◌, [], ap, sym, subst, map, Some, length, drop, take, arith, append-nil}
+use Rattle.std.proofs.Common.{◌≡◌, ◌∙◌, ◌+◌, ◌-◌, ◌++◌, ◌∷◌, [], ap, sym, subst, map, Some, drop, take, arith, append-nil}
 use Rattle.std.proofs.lemmas.List.{map-append}
 use Rattle.std.specs.Option.{option_map, option_to_list}
 use Rattle.dv_value.specs.Tree.{Field, document, array, fields_of, elements_of, list_of_elements}
@@ -10,9 +10,9 @@ use Rattle.dv_row.specs.Projecting.{paths_behind, left_of_value, left_inside, fi
 use Rattle.dv_row.specs.Inner.Turns.{left_behind, IsFresh}
 use Rattle.dv_row.proofs.Items.{take-read}
 use Rattle.dv_row.proofs.Left.{fields-of_list, elements-of_list, single, elements-left_more}
-use Rattle.dv_row.proofs.Turning.{entered, going-first, going-in, going-out, gone, in-smaller, out-smaller, left-next, left-past, weighs-less, weighs-next}
+use Rattle.dv_row.proofs.Turning.{entered, going-first, going-in, going-out, gone, in-smaller, out-smaller, left-next, left-past, value-here, weighs-less, weighs-next}
 use Rattle.dv_row.proofs.project.+left.Goals as goal
-use Rattle.dv_row.proofs.project.+left.Goals.{list_left-in-Some+in_ok-push, list_left-in_default}
+use Rattle.dv_row.proofs.project.+left.Goals.{list_left-in-Some+in_ok-push, list_left-in_default, go_on-then-stays+in_ok-show_field, go_on-else-stays+in_ok-kept+in_ok-push_field}
 
 pub document_left-turns-init : goal.document_left-turns-init
 document_left-turns-init t c =
@@ -74,9 +74,15 @@ go_on-fields-preserved t c =
     let ways = c.args.level.ways in
     let d = c.args.level.document.now in
     let f : Field = (c.field.result.0.now, tree c.field.result.1.now) in
+    let here = sym c.field.ensures in
+    let behind = ap (λ ws. left_of_value keeps ws f.1) c.behind-behind.ensures in
     let left = c.fields.left in
-    let pushed : c.push_field.new.document ≡ with_field_behind f.0 (left_of_value keeps (paths_behind f.0 ways) f.1) left = c.in_ok-push_field.ensures.ok ∙ ap (λ k. with_field_behind f.0 k left) (c.in_ok-kept.ensures ∙ ap (λ ws. left_of_value keeps ws f.1) c.behind-behind.ensures) in
-    c.fields.invariant ∙ left-next keeps ways d c.fields.place f left (sym c.field.ensures) ∙ ap (left_behind keeps ways (drop (c.fields.place + 1) d)) (sym pushed)
+    let pushed : c.if-stays.left ≡ with_field_behind f.0 (left_of_value keeps (paths_behind f.0 ways) f.1) left =
+    elim c.if-stays.branch [
+      | go_on-then-stays+in_ok-show_field w ↦ w.left-is ∙ w.in_ok-show_field.ensures.ok ∙ ap (λ k. with_field_behind f.0 k left) (ap Some (value-here d c.fields.place f here) ∙ sym (c.stays.ensures w.if-stays.true f.1) ∙ behind)
+      | go_on-else-stays+in_ok-kept+in_ok-push_field w ↦ w.left-is ∙ w.in_ok-push_field.ensures.ok ∙ ap (λ k. with_field_behind f.0 k left) (w.in_ok-kept.ensures ∙ behind)
+    ] in
+    c.fields.invariant ∙ left-next keeps ways d c.fields.place f left here ∙ ap (left_behind keeps ways (drop (c.fields.place + 1) d)) (sym pushed)
 
 pub go_on-returns-clause-turn : goal.go_on-returns-clause-turn
 go_on-returns-clause-turn t c =

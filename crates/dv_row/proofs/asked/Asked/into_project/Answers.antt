@@ -24,4 +24,4 @@ returns c =
       | then-not-has_id+in_ok-push w ↦ ap (λ v. v.items) w.included-is ∙ w.in_ok-push.ensures.items ∙ ap (λ p. self.included ++ p ∷ []) id ∙ ap choice (sym w.if-not-has_id.true)
       | else-not-has_id w ↦ ap (λ v. v.items) w.included-is ∙ ap choice (sym w.if-not-has_id.false)
     ] in
-    ap Ok (form-is self has c.in_ok-shown.shown c.of-3.result (sym c.includes.ensures ∙ c.if-not-includes.false) con (c.in_ok-shown.ensures ∙ included) c.of-3.ensures)
+    ap Ok (form-is self has c.in_ok-shown.shown c.in_ok-computed.computed (sym c.includes.ensures ∙ c.if-not-includes.false) con (c.in_ok-shown.ensures ∙ included) (c.in_ok-computed.ensures ∙ c.of-3.ensures))

@@ -1,4 +1,4 @@
-use Rattle.std.proofs.Common.{◌≡◌, ◌∙◌, ◌+◌, ap, sym, drop, Some, arith}
+use Rattle.std.proofs.Common.{◌∙◌, ◌+◌, ap, sym, drop, arith}
 use Rattle.dv_row.specs.Inner.Turns.{left_behind, with_entered}
 use Rattle.dv_row.proofs.Turning.{around-past}
 use Rattle.dv_row.proofs.level.Level.with_inner.Goals as goal

@@ -1,4 +1,3 @@
-use Rattle.std.proofs.Common.{◌∙◌, sym}
 use Rattle.dv_row.specs.Inner.UnwoundRows.{rows_of_origin}
 use Rattle.dv_row.proofs.OneByOne.{one-more}
 use Rattle.dv_row.proofs.unwind.Unwind.push_rows.Goals as goal
