@@ -1,5 +1,5 @@
 -- Turns that stay linked while changes go through them.
-use Rattle.std.proofs.Common.{◌≡◌, ◌∙◌, ap, sym, subst, refl, List, [], ◌∷◌, ◌++◌, ◌+◌, ℕ, length, arith, ◌-◌}
+use Rattle.std.proofs.Common.{◌≡◌, ◌∙◌, ap, sym, subst, refl, List, [], ◌∷◌, ◌+◌, ℕ, length, arith, ◌-◌}
 use Rattle.std.specs.Prelude.{Bool, true, false, if◌then◌else◌, nat_lt}
 use Rattle.std.specs.List.{AllByRecursion}
 use Rattle.dv_change.specs.declared.change.Change.{Change}
@@ -111,21 +111,6 @@ module _ {T : Type 0} (left : T → Positioned) (others : T → List Positioned)
         let now : IsPositioned (makes t (others_after input change (others t)) (left_after input change (left t))) = ordered t _ _ (subst (λ (rows : Positioned). IsPositioned rows) l (positioned after z).0) in
         relinked ts us (makes t (others t) (left t)) (makes after (others after) (left after)) items forms linked more
         (ap (with_changes (makes t (others t) (left t))) e ∙ apply-diff (makes t (others t) (left t)) (makes t (others_after input change (others t)) (left_after input change (left t))) (ordered t (others t) (left t) (positioned t s).0) now ∙ (λ i. sym m i (sym o i) (sym l i)))
-
-    -- ---- rows that come to a turn which has taken in none
-
-    -- one change more
-    pub filled-more : (t after : T) (first : List Positioned → Positioned → Positioned) (named : List Positioned) (change : Change) (made next : List Change) → sound t → sound after → makes t ≡ first → others t ≡ named → left after ≡ with_change (left t) change
-        → with_changes [] made ≡ first named (left t) → next ≡ made ++ owed_by Left change (makes t) (others t) (left t) → with_changes [] next ≡ first named (left after)
-    filled-more t after first named change made next s z m o l so_far is =
-        let f : Positioned → Positioned = makes t (others t) in
-        let rows = with_change (left t) change in
-        let now : IsPositioned (f rows) = ordered t (others t) rows (subst (λ (es : Positioned). IsPositioned es) l (positioned after z).0) in
-        ap (with_changes []) is
-        ∙ with_changes-both [] made (diff (f (left t)) (f rows))
-        ∙ ap (λ (es : Positioned). with_changes es (diff (f (left t)) (f rows))) (so_far ∙ (λ i. sym m i (sym o i) (left t)))
-        ∙ apply-diff (f (left t)) (f rows) (ordered t (others t) (left t) (positioned t s).0) now
-        ∙ (λ i. m i (o i) (sym l i))
 
     -- ---- what comes out leads from what the last one made to what it makes
 

@@ -11,8 +11,8 @@ use Rattle.dv_change.specs.Inner.DiffLaws.{apply-diff, positioned-changed}
 use Rattle.dv_change.specs.Inner.Fed.{IsFed, IsFilled, IsUnderway}
 use Rattle.dv_change.specs.Raised.{raised}
 use Rattle.dv_change.specs.Inner.RowLaws.{positioned-none}
-use Rattle.dv_change.specs.Inner.Told.{changes_told, told_along, with_old}
-use Rattle.dv_change.specs.Inner.ToldLaws.{changes-told, told-both}
+use Rattle.dv_change.specs.Inner.Told.{told_along, with_old}
+use Rattle.dv_change.specs.Inner.ToldLaws.{told-both}
 use Rattle.dv_change.specs.Work.{handed}
 use Rattle.dv_change.proofs.Linking.{apply-handed, exact-handed, raised-twice}
 
@@ -110,7 +110,3 @@ fed-filled m holds keeps empty changes before now first after none exact fed =
       told = fed.out ∙ (λ i. none i ++ told_along (empty i) outs);
       leads = ap (λ (rows : Positioned). with_changes rows outs) (sym empty) ∙ apply-handed m keeps [] changes positioned-none exact;
     }
-
--- the changes alone lead there too
-pub filled-leads : (m : Positioned → Positioned) (holds : Positioned → Type 0) (changes : List Change) (made : List Taken) → IsFilled m holds changes made → with_changes [] (changes_told made) ≡ m (with_changes [] changes)
-filled-leads m holds changes made filled = ap (with_changes []) (ap changes_told filled.told ∙ changes-told [] filled.outs) ∙ filled.leads

@@ -1,5 +1,5 @@
 -- The changes that the stages of a pipeline return for a change of an input, and their work, counted in ticks.
-use Rattle.std.specs.Prelude.{ℕ, ◌+◌, ◌-◌, List, [], ◌∷◌, ◌++◌, length, if◌then◌else◌, nat_lt, ◌<◌, ⊤}
+use Rattle.std.specs.Prelude.{ℕ, ◌+◌, ◌-◌, List, [], ◌∷◌, ◌++◌, length, if◌then◌else◌, nat_lt}
 use Rattle.dv_change.specs.declared.change.Change.{Change}
 use Rattle.dv_change.specs.declared.input.Input.{Input}
 use Rattle.dv_change.specs.declared.input.Input.TheVariants.{Left, Named}

@@ -1,6 +1,6 @@
 //! Stages one behind the other.
 
-ghost use Rattle.std.specs.Prelude.{◌≡◌, ◌+◌, ◌<◌, ◌≤◌, ◌++◌, [], length, IfOk, OnErr, OnOk};
+ghost use Rattle.std.specs.Prelude.{◌≡◌, ◌+◌, ◌<◌, ◌≤◌, ◌++◌, [], length, OnErr, OnOk};
 ghost use Rattle.std.specs.List.{AllByRecursion};
 ghost use Rattle.dv_change.specs.Inner.Beginning.{BeginsWith};
 ghost use Rattle.dv_change.specs.Changes.{with_changes};
@@ -13,7 +13,6 @@ ghost use Rattle.dv_change.specs.Work.{pass, pass_in, pass_named, through_forms,
 ghost use Rattle.dv_change.specs.Inner.Work.{HasAny, forms_after, forms_named, named_in};
 
 use crate::change::Change;
-use crate::filling::fill_all;
 use crate::input::Input;
 use crate::ticks::Ticks;
 use crate::turn::Turn;
@@ -75,17 +74,6 @@ impl<T: Turn + Drop> Chain<T> {
             ticks,
             out,
         )
-    }
-
-    /// Takes in its first rows, by the changes that put them in. Returns changes that lead to what the last operator makes; counts
-    /// nothing. Fails with `NoMemory` when memory runs out; then it is spent and may only be dropped.
-    pub fn fill(&mut self, changes: Vec<Change>) -> Result<Vec<Change>, NoMemory>
-        requires { IsLinked T.left T.others T.makes T.sound self.old [] }
-        ensures forms { OnOk result (forms_of T.left T.others T.makes T.sound self.new ≡ forms_of T.left T.others T.makes T.sound self.old) }
-        ensures linked { OnOk result (IsLinked T.left T.others T.makes T.sound self.new (with_changes [] changes.items)) }
-        ensures made { IfOk result (λ made. with_changes [] made.items ≡ through_forms (forms_of T.left T.others T.makes T.sound self.old) (with_changes [] changes.items)) }
-    {
-        fill_all(self.turns.as_mut_slice(), changes)
     }
 }
 

@@ -4,11 +4,11 @@ ghost use Rattle.std.specs.Prelude.{◌≡◌, ◌≤◌, ◌+◌, ◌<◌, ◌+
 ghost use Rattle.std.specs.List.{AllByRecursion};
 ghost use Rattle.dv_change.specs.declared.change.Change.{Change};
 ghost use Rattle.dv_change.specs.Inner.Beginning.{BeginsWith};
-ghost use Rattle.dv_change.specs.Changes.{Positioned, with_changes};
+ghost use Rattle.dv_change.specs.Changes.{Positioned};
 ghost use Rattle.dv_change.specs.Inner.Changes.{IsExactChange, IsPositioned};
 ghost use Rattle.dv_change.specs.Inputs.{input_changed_at, left_after, others_after};
 ghost use Rattle.dv_change.specs.Raised.{raised};
-ghost use Rattle.dv_change.specs.Inner.Told.{ComesTo, changes_told, list_at, told_along, with_old};
+ghost use Rattle.dv_change.specs.Inner.Told.{ComesTo, changes_told, list_at, with_old};
 ghost use Rattle.dv_change.specs.Work.{owed_by};
 
 use crate::change::Change;
@@ -114,14 +114,6 @@ impl<O: Operator> Turn for Keeping<O> {
             }
         }
     }
-
-    fn fill(&mut self, changes: Vec<Change>) -> Result<Vec<Change>, NoMemory> {
-        let all = take_in_all(&mut self.rows, changes)?;
-        let told = self.operator.fill(all)?;
-        let mut made = Vec::new(self.alloc);
-        push_changes(told, &mut made)?;
-        Ok(made)
-    }
 }
 
 /// Takes a change into the list at the place.
@@ -137,23 +129,6 @@ pub(crate) fn take_in_at(
     ensures told { IfOk result (λ taken. taken ≡ with_old (list_at place (map (λ m. m.entries) lists.old)) change) }
 {
     take_in(&mut lists[place], change)
-}
-
-/// Takes the changes into the rows, one after the other.
-pub(crate) fn take_in_all(
-    rows: &mut BTreeMap<Pos, Document>,
-    changes: Vec<Change>,
-) -> Result<Vec<Taken>, NoMemory>
-    requires { IsPositioned rows.old.entries }
-    ensures exact { OnOk result (AllByRecursion IsExactChange changes.items) }
-    ensures rows { OnOk result (rows.new.entries ≡ with_changes rows.old.entries changes.items) }
-    ensures told { IfOk result (λ all. all.items ≡ told_along rows.old.entries changes.items) }
-{
-    let mut all = Vec::with_capacity(*changes.allocator(), changes.len())?;
-    'changes: for change in changes {
-        all.push(take_in(rows, change)?)?;
-    }
-    Ok(all)
 }
 
 /// Puts the changes that are told behind the others.

@@ -3,13 +3,11 @@
 
 mod chain;
 mod change;
-mod filling;
 mod handing;
 mod input;
 mod keeping;
 pub mod laws;
 mod lent;
-mod live;
 mod live_rows;
 mod operator;
 mod operators;
@@ -26,7 +24,6 @@ pub use change::Change;
 pub use handing::{hand_on, hand_over};
 pub use input::Input;
 pub use keeping::Keeping;
-pub use live::Live;
 pub use live_rows::LiveRows;
 pub use operator::Operator;
 pub use operators::Operators;

@@ -4,12 +4,12 @@ ghost use Rattle.std.specs.Prelude.{◌≡◌, ◌↔◌, ◌++◌, List, [], fi
 ghost use Rattle.std.specs.BTreeMap.Range.{IsLeBy, IsLtBy, range_contains};
 ghost use Rattle.std.specs.List.{AllByRecursion};
 ghost use Rattle.std.specs.Range.Bound.{IsForward};
-ghost use Rattle.dv_change.specs.Changes.{Positioned, forget, with_changes};
+ghost use Rattle.dv_change.specs.Changes.{Positioned, forget, with_change, with_changes};
 ghost use Rattle.dv_change.specs.Inner.Beginning.{BeginsWith};
 ghost use Rattle.dv_change.specs.Inner.Changes.{IsExactChange, IsPositioned};
 ghost use Rattle.dv_change.specs.Inner.Fed.{AreFresh};
 ghost use Rattle.dv_change.specs.Inner.LiveRows.{IsLive, IsLiveRows, lists_of};
-ghost use Rattle.dv_change.specs.Inner.Told.{changes_told, input_rows, with_old};
+ghost use Rattle.dv_change.specs.Inner.Told.{changes_told, input_rows, told_along, with_old};
 ghost use Rattle.dv_change.specs.Inner.Work.{forms_after};
 ghost use Rattle.dv_change.specs.Inputs.{HasInput, left_after, others_after};
 ghost use Rattle.dv_change.specs.Positions.{pos_order};
@@ -18,8 +18,7 @@ ghost use Rattle.dv_change.specs.Work.{Form, pass_in, work_in};
 
 use crate::change::Change;
 use crate::input::Input;
-use crate::keeping::{take_in_all, take_in_at};
-use crate::live::put;
+use crate::keeping::take_in_at;
 use crate::operator::Operator;
 use crate::operators::Operators;
 use crate::position::Pos;
@@ -193,6 +192,23 @@ fn take_in_input(
     }
 }
 
+/// Takes the changes into the rows, one after the other.
+fn take_in_all(
+    rows: &mut BTreeMap<Pos, Document>,
+    changes: Vec<Change>,
+) -> Result<Vec<Taken>, NoMemory>
+    requires { IsPositioned rows.old.entries }
+    ensures exact { OnOk result (AllByRecursion IsExactChange changes.items) }
+    ensures rows { OnOk result (rows.new.entries ≡ with_changes rows.old.entries changes.items) }
+    ensures told { IfOk result (λ all. all.items ≡ told_along rows.old.entries changes.items) }
+{
+    let mut all = Vec::with_capacity(*changes.allocator(), changes.len())?;
+    'changes: for change in changes {
+        all.push(take_in(rows, change)?)?;
+    }
+    Ok(all)
+}
+
 /// Carries out what is told, one change after the other, and puts the changes behind what is in `told`.
 fn put_all(
     rows: &mut BTreeMap<Pos, Document>,
@@ -217,6 +233,17 @@ fn put_each(rows: &mut BTreeMap<Pos, Document>, all: Vec<Taken>) -> Result<(), N
 {
     'all: for taken in all {
         put(rows, taken.into_change())?;
+    }
+    Ok(())
+}
+
+/// Carries the change out.
+fn put(rows: &mut BTreeMap<Pos, Document>, change: Change) -> Result<(), NoMemory>
+    ensures { OnOk result (rows.new.entries ≡ with_change rows.old.entries change) }
+{
+    match change {
+        Change::Put { pos, row } => drop(rows.insert(pos, row)?),
+        Change::Gone { pos } => drop(rows.remove(&pos)),
     }
     Ok(())
 }

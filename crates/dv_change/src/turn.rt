@@ -1,9 +1,9 @@
 //! Stages that are kept by changes.
 
-ghost use Rattle.std.specs.Prelude.{◌≡◌, ◌≤◌, ◌+◌, ◌++◌, List, [], length, IfOk, OnErr, OnOk};
+ghost use Rattle.std.specs.Prelude.{◌≡◌, ◌≤◌, ◌+◌, ◌++◌, List, [], length, OnErr, OnOk};
 ghost use Rattle.std.specs.List.{AllByRecursion};
 ghost use Rattle.dv_change.specs.Inner.Beginning.{BeginsWith};
-ghost use Rattle.dv_change.specs.Changes.{Positioned, with_changes};
+ghost use Rattle.dv_change.specs.Changes.{Positioned};
 ghost use Rattle.dv_change.specs.Inner.Changes.{HaveOneLength, IsPositioned};
 ghost use Rattle.dv_change.specs.Inputs.{HasInput, left_after, others_after};
 ghost use Rattle.dv_change.specs.Raised.{raised};
@@ -52,25 +52,6 @@ pub trait Turn {
         ensures ticks { OnOk result (ticks.new ≡ raised ticks.old (1 + length (owed_by input change (makes self.old) (others self.old) (left self.old)))) }
         ensures begins { OnErr result (BeginsWith out.new.items out.old.items) }
         ensures no_fewer { OnErr result (ticks.old ≤ ticks.new) };
-
-    /// Takes in its first rows, by the changes that put them in. Returns changes that lead to what it makes of these rows; counts
-    /// nothing. Fails with `NoMemory` when memory runs out; then it is spent and may only be dropped.
-    fn fill(&mut self, changes: Vec<Change>) -> Result<Vec<Change>, NoMemory>
-        requires sound { sound self.old }
-        requires empty { left self.old ≡ [] }
-        ensures sound { OnOk result (sound self.new) }
-        ensures makes { OnOk result (makes self.new ≡ makes self.old) }
-        ensures left { OnOk result (left self.new ≡ with_changes [] changes.items) }
-        ensures others { OnOk result (others self.new ≡ others self.old) }
-        ensures made { IfOk result (λ made. with_changes [] made.items ≡ makes self.old (others self.old) (with_changes [] changes.items)) }
-    {
-        let mut made = Vec::new(*changes.allocator());
-        let mut ticks = Ticks::new();
-        'changes: for change in changes {
-            self.change(Input::Left, change, &mut ticks, &mut made)?;
-        }
-        Ok(made)
-    }
 
     /// What it has taken in stands at exact positions, in their order.
     ghost positioned: { (t : Self) → sound t → IsPositioned (left t) × AllByRecursion (λ rows. IsPositioned rows) (others t) };

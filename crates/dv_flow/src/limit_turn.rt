@@ -57,8 +57,4 @@ impl Turn for LimitTurn {
     ) -> Result<(), NoMemory> {
         self.keeping.change(input, change, ticks, out)
     }
-
-    fn fill(&mut self, changes: Vec<Change>) -> Result<Vec<Change>, NoMemory> {
-        self.keeping.fill(changes)
-    }
 }

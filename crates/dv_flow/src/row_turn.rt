@@ -58,8 +58,4 @@ impl<S: ByRow> Turn for RowTurn<S> {
     ) -> Result<(), NoMemory> {
         self.keeping.change(input, change, ticks, out)
     }
-
-    fn fill(&mut self, changes: Vec<Change>) -> Result<Vec<Change>, NoMemory> {
-        self.keeping.fill(changes)
-    }
 }

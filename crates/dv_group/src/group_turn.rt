@@ -62,8 +62,4 @@ impl Turn for GroupTurn {
     ) -> Result<(), NoMemory> {
         self.keeping.change(input, change, ticks, out)
     }
-
-    fn fill(&mut self, changes: Vec<Change>) -> Result<Vec<Change>, NoMemory> {
-        self.keeping.fill(changes)
-    }
 }

@@ -66,8 +66,4 @@ impl Turn for LookupTurn {
     ) -> Result<(), NoMemory> {
         self.keeping.change(input, change, ticks, out)
     }
-
-    fn fill(&mut self, changes: Vec<Change>) -> Result<Vec<Change>, NoMemory> {
-        self.keeping.fill(changes)
-    }
 }

@@ -1,7 +1,7 @@
 -- Turns one behind the other, each of which has taken in what the one before it makes.
 use Rattle.std.specs.Prelude.{◌≡◌, List, [], ◌∷◌, ⊤}
 use Rattle.dv_change.specs.Changes.{Positioned}
-use Rattle.dv_change.specs.Work.{Form, through_forms}
+use Rattle.dv_change.specs.Work.{Form}
 
 -- of turns: what they have taken in, the lists that they look into, what they make of both, and that they aren't spent
 module _ {T : Type 0} (left : T → Positioned) (others : T → List Positioned) (makes : T → List Positioned → Positioned → Positioned) (sound : T → Type 0) where
@@ -24,7 +24,3 @@ module _ {T : Type 0} (left : T → Positioned) (others : T → List Positioned)
   abbrev pub last_outs : List T → Positioned → Positioned
   last_outs [] rows = rows
   last_outs (t ∷ ts) rows = last_outs ts (makes t (others t) (left t))
-
-  -- the turns have taken in these rows, and the others are what comes out of the last one
-  abbrev pub HasTaken : List T → Positioned → Positioned → Type 0
-  HasTaken ts out rows = IsLinked ts rows × (out ≡ through_forms (forms_of ts) rows)

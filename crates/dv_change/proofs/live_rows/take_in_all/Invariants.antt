@@ -5,7 +5,7 @@ use Rattle.std.specs.Vec.Iter.{into_iter_items}
 use Rattle.dv_change.specs.Changes.{with_changes}
 use Rattle.dv_change.specs.Inner.Changes.{IsExactChange, IsPositioned}
 use Rattle.dv_change.specs.Inner.Told.{told_along}
-use Rattle.dv_change.proofs.keeping.take_in_all.Given as goal
+use Rattle.dv_change.proofs.live_rows.take_in_all.Given as goal
 
 abbrev pub invariant-changes : goal.invariant-changes
 invariant-changes l =
