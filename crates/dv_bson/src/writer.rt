@@ -1,7 +1,7 @@
 //! Documents as bytes.
 
 ghost use Rattle.std.specs.Prelude.{◌≡◌, ℕ, ◌+◌, ◌<◌, ◌≤◌, ◌↔◌, ◌⊎◌, ◌++◌, List as Entries, length, OnOk, IfErr, OnErr, IsErrOf};
-ghost use Rattle.dv_value.specs.Tree.{fields_of, elements_of};
+ghost use Rattle.dv_value.specs.Tree.{elements_of};
 ghost use Rattle.dv_value.specs.Tree as trees;
 ghost use Rattle.dv_value.specs.Spelling.{payload, spelling, framed, counted, tagged, element_spelling, kind_of, Spells};
 ghost use Rattle.dv_value.specs.View.{tree};

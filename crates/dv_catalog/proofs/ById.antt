@@ -12,7 +12,7 @@ use Rattle.std.proofs.lemmas.Slice.Eq.{bytes_eq-Decides}
 use Rattle.dv_value.specs.Names.{value_under}
 use Rattle.dv_value.specs.Tree.{Tree, Field, array, fields_of, list_of_fields}
 use Rattle.dv_order.specs.Order.{canon}
-use Rattle.dv_order.specs.Key.{KeyTree, value, key_order}
+use Rattle.dv_order.specs.Key.{value, key_order}
 use Rattle.dv_order.specs.Inner.KeyLaws.{key_order_total}
 use Rattle.dv_candidates.specs.Candidates.{candidates, whole}
 use Rattle.dv_path.specs.declared.direction.Direction.{Direction}

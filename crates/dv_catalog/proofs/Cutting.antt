@@ -1,5 +1,5 @@
 -- Statements that are cut.
-use Rattle.std.proofs.Common.{◌≡◌, ◌≤◌, ◌⊎◌, inl, inr, ℕ, List, [], length, map, take, Result, Err, refl, sym, ap, subst, ◌∙◌}
+use Rattle.std.proofs.Common.{◌≡◌, ◌≤◌, ◌⊎◌, inl, inr, ℕ, List, [], length, take, Result, Err, refl, sym, ap, subst, ◌∙◌}
 use Rattle.dv_refusal.specs.declared.refusal.Refusal.{Refusal}
 use Rattle.dv_refusal.specs.declared.refusal.Refusal.TheVariants.{WantOfMemory}
 use Rattle.dv_catalog.specs.declared.counts.Counted.{Counted}

@@ -1,5 +1,5 @@
 -- The changes of a collection as changes of rows at positions, which views take in.
-use Rattle.std.specs.Prelude.{◌≡◌, ◌⊎◌, ℕ, false, List, [], ◌∷◌, map}
+use Rattle.std.specs.Prelude.{[], ◌∷◌}
 use Rattle.dv_change.specs.declared.change.Change as flow
 use Rattle.dv_change.specs.declared.change.Change.TheVariants.{Put, Gone}
 use Rattle.dv_change.specs.declared.position.Part.TheVariants.{Up}

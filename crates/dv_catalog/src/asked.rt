@@ -1,6 +1,6 @@
 //! Which rows of a view a filter asks for, by their `_id`s.
 
-ghost use Rattle.std.specs.Prelude.{◌≡◌, ◌∷◌, [], List, true, map, IfOk};
+ghost use Rattle.std.specs.Prelude.{◌≡◌, List, true, map, IfOk};
 ghost use Rattle.std.specs.List.{AllByRecursion};
 ghost use Rattle.std.specs.Option.{option_map};
 ghost use Rattle.dv_value.specs.Tree.{Field};

@@ -1,6 +1,6 @@
 //! Stages behind rows that were found.
 
-ghost use Rattle.std.specs.Prelude.{◌≡◌, ◌≤◌, ◌∷◌, [], length, take, true, IfOk};
+ghost use Rattle.std.specs.Prelude.{◌≡◌, ◌≤◌, length, take, true, IfOk};
 ghost use Rattle.std.specs.List.{list_all};
 ghost use Rattle.dv_catalog.specs.Inner.Behind.{looks_nowhere};
 ghost use Rattle.dv_catalog.specs.Inner.CatalogParts.{rows_kept};

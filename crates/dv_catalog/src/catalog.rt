@@ -55,7 +55,7 @@ impl Model for Catalog {
 impl Catalog {
     ghost use Rattle.std.specs.FinMap as finite;
     ghost use Rattle.std.specs.Option.{option_map};
-    ghost use Rattle.std.specs.Prelude.{◌≡◌, ◌≤◌, ◌∷◌, [], true, false, map, take, Ok, Some, IfOk, OnOk, OnErr, length};
+    ghost use Rattle.std.specs.Prelude.{◌≡◌, ◌≤◌, ◌∷◌, [], true, false, map, take, Ok, Some, IfOk, OnErr, length};
     ghost use Rattle.dv_coll.specs.Collection.{HasId};
     ghost use Rattle.dv_command.specs.Inner.View.{aggregate_seen, create_seen, find_seen, updating_seen, view_on_seen};
     ghost use Rattle.dv_catalog.specs.Changes.{apply};

@@ -1,6 +1,6 @@
 -- What holds of a parsed command if the fields of its body and of the lists beside it are valid: its documents, names and pipelines are
 -- valid too.
-use Rattle.std.specs.Prelude.{◌≡◌, ◌≤◌, ℕ, ℤ, List, Option, Some, None, length, Ok, ⊤}
+use Rattle.std.specs.Prelude.{◌≡◌, ◌≤◌, ℕ, List, length, Ok}
 use Rattle.std.specs.List.{AllByRecursion}
 use Rattle.std.specs.Str.{IsUtf8}
 use Rattle.dv_value.specs.Spelling.{AreFields, AreElements}

@@ -1,6 +1,6 @@
 //! The documents of a command's array, or of a list beside its body.
 
-ghost use Rattle.std.specs.Prelude.{◌≡◌, ◌↔◌, Ok, Err, MatchResult, IsTrue, length};
+ghost use Rattle.std.specs.Prelude.{◌≡◌, Ok, Err, MatchResult, length};
 ghost use Rattle.std.specs.Iterator.{YieldsFirstRef, item_count};
 ghost use Rattle.std.specs.List.{list_all};
 ghost use Rattle.dv_value.specs.Tree.{elements_of};

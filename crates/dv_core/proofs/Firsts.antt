@@ -1,5 +1,5 @@
 -- First batches of few rows.
-use Rattle.std.proofs.Common.{◌≡◌, ℕ, ◌<◌, ◌≤◌, List, [], ◌∷◌, drop, length, refl, sym, arith}
+use Rattle.std.proofs.Common.{◌≡◌, ℕ, ◌<◌, ◌≤◌, List, [], ◌∷◌, length, refl, sym, arith}
 use Rattle.std.proofs.lemmas.Bool.{le-leb}
 use Rattle.dv_value.specs.Tree.{Field}
 use Rattle.dv_cursor.specs.Batch.{batch, rows_behind}

@@ -24,7 +24,7 @@ use Rattle.dv_core.specs.Statements.{WriteCounts, Written, carry_out}
 use Rattle.dv_core.specs.Marks.{AreMarked, AreMarkedAll, AreMarkedByWrite, AreMarkedForWant, marks_where_read, read_by}
 use Rattle.dv_core.specs.Step.{Answer, answered, read_answer, write_answer, on_catalog, on_cursors, answer_to, replying, Cut, MemoryStep, TellsOfWant, Wants}
 use Rattle.dv_core.specs.Inner.StepParts.{Ends, GivesAndLeaves, IsMadeOf, Refuses, StandRead, TellsReply, TellsOrNot, reply_told}
-use Rattle.dv_core.specs.Told.{batch_told, outcome_told}
+use Rattle.dv_core.specs.Told.{outcome_told}
 use Rattle.dv_core.specs.Inner.WriteParts.{CarriesOutWrite, CutsWrite, WritesOrCuts, WritesOn, WritesWhere}
 use Rattle.dv_core.specs.Writes.{write_by}
 use Rattle.dv_core.proofs.Marking.{where_read}

@@ -1,5 +1,5 @@
 -- The result of a command before its reply is built: a batch of rows, or an outcome.
-use Rattle.std.specs.Prelude.{◌≡◌, ◌<◌, ◌^◌, Bool, true, false, List, ℕ, Result, Ok, Err, codes, map, ⊤}
+use Rattle.std.specs.Prelude.{◌<◌, ◌^◌, Bool, true, false, List, ℕ, codes, map, ⊤}
 use Rattle.std.specs.String.{string_bytes}
 use Rattle.dv_value.specs.Tree.{Field}
 use Rattle.dv_command.specs.Replies.{batch_reply, document_of}
@@ -8,7 +8,6 @@ use Rattle.dv_core.specs.declared.outcome.Outcome.{Outcome}
 use Rattle.dv_core.specs.declared.outcome.Outcome.TheVariants.{Reply}
 use Rattle.dv_core.specs.declared.outcome.Told.{Told}
 use Rattle.dv_core.specs.declared.outcome.Told.TheVariants as tells
-use Rattle.dv_refusal.specs.declared.refusal.Refusal.{Refusal}
 
 -- the name of the rows in a reply: `firstBatch` or `nextBatch`
 abbrev pub batch_name : Bool → List ℕ

@@ -22,7 +22,7 @@ ghost use Rattle.dv_core.specs.Sound.{HasSpelling, IsOrderly, IsSound, IsSoundCo
 ghost use Rattle.dv_catalog.specs.State.{Namespaces, documents_of, is_view, rows_of};
 ghost use Rattle.dv_core.specs.State.{State, empty_store_state};
 ghost use Rattle.std.specs.Str.{bytes_eq};
-ghost use Rattle.dv_core.specs.Runs.{Move, Shows, carries, stands, wants, rows_told, state_after_move, state_behind_all, tells_last};
+ghost use Rattle.dv_core.specs.Runs.{Move, Shows, carries, stands, wants, rows_told, state_behind_all, tells_last};
 ghost use Rattle.dv_cursor.specs.Batch.{rows_behind};
 ghost use Rattle.dv_cursor.specs.Cursors.{Cursors, free_id, rows_to_come};
 ghost use Rattle.dv_catalog.specs.Scan.{scan};

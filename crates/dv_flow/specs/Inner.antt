@@ -7,4 +7,3 @@ pub mod Projecting
 pub mod Unwinding
 pub mod Sorting
 pub mod Limiting
-pub mod Simple

@@ -9,7 +9,6 @@ mod limit_turn;
 mod matching;
 mod project;
 mod row_turn;
-mod simple;
 mod sort;
 mod unwind;
 
@@ -20,6 +19,5 @@ pub use limit_turn::LimitTurn;
 pub use matching::MatchTurn;
 pub use project::ProjectTurn;
 pub use row_turn::RowTurn;
-pub use simple::SimpleTurn;
 pub use sort::SortTurn;
 pub use unwind::UnwindTurn;

@@ -1,6 +1,6 @@
 //! `$limit`, told of each change.
 
-ghost use Rattle.std.specs.Prelude.{◌≡◌, ◌+◌, ◌++◌, ◌≤◌, ◌∷◌, false, [], length, IfOk, IsTrue, OnErr, OnOk};
+ghost use Rattle.std.specs.Prelude.{◌≡◌, ◌+◌, ◌++◌, ◌≤◌, false, [], length, IfOk, IsTrue, OnErr, OnOk};
 ghost use Rattle.dv_change.specs.Inner.Beginning.{BeginsWith};
 ghost use Rattle.dv_change.specs.Changes.{at, with_change};
 ghost use Rattle.dv_change.specs.Difference.{diff};

@@ -1,5 +1,5 @@
 -- Documents whose `_id`s are gathered by their keys: among them are all that match a filter.
-use Rattle.std.proofs.Common.{◌≡◌, ◌∙◌, ◌↔◌, ℕ, List, [], ◌∷◌, map, refl, ap, sym, Bool, true, false, cond, ◌||◌, Some, filter, slice_get}
+use Rattle.std.proofs.Common.{◌≡◌, ◌∙◌, ◌↔◌, ℕ, List, [], ◌∷◌, map, refl, ap, sym, Bool, true, false, cond, Some, filter, slice_get}
 use Rattle.std.specs.List.{AllByRecursion, flat_map, list_any}
 use Rattle.std.specs.Prelude.{codes}
 use Rattle.std.specs.Option.{option_map}

@@ -1,9 +1,8 @@
 -- A collection with its indexes, as users see it: documents in the order of `_id`, and indexes in the order of creation. The entries of
 -- the indexes aren't part of this: they show only in what a find costs.
-use Rattle.std.specs.Prelude.{ℕ, Bool, not, ◌&&◌, List, [], ◌∷◌, map, Option, None, Some, slice_get, refl}
+use Rattle.std.specs.Prelude.{ℕ, Bool, not, ◌&&◌, List, [], ◌∷◌, map, Option, None, Some, slice_get}
 use Rattle.std.specs.List.{filter}
 use Rattle.std.specs.Option.{option_map}
-use Rattle.std.specs.Coded.{Coded, coded_ℕ, coded_list, coded×, code_by}
 use Rattle.std.specs.Str.{bytes_eq}
 use Rattle.dv_value.specs.Tree.{Field}
 use Rattle.dv_match.specs.Filter.{Condition, Members}

@@ -1,6 +1,6 @@
 -- How many documents an index has within given bounds, defined by the documents alone: an index has an entry for each key of each
 -- document, and no others.
-use Rattle.std.specs.Prelude.{◌≡◌, ℕ, Bool, false, List, length, Option, None, Some}
+use Rattle.std.specs.Prelude.{ℕ, List, length, Option, None, Some}
 use Rattle.std.specs.List.{count_by, slice_get}
 use Rattle.dv_value.specs.Tree.{Field}
 use Rattle.dv_match.specs.Filter.{Condition}

@@ -1,11 +1,6 @@
 -- What `$lookup` returns for rows at positions.
-use Rattle.std.specs.Prelude.{◌≡◌, Bool, true, false, cond, List, [], ◌∷◌, length, map, Some, refl}
-use Rattle.std.proofs.Common.{ap, subst, sym}
-use Rattle.std.specs.List.{AllByRecursion}
-use Rattle.std.specs.List.Sorted.{IsStrictlySortedBy}
-use Rattle.std.specs.Map.{keys_of}
-use Rattle.std.specs.Option.{option_map}
-use Rattle.std.specs.Ordering.{is_eq}
+use Rattle.std.specs.Prelude.{List, map}
+use Rattle.std.proofs.Common.{ap}
 use Rattle.dv_gather.specs.declared.lookup.Lookup.{Lookup}
 use Rattle.dv_gather.specs.Lookups.{joined_row}
 use Rattle.dv_change.specs.Changes.{Positioned, forget}

@@ -1,7 +1,5 @@
 -- The operator for `$lookup`: its inputs.
-use Rattle.std.specs.Prelude.{◌≡◌, Bool, false, List, [], ◌∷◌, Option, None, Some, map}
-use Rattle.std.proofs.Common.{subst, sym}
-use Rattle.std.specs.List.{AllByRecursion}
+use Rattle.std.specs.Prelude.{List, [], ◌∷◌}
 use Rattle.dv_change.specs.Changes.{Positioned}
 
 -- the first of the lists; no rows if there is none

@@ -1,5 +1,5 @@
 -- A key that is the only one of a document that matches a filter is in all bounds that the filter sets.
-use Rattle.std.proofs.Common.{◌≡◌, ◌∙◌, ◌↔◌, ℕ, List, refl, ap, sym, Bool, true, false, cond, ◌&&◌, Some}
+use Rattle.std.proofs.Common.{◌≡◌, ◌∙◌, ◌↔◌, ℕ, List, refl, ap, sym, Bool, true, false, cond, ◌&&◌}
 use Rattle.std.specs.Ordering.{is_eq}
 use Rattle.std.specs.declared.cmp.Ordering.TheVariants.{Equal}
 use Rattle.dv_value.specs.Tree.{Tree, Field}

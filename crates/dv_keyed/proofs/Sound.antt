@@ -10,7 +10,7 @@ use Rattle.std.proofs.lemmas.Bool.{or_left, or_right}
 use Rattle.std.proofs.lemmas.Cmp.{tied_itself}
 use Rattle.dv_value.specs.Tree.{Tree, Field}
 use Rattle.dv_order.specs.Order.{canon, class, order}
-use Rattle.dv_order.specs.Key.{KeyTree, value, key_order}
+use Rattle.dv_order.specs.Key.{value, key_order}
 use Rattle.dv_order.specs.Inner.KeyLaws.{key_order_total}
 use Rattle.dv_candidates.specs.Candidates.{Candidate, leaves, or_null, whole}
 use Rattle.dv_path.specs.LeafKeys.{is_key_of, is_leaf_key, is_some_key, leaf_values}

@@ -1,7 +1,6 @@
 -- Indexes: each has a name, a path, whether it is unique, and entries: a key under the path, and the `_id` of a document that has it.
 -- The first index of a collection is on `_id`; it has no entries, since the documents themselves are in the order of `_id`.
-use Rattle.std.specs.Prelude.{◌≡◌, ℕ, Bool, false, List, [], ◌∷◌, codes, refl}
-use Rattle.std.specs.Coded.{Coded, coded_bool, coded_ℕ, coded_list, coded×, code_by}
+use Rattle.std.specs.Prelude.{ℕ, Bool, false, List, [], ◌∷◌, codes}
 
 -- what users see of an index; in a unique one no two documents have the same key
 pub record IndexForm : Type 0 where

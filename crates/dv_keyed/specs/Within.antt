@@ -1,8 +1,7 @@
 -- The bounds that a condition sets, and what is within them.
-use Rattle.std.specs.Prelude.{ℕ, ◌&&◌, ◌==◌, Bool, false, List}
+use Rattle.std.specs.Prelude.{ℕ, Bool, false, List}
 use Rattle.std.specs.List.{list_any}
 use Rattle.std.specs.declared.cmp.Ordering.{Ordering}
-use Rattle.std.specs.Ordering.{is_gt, is_ge, is_lt, is_le}
 use Rattle.dv_value.specs.Tree.{Field}
 use Rattle.dv_candidates.specs.Candidates.{Candidate, leaves}
 use Rattle.dv_match.specs.Filter.{Condition, equal, among, in_range}

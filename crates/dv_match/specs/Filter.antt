@@ -1,5 +1,5 @@
 -- Parsed filters (MongoDB manual, "Query and Projection Operators"). The choice of operators is this server's own.
-use Rattle.std.specs.Prelude.{ℕ, suc, ◌+◌, Bool, List, [], ◌∷◌}
+use Rattle.std.specs.Prelude.{ℕ, Bool, List, [], ◌∷◌}
 use Rattle.dv_value.specs.Tree.{Tree}
 use Rattle.dv_match.specs.declared.range.Range.{Range}
 

@@ -8,7 +8,7 @@ ghost use Rattle.dv_candidates.specs.Candidates.{Candidate, whole, leaves};
 ghost use Rattle.dv_match.specs.Inner.Examples.{answer};
 ghost use Rattle.dv_value.specs.Short.{one, doc, list, int};
 ghost use Rattle.dv_match.specs.declared.range.Range.{Range};
-ghost use Rattle.dv_match.specs.Filter.{Members, no_members, more_members, none_of, no_filters, more_filters, Conditions, equal, unequal, among, not_among, unmet, in_range, no_conditions, more_conditions};
+ghost use Rattle.dv_match.specs.Filter.{Members, no_members, none_of, no_filters, more_filters, Conditions, equal, unequal, among, not_among, unmet, in_range, no_conditions, more_conditions};
 ghost use Rattle.dv_match.specs.Match.{is_in_range, matches, matches_member, meets, meets_all};
 ghost use Rattle.dv_match.specs.Straight.{meets_no_array, end_of};
 

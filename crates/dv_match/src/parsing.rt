@@ -1,9 +1,7 @@
 //! Filters from documents.
 
-ghost use Rattle.std.specs.Prelude.{◌≡◌};
 ghost use Rattle.dv_value.specs.Tree.{document as doc, fields_of, elements_of};
 ghost use Rattle.dv_value.specs.View.{tree};
-ghost use Rattle.dv_candidates.specs.Path.{path_of};
 ghost use Rattle.dv_match.specs.Parsing as defined;
 ghost use Rattle.dv_match.specs.Parsing.{Gives};
 ghost use Rattle.dv_match.specs.View.{member, condition, test};

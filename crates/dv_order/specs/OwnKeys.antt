@@ -1,7 +1,5 @@
 -- Keys that exist: the keys of values, and the key of no element.
 use Rattle.std.specs.Prelude.{◌≡◌, Option}
-use Rattle.std.proofs.Common.{sym, ◌∙◌}
-use Rattle.std.specs.declared.cmp.Ordering.TheVariants.{Equal}
 use Rattle.dv_value.specs.Tree.{Tree}
 use Rattle.dv_order.specs.Key.{KeyTree, key_at}
 

@@ -1,6 +1,6 @@
 //! Codes of keys: a class, and two numbers that rise with the key inside its class.
 
-ghost use Rattle.std.specs.Prelude.{ℕ, suc, ◌+◌, ◌*◌, ◌≡◌, ◌<◌, ◌≤◌, ◌^◌, ◌++◌, true};
+ghost use Rattle.std.specs.Prelude.{ℕ, suc, ◌+◌, ◌*◌, ◌≡◌, ◌<◌, ◌≤◌, ◌^◌, ◌++◌};
 ghost use Rattle.std.specs.Int.{to_be_bytes, w32, w64};
 ghost use Rattle.dv_order.specs.Codes.{after, integer_at, lead, offset};
 

@@ -1,5 +1,5 @@
 -- Names that are looked at from the front.
-use Rattle.std.proofs.Common.{◌≡◌, ◌∙◌, ap, sym, List, [], ℕ, ◌+◌, ◌<◌, ◌≤◌, ◌||◌, length, drop, map, Some, None, slice_get, slice_index_or, false, drop_of_length-le}
+use Rattle.std.proofs.Common.{◌≡◌, ap, sym, List, [], ℕ, ◌+◌, ◌<◌, ◌≤◌, ◌||◌, length, drop, map, Some, None, slice_get, slice_index_or, false, drop_of_length-le}
 use Rattle.std.specs.List.{list_any}
 use Rattle.std.proofs.lemmas.List.{length-map}
 use Rattle.dv_value.specs.declared.value.Value.{Value}

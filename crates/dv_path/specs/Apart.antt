@@ -1,5 +1,5 @@
 -- Sets of paths in which no path equals or begins another.
-use Rattle.std.specs.Prelude.{◌≡◌, ◌≢◌, ◌⊎◌, ⊤, ℕ, List, [], ◌∷◌, Option, Some, None, Bool, true, false}
+use Rattle.std.specs.Prelude.{◌≡◌, ◌≢◌, ◌⊎◌, ⊤, ℕ, List, [], ◌∷◌}
 use Rattle.dv_value.specs.Tree.{Field}
 use Rattle.dv_path.specs.Removing.{remove}
 

@@ -1,6 +1,6 @@
 //! What a document is sorted by.
 
-ghost use Rattle.std.specs.Prelude.{◌≡◌, ◌++◌, Option, Some, None, fold, map, IfOk};
+ghost use Rattle.std.specs.Prelude.{◌≡◌, Option, Some, None, fold, IfOk};
 ghost use Rattle.dv_path.specs.SortKey.{keys_of, array_keys, earlier_with};
 ghost use Rattle.dv_path.specs.SortKey as sorting;
 ghost use Rattle.dv_candidates.specs.View.{seen};

@@ -1,6 +1,5 @@
 -- The first documents in the order of a sort, as documents arrive one at a time.
-use Rattle.std.specs.Prelude.{◌≡◌, ℕ, Bool, true, false, List, [], Option, refl}
-use Rattle.std.specs.Coded.{Coded, code_by, coded×, coded_list, coded_ℕ, coded_bool, coded_option}
+use Rattle.std.specs.Prelude.{ℕ, List, [], Option}
 use Rattle.dv_value.specs.Tree.{Field}
 use Rattle.dv_path.specs.SortSpec.{Part}
 use Rattle.dv_sort.specs.Sorting.{stands_before, placed, stable, front}

@@ -1,6 +1,5 @@
 -- Rows in memory, which store the keys by which they are sorted.
-use Rattle.std.specs.Prelude.{◌≡◌, Bool, List, ◌∷◌, length, map, All}
-use Rattle.std.specs.Ordering.{nat_cmp, is_lt, ordering_then}
+use Rattle.std.specs.Prelude.{List, map}
 use Rattle.std.specs.declared.cmp.Ordering.{Ordering}
 use Rattle.dv_value.specs.Tree.{Field}
 use Rattle.dv_sort.specs.declared.row.Row.{Row}

@@ -1,6 +1,6 @@
 //! What holds of documents in the order of a sort, each the contract of a function that does nothing.
 
-ghost use Rattle.std.specs.Prelude.{◌≡◌, ℕ, List, [], ◌∷◌, ◌++◌, Option, Some, take, min};
+ghost use Rattle.std.specs.Prelude.{◌≡◌, ℕ, List, [], ◌∷◌, ◌++◌, Option, Some, min};
 ghost use Rattle.std.specs.List.Sorted.{IsPermutation, IsSortedBy, IsStableBy};
 ghost use Rattle.dv_value.specs.Tree.{Field};
 ghost use Rattle.dv_path.specs.SortSpec.{Part};

@@ -5,6 +5,8 @@
 #[cfg(test)]
 mod changes;
 #[cfg(test)]
+mod simple_turn;
+#[cfg(test)]
 mod turns;
 #[cfg(test)]
 mod views;

@@ -4,10 +4,11 @@ ghost use Rattle.std.specs.List.{AllByRecursion};
 ghost use Rattle.std.specs.Prelude.{◌≡◌, [], IfOk, OnOk};
 ghost use Rattle.dv_change.specs.Inner.Linked.{IsLinked, first_left};
 
+use crate::simple_turn::SimpleTurn;
 use dv_change::{
-    Chain, Change, Input, Live, Ordered, Part, Pos, Taken, Ticks, Turn, hand_on, take_in,
+    Chain, Change, Input, Ordered, Part, Pos, Taken, Ticks, Turn, hand_on, take_in,
 };
-use dv_flow::{LimitTurn, MatchTurn, ProjectTurn, SimpleTurn, SortTurn, UnwindTurn};
+use dv_flow::{LimitTurn, MatchTurn, ProjectTurn, SortTurn, UnwindTurn};
 use dv_match::Filter;
 use dv_path::SortSpec;
 use dv_row::{Project, Unwind};
@@ -265,9 +266,9 @@ fn sort_by_a(alloc: Global, direction: i32) -> Result<SortSpec, Fail> {
 }
 
 /// The numbers under `a` in the rows.
-fn numbers(alloc: Global, live: &Live<SimpleTurn>) -> Result<Vec<i32>, Fail> {
+fn numbers(alloc: Global, rows: &BTreeMap<Pos, Document>) -> Result<Vec<i32>, Fail> {
     let mut found = Vec::new(alloc);
-    for row in live.rows() {
+    for row in rows.values() {
         if let Some(Value::Int32(number)) = row.get("a") {
             found.push(*number)?;
         }
@@ -275,29 +276,54 @@ fn numbers(alloc: Global, live: &Live<SimpleTurn>) -> Result<Vec<i32>, Fail> {
     Ok(found)
 }
 
-/// The rows behind a change of turns.
-fn kept<T: Turn + Drop>(alloc: Global, live: Live<T>, change: Change) -> Result<Live<T>, Fail>
-    requires { IsLinked T.left T.others T.makes T.sound live.chain (first_left T.left T.others T.makes T.sound live.chain) }
-    ensures { IfOk result (λ kept. IsLinked T.left T.others T.makes T.sound kept.chain (first_left T.left T.others T.makes T.sound kept.chain)) }
-{
-    Ok(live.take(Input::Left, change, &mut Vec::new(alloc))?)
+/// Carries the changes out on the rows, one after the other.
+fn carry_out(rows: &mut BTreeMap<Pos, Document>, changes: Vec<Change>) -> Result<(), Fail> {
+    for change in changes {
+        match change {
+            Change::Put { pos, row } => drop(rows.insert(pos, row)?),
+            Change::Gone { pos } => drop(rows.remove(&pos)),
+        }
+    }
+    Ok(())
 }
 
-/// The rows behind turns to which rows `{k: k, a: a}` come at numbers, one after the other, and the count behind each.
+/// The chain after a change, of which what it returns is carried out on the rows.
+fn changed<T: Turn + Drop>(
+    alloc: Global,
+    chain: Chain<T>,
+    change: Change,
+    ticks: &mut Ticks,
+    rows: &mut BTreeMap<Pos, Document>,
+) -> Result<Chain<T>, Fail>
+    requires linked { IsLinked T.left T.others T.makes T.sound chain (first_left T.left T.others T.makes T.sound chain) }
+    ensures linked { IfOk result (λ after. IsLinked T.left T.others T.makes T.sound after (first_left T.left T.others T.makes T.sound after)) }
+{
+    let mut chain = chain;
+    let mut out = Vec::new(alloc);
+    chain.change(Input::Left, change, ticks, &mut out)?;
+    carry_out(rows, out)?;
+    Ok(chain)
+}
+
+/// The rows that come out of a chain of turns when rows `{k: k, a: a}` are put at numbers, one after the other, and the count
+/// after each.
 fn counted<T: Turn + Drop>(
     alloc: Global,
     turns: Vec<T>,
-    rows: &[(u64, i32, i32)],
-) -> Result<(Live<T>, Vec<u64>), Fail>
+    puts: &[(u64, i32, i32)],
+) -> Result<(BTreeMap<Pos, Document>, Vec<u64>), Fail>
     requires { AllByRecursion (λ t. T.sound t × (T.left t ≡ [])) turns.items }
 {
-    let mut live = Live::new(alloc, turns);
+    let mut chain = Chain::new(alloc, turns);
+    let mut ticks = Ticks::new();
+    let mut rows = BTreeMap::new(alloc);
     let mut counts = Vec::new(alloc);
-    'rows: for (number, k, a) in rows {
-        live = kept(alloc, live, put_row(alloc, *number, *k, *a)?)?;
-        counts.push(live.ticks())?;
+    'puts: for (number, k, a) in puts {
+        let change = put_row(alloc, *number, *k, *a)?;
+        chain = changed(alloc, chain, change, &mut ticks, &mut rows)?;
+        counts.push(ticks.count())?;
     }
-    Ok((live, counts))
+    Ok((rows, counts))
 }
 
 #[test]
@@ -311,9 +337,9 @@ fn rows_are_kept_behind_a_match_a_sort_and_a_limit(rt: HostRuntime) -> Result<()
     turns.push(SimpleTurn::Sort(sort))?;
     turns.push(SimpleTurn::Limit(LimitTurn::new(alloc, 2)))?;
     let rows = [(1, 1, 1), (2, 1, 2), (3, 1, 3), (4, 0, 4), (3, 1, 0)];
-    let (live, counts) = counted(alloc, turns, &rows)?;
+    let (kept, counts) = counted(alloc, turns, &rows)?;
     assert_eq!(rt; counts.as_slice(), [6, 12, 19, 20, 29].as_slice());
-    assert_eq!(rt; numbers(alloc, &live)?.as_slice(), [2, 1].as_slice());
+    assert_eq!(rt; numbers(alloc, &kept)?.as_slice(), [2, 1].as_slice());
     Ok(())
 }
 
@@ -325,8 +351,8 @@ fn a_row_comes_back_behind_a_sort_and_a_limit(rt: HostRuntime) -> Result<(), Fai
     turns.push(SimpleTurn::Sort(sort))?;
     turns.push(SimpleTurn::Limit(LimitTurn::new(alloc, 2)))?;
     let rows = [(1, 1, 10), (2, 1, 20), (3, 1, 30), (1, 1, 15)];
-    let (live, counts) = counted(alloc, turns, &rows)?;
+    let (kept, counts) = counted(alloc, turns, &rows)?;
     assert_eq!(rt; counts.as_slice().get(2..), Some([11, 20].as_slice()));
-    assert_eq!(rt; numbers(alloc, &live)?.as_slice(), [15, 20].as_slice());
+    assert_eq!(rt; numbers(alloc, &kept)?.as_slice(), [15, 20].as_slice());
     Ok(())
 }

@@ -1,5 +1,5 @@
 -- What an update changes in a document: nothing, one field, or the whole document.
-use Rattle.std.specs.Prelude.{◌≡◌, ℕ, ◌+◌, ◌≤◌, Bool, true, false, List, [], ◌∷◌, length, Option, Some, None, Result, Ok, Err, codes, if◌then◌else◌}
+use Rattle.std.specs.Prelude.{ℕ, Bool, true, false, List, [], ◌∷◌, Option, Some, None, codes, if◌then◌else◌}
 use Rattle.std.specs.Str.{bytes_eq}
 use Rattle.dv_value.specs.FieldChange.{with_field_changed}
 use Rattle.dv_value.specs.Tree.{document, Field, fields_of}

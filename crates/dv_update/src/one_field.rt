@@ -1,6 +1,6 @@
 //! What an operator makes under a name, told by that field alone.
 
-ghost use Rattle.std.specs.Prelude.{◌≡◌, ◌∷◌, [], false, codes, IfOk, IfSome, Ok, Some};
+ghost use Rattle.std.specs.Prelude.{◌≡◌, false, codes, IfOk, IfSome, Ok, Some};
 ghost use Rattle.std.specs.Option.{option_map};
 ghost use Rattle.std.specs.Str.{bytes_eq};
 ghost use Rattle.dv_value.specs.Names.{value_under};

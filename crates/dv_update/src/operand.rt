@@ -1,6 +1,5 @@
 //! The operands of operators.
 
-ghost use Rattle.std.specs.Prelude.{◌≡◌};
 ghost use Rattle.dv_value.specs.Tree.{document as doc, fields_of};
 ghost use Rattle.dv_value.specs.View.{tree};
 ghost use Rattle.dv_update.specs.Parsing as defined;

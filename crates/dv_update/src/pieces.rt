@@ -1,9 +1,9 @@
 //! Documents in one piece, and how long they are.
 
-ghost use Rattle.std.specs.Prelude.{◌≡◌, ◌+◌, ◌-◌, ◌≤◌, ◌*◌, false, [], ◌∷◌, length, IfOk, IfSome, IsTrue};
+ghost use Rattle.std.specs.Prelude.{◌≡◌, ◌+◌, ◌-◌, ◌≤◌, ◌*◌, false, [], ◌∷◌, length, IfOk, IfSome};
 ghost use Rattle.std.proofs.Math.ListN.{replicate};
 ghost use Rattle.dv_value.specs.Names.{has_name, has_zero};
-ghost use Rattle.dv_value.specs.Spelling.{levels, payload, spelling};
+ghost use Rattle.dv_value.specs.Spelling.{payload, spelling};
 ghost use Rattle.dv_value.specs.Tree.{binary};
 ghost use Rattle.dv_value.specs.View.{tree};
 ghost use Rattle.dv_update.specs.Inner.StandIn as defined;

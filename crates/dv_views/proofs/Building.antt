@@ -1,8 +1,6 @@
 -- What a view keeps as it is made, over older views and documents.
-use Rattle.std.proofs.Common.{◌≡◌, ◌||◌, ℕ, Bool, true, false, List, [], ◌∷◌, ◌++◌, map, Option, Some, None, refl, ap, sym, subst, ◌∙◌}
-use Rattle.std.specs.Bool.{if◌then◌else◌}
+use Rattle.std.proofs.Common.{◌≡◌, ℕ, Bool, List, [], ◌∷◌, ◌++◌, map, Option, Some, None, refl, ap, sym, subst, ◌∙◌}
 use Rattle.std.specs.Str.{bytes_eq}
-use Rattle.std.proofs.lemmas.Slice.Eq.{bytes_eq-Decides}
 use Rattle.std.specs.Prelude.{Result, Ok, Err, IfOk}
 use Rattle.std.specs.List.{AllByRecursion}
 use Rattle.std.specs.List.Sorted.{IsStrictlySortedBy}
@@ -18,13 +16,12 @@ use Rattle.dv_change.specs.declared.live_rows.LiveRows.{LiveRows}
 use Rattle.dv_change.specs.Changes.{forget}
 use Rattle.dv_change.specs.Inner.Changes.{IsPositioned}
 use Rattle.dv_change.specs.Positions.{IsExact, pos_order}
-use Rattle.dv_pipe.specs.Sources.{Row, Source, lists_of, rows_under}
-use Rattle.dv_pipe.specs.Stages.{Lists, evaluated}
+use Rattle.dv_pipe.specs.Sources.{Row, lists_of}
+use Rattle.dv_pipe.specs.Stages.{Lists}
 use Rattle.dv_pipe.specs.declared.stage.Stage.{Stage}
 use Rattle.dv_views.specs.declared.stage_operator.StageOperator.{StageOperator}
 use Rattle.dv_views.specs.Inner.Filled.{lists_in_turn, rows_filled}
 use Rattle.dv_views.specs.Flow.{outs_made}
-use Rattle.dv_views.specs.Forms.{is_name_among, names_read}
 use Rattle.dv_views.specs.Inner.Ground.{IsBuilt, IsLive, IsLiveView, IsPlacedUnder, outs_below, outs_of_mark, outs_of_view}
 use Rattle.dv_views.specs.Inner.Keeping.{IsSoundLive, kept_seen, lists_of_all, taken_seen}
 use Rattle.dv_views.specs.Placed.{lookups_of, own_position, positioned}
@@ -35,7 +32,6 @@ use Rattle.dv_views.specs.Inner.Views.{AreInOrder, Views, view_under}
 use Rattle.dv_views.proofs.Filling.{all_filled, source_filled}
 use Rattle.dv_views.proofs.Made.{one_part}
 use Rattle.dv_views.proofs.Rolling.{lookups_count, rows_are_made}
-use Rattle.dv_views.proofs.Right.{UnreadDoesNotMatter, read_among}
 use Rattle.dv_views.proofs.Scratch.{ordered_outs}
 
 -- ---- documents in order stand at exact positions, in their order

@@ -20,7 +20,6 @@ use Rattle.dv_coll.specs.Collection.{HasId, IsAscending, IsNoArray, id_key}
 use Rattle.dv_coll.specs.Inner.Walk.{walked}
 use Rattle.dv_pipe.specs.Sources.{Row}
 use Rattle.dv_views.specs.Inner.ById.{AreAtIds, BeginsWithId}
-use Rattle.dv_views.specs.Placed.{own_position}
 use Rattle.dv_views.proofs.Made.{one_part}
 
 abbrev up : KeyTree → PosTree

@@ -1,9 +1,5 @@
 -- Views with the rows that they store, in creation order.
-use Rattle.std.specs.Prelude.{◌≡◌, ◌≤◌, ◌⊎◌, ℕ, Bool, true, false, not, List, [], ◌∷◌, map, filter, fold, length, Option, Some, None, Err, if◌then◌else◌, IfErr, ⊤}
-use Rattle.std.specs.List.{AllByRecursion, AllZip, IsDistinct, find, list_any}
-use Rattle.std.specs.Option.{option_and_then}
-use Rattle.std.specs.Str.{bytes_eq}
-use Rattle.std.specs.declared.result.Result.{Result}
+use Rattle.std.specs.Prelude.{ℕ, not, List, map, Option}
 use Rattle.dv_change.specs.Changes.{Positioned}
 use Rattle.dv_pipe.specs.declared.stage.Stage.{Stage}
 use Rattle.dv_pipe.specs.Sources.{Row}

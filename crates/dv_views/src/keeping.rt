@@ -1,6 +1,6 @@
 //! Rows that are kept by changes of what stages read.
 
-ghost use Rattle.std.specs.Prelude.{◌≡◌, ◌∷◌, [], length, map, IfOk};
+ghost use Rattle.std.specs.Prelude.{◌≡◌, ◌∷◌, [], map, IfOk};
 ghost use Rattle.std.specs.Option.{option_map};
 ghost use Rattle.dv_change.specs.Changes.{with_changes};
 ghost use Rattle.dv_change.specs.Inputs.{HasInput};

@@ -9,7 +9,7 @@ ghost use Rattle.dv_views.specs.Flow as flow;
 ghost use Rattle.dv_views.specs.Flow.{arrivals, arriving_at_lists};
 ghost use Rattle.dv_views.specs.Forms.{names_read};
 ghost use Rattle.dv_views.specs.Inner.Ground.{IsLiveView};
-ghost use Rattle.dv_views.specs.Inner.Keeping.{IsSoundLive, Turns, kept_seen, lists_of_all};
+ghost use Rattle.dv_views.specs.Inner.Keeping.{IsSoundLive, Turns, lists_of_all};
 ghost use Rattle.dv_views.specs.Inner.Older.{told_found, views_before};
 ghost use Rattle.dv_views.specs.Inner.Passing.{IsLostAt, IsTakenAt};
 ghost use Rattle.dv_views.specs.Placed as defined;

@@ -1,6 +1,6 @@
 //! Views in memory.
 
-ghost use Rattle.std.specs.Prelude.{◌≡◌, ◌≢◌, [], Some, None, List, IfErr, IfOk, IfSome, false, is_none, true};
+ghost use Rattle.std.specs.Prelude.{◌≡◌, [], Some, None, List, IfErr, IfOk, IfSome, is_none};
 ghost use Rattle.std.specs.Option.{option_map};
 ghost use Rattle.dv_pipe.specs.Stages.{is_read};
 ghost use Rattle.dv_views.specs.Inner.Keeping.{IsSoundLive, kept_seen};

@@ -1,5 +1,5 @@
 -- Of `Told`, what only bodies and proofs need.
-use Rattle.std.specs.Prelude.{◌≡◌, ◌⊎◌, ℕ, false, List, [], ◌∷◌, map}
+use Rattle.std.specs.Prelude.{◌≡◌, ◌⊎◌, ℕ, false, List, [], map}
 use Rattle.dv_change.specs.declared.change.Change as flow
 use Rattle.dv_views.specs.Inner.Views as views
 use Rattle.dv_catalog.specs.Changes.{Change}

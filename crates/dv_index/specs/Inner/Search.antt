@@ -1,6 +1,5 @@
 -- Of `Search`, what only bodies and proofs need.
-use Rattle.std.specs.Prelude.{◌≡◌, ℕ, Bool, false, List, length, Option, None, Some}
-use Rattle.std.specs.List.{count_by, slice_get}
+use Rattle.std.specs.Prelude.{◌≡◌, ℕ, Bool, false, List, Option, None, Some}
 use Rattle.dv_value.specs.Tree.{Field}
 use Rattle.dv_order.specs.Key.{KeyTree}
 use Rattle.dv_path.specs.LeafKeys.{is_leaf_key}

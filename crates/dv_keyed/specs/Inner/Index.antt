@@ -1,5 +1,5 @@
 -- Of `Index`, what only bodies and proofs need.
-use Rattle.std.specs.Prelude.{◌≡◌, ℕ, Bool, false, List, [], ◌∷◌, codes, refl}
+use Rattle.std.specs.Prelude.{◌≡◌, ℕ, Bool, List, [], ◌∷◌, refl}
 use Rattle.std.specs.Coded.{Coded, coded_bool, coded_ℕ, coded_list, coded×, code_by}
 use Rattle.dv_order.specs.Inner.Key.{coded_key}
 use Rattle.dv_keyed.specs.Inner.Pairs.{Pair}

@@ -1,6 +1,5 @@
 -- Of `Within`, what only bodies and proofs need.
-use Rattle.std.specs.Prelude.{ℕ, ◌&&◌, ◌==◌, Bool, false, List}
-use Rattle.std.specs.List.{list_any}
+use Rattle.std.specs.Prelude.{◌&&◌, ◌==◌, Bool, false, List}
 use Rattle.std.specs.declared.cmp.Ordering.{Ordering}
 use Rattle.std.specs.Ordering.{is_gt, is_ge, is_lt, is_le}
 use Rattle.dv_order.specs.Order.{canon, class}

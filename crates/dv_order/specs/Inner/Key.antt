@@ -1,7 +1,6 @@
 -- Of `Key`, what only bodies and proofs need.
-use Rattle.std.specs.Prelude.{◌≡◌, ℕ, List, [], ◌∷◌, Option, None, Some, refl}
+use Rattle.std.specs.Prelude.{◌≡◌, refl}
 use Rattle.std.specs.declared.cmp.Ordering.{Ordering}
-use Rattle.std.specs.Ordering.{nat_cmp}
 use Rattle.std.proofs.Common.{ap}
 use base.Stored.{Gv, gnum, gcons, Coded}
 use Rattle.dv_value.specs.Inner.TreeCode.{coded_tree}

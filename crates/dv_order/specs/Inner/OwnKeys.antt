@@ -1,5 +1,5 @@
 -- Of `OwnKeys`, what only bodies and proofs need.
-use Rattle.std.specs.Prelude.{◌≡◌, Option}
+use Rattle.std.specs.Prelude.{◌≡◌}
 use Rattle.std.proofs.Common.{sym, ◌∙◌}
 use Rattle.std.specs.declared.cmp.Ordering.TheVariants.{Equal}
 use Rattle.dv_order.specs.Key.{KeyTree, key_at, key_order}

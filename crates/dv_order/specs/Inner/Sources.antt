@@ -1,5 +1,5 @@
 -- What holds of a key's memory, and what a key that is looked at stands for.
-use Rattle.std.specs.Prelude.{◌≡◌, ◌≤◌, ℕ, List, length, take, ⊤}
+use Rattle.std.specs.Prelude.{◌≤◌, ℕ, List, length, take, ⊤}
 use Rattle.std.specs.Str.{IsUtf8}
 use Rattle.dv_value.specs.Tree.{Tree, string, document, array, binary, fields_of, elements_of}
 use Rattle.dv_order.specs.Order.{canon}
@@ -8,7 +8,7 @@ use Rattle.dv_order.specs.Source.{small_value}
 use Rattle.dv_order.specs.declared.shown.Shown as showns
 use Rattle.dv_order.specs.declared.shown.Shown.TheVariants as shown
 use Rattle.dv_order.specs.declared.source.Source as sources
-use Rattle.dv_order.specs.declared.source.Source.TheVariants.{NoElement, Small, Short, Middle, Long, Document, Shared, First}
+use Rattle.dv_order.specs.declared.source.Source.TheVariants.{Small, Short, Middle, Long, Document}
 
 -- the first bytes are a text
 abbrev pub IsTextIn : ℕ → List ℕ → Type 0

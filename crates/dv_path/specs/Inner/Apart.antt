@@ -1,5 +1,5 @@
 -- Of `Apart`, what only bodies and proofs need.
-use Rattle.std.specs.Prelude.{◌≡◌, ◌≢◌, ◌⊎◌, ⊤, ℕ, List, [], ◌∷◌, Option, Some, None, Bool, true, false}
+use Rattle.std.specs.Prelude.{ℕ, List, [], ◌∷◌, Option, Some, None, Bool, true, false}
 use Rattle.dv_value.specs.Tree.{Field}
 use Rattle.dv_path.specs.Slots.{Slot, taken, slot}
 

@@ -1,5 +1,5 @@
 -- Of `Front`, what only bodies and proofs need.
-use Rattle.std.specs.Prelude.{◌≡◌, ℕ, Bool, true, false, List, [], Option, refl}
+use Rattle.std.specs.Prelude.{◌≡◌, ℕ, Bool, true, false, List, Option, refl}
 use Rattle.std.specs.Coded.{Coded, code_by, coded×, coded_list, coded_ℕ, coded_bool, coded_option}
 use Rattle.dv_value.specs.Tree.{Field}
 use Rattle.dv_value.specs.Inner.TreeCode.{coded_tree}

@@ -1,12 +1,10 @@
 use Rattle.std.proofs.Common.{◌≡◌, ◌∙◌, ap, sym, ◌∷◌, ◌++◌, drop, take}
 use Rattle.std.proofs.lemmas.List.{take-append-drop}
 use Rattle.std.proofs.lemmas.Result.{IfOk-weaker}
-use Rattle.std.specs.List.{list_all}
 use Rattle.dv_gather.specs.Lookups.{looked_up}
 use Rattle.dv_pipe.specs.Sources.{lists_of, rows_referred}
 use Rattle.dv_pipe.specs.Stages.{Lists, beside, through}
 use Rattle.dv_pipe.specs.declared.stage.Stage.TheVariants as stage
-use Rattle.dv_catalog.specs.Inner.Behind.{looks_nowhere}
 use Rattle.dv_catalog.specs.Inner.CatalogParts.{rows_kept}
 use Rattle.dv_catalog.specs.Inner.SearchedView.{searched}
 use Rattle.dv_catalog.proofs.Fronts.{by_lookup}

@@ -1,5 +1,4 @@
-use Rattle.std.proofs.Common.{◌≡◌, ◌∙◌, ◌∷◌, [], codes, List, ap, sym}
-use Rattle.dv_path.specs.SortSpec.{Part}
+use Rattle.std.proofs.Common.{◌∙◌, ◌∷◌, codes, ap, sym}
 use Rattle.dv_catalog.proofs.ById.{id-alone}
 use Rattle.dv_catalog.proofs.Foremost.{first-part}
 use Rattle.dv_catalog.proofs.by_id.direction_of_ids.Goals as goal

@@ -1,4 +1,4 @@
-use Rattle.std.proofs.Common.{Option, None, Some, ap, sym, take, ◌≡◌, ◌∙◌}
+use Rattle.std.proofs.Common.{None, Some, ap, sym, take, ◌≡◌, ◌∙◌}
 use Rattle.std.proofs.lemmas.List.{take-map}
 use Rattle.dv_match.specs.Match.{matches}
 use Rattle.dv_pipe.specs.Sources.{rows_referred}

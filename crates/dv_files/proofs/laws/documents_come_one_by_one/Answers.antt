@@ -1,4 +1,4 @@
-use Rattle.dv_files.proofs.Files.{HasBytes, Holds-more, fewer_behind}
+use Rattle.dv_files.proofs.Files.{Holds-more, fewer_behind}
 use Rattle.dv_files.proofs.laws.documents_come_one_by_one.Goals as goal
 
 pub returns-clause-more : goal.returns-clause-more

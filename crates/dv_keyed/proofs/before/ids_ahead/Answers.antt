@@ -1,8 +1,7 @@
-use Rattle.std.proofs.Common.{◌≡◌, ◌∙◌, ap, sym, true}
-use Rattle.dv_order.specs.Key.{KeyTree}
+use Rattle.std.proofs.Common.{◌∙◌, ap, true}
 use Rattle.dv_keyed.specs.Inner.Ahead.{leaf_sorted_by}
 use Rattle.dv_keyed.specs.Inner.Interval.{is_in_all}
-use Rattle.dv_keyed.specs.Inner.Pairs.{IsOnlyKey, Pair, has_pair}
+use Rattle.dv_keyed.specs.Inner.Pairs.{has_pair}
 use Rattle.dv_keyed.proofs.before.ids_ahead.Goals as goal
 
 pub returns-then-is_everything : goal.returns-then-is_everything

@@ -1,4 +1,4 @@
-use Rattle.std.proofs.Common.{◌≡◌, ◌∙◌, ◌<◌, None, Some, ap, arith, subst, sym, take, true, false}
+use Rattle.std.proofs.Common.{◌≡◌, ◌∙◌, None, Some, ap, arith, subst, sym, take, true, false}
 use Rattle.dv_views.specs.Inner.Based.{IsBasedOn}
 use Rattle.dv_views.specs.Inner.ById.{at_ids_through}
 use Rattle.dv_views.specs.Inner.Older.{place_of_name}

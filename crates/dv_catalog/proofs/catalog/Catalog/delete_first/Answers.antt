@@ -1,4 +1,4 @@
-use Rattle.std.proofs.Common.{◌≡◌, map, ap, subst, sym, ◌∙◌}
+use Rattle.std.proofs.Common.{◌≡◌, map, ap, subst}
 use Rattle.dv_command.specs.Inner.View.{deletion_seen}
 use Rattle.dv_catalog.specs.Changes.{changes_of, done_to, gone}
 use Rattle.dv_catalog.specs.Inner.EffectView.{AreFirst}

@@ -1,4 +1,4 @@
-use Rattle.std.proofs.Common.{◌≡◌, ◌∙◌, sym, subst, arith}
+use Rattle.std.proofs.Common.{◌≡◌, ◌∙◌, subst, arith}
 use Rattle.dv_command.specs.Inner.View.{deletion_seen}
 use Rattle.dv_catalog.specs.Effects.{delete_chosen}
 use Rattle.dv_catalog.specs.Marks.{Marked}

@@ -1,11 +1,11 @@
-use Rattle.std.proofs.Common.{◌≡◌, ◌∙◌, [], List, ap, filter, subst, sym, false}
+use Rattle.std.proofs.Common.{◌≡◌, ◌∙◌, [], List, ap, filter, subst, sym}
 use Rattle.std.specs.List.{AllByRecursion}
 use Rattle.std.specs.BTreeMap.Range.{range_contains}
 use Rattle.std.specs.declared.ops.Bound.{Bound}
 use Rattle.std.specs.declared.ops.Bound.TheVariants.{Included, Excluded}
 use Rattle.dv_change.specs.Changes.{forget}
 use Rattle.dv_coll.specs.Collection.{HasId, id_key}
-use Rattle.dv_order.specs.Key.{KeyTree, key_order}
+use Rattle.dv_order.specs.Key.{key_order}
 use Rattle.dv_pipe.specs.Sources.{Row}
 use Rattle.dv_views.proofs.Ranges.{no_arrays, none_left}
 use Rattle.dv_views.proofs.by_id.RowsById.has_array_id.Goals as goal

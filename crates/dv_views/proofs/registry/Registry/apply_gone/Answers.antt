@@ -2,7 +2,7 @@ use Rattle.std.proofs.Common.{[], List, refl, subst, sym, ◌∙◌}
 use Rattle.dv_pipe.specs.Sources.{Row}
 use Rattle.dv_views.specs.Inner.Changed.{gone_each}
 use Rattle.dv_views.proofs.Behind.{follow_none}
-use Rattle.dv_views.proofs.Losing.{HaveGone, follow_unread, gone_all, gone_more}
+use Rattle.dv_views.proofs.Losing.{HaveGone, follow_unread, gone_more}
 use Rattle.dv_views.proofs.registry.Registry.apply_gone.Goals as goal
 
 pub returns-then-not-is_read-clause-counted : goal.returns-then-not-is_read-clause-counted

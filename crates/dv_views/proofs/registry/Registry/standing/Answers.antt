@@ -1,4 +1,4 @@
-use Rattle.std.proofs.Common.{◌≡◌, ◌∙◌, Some, ap, arith, length, map, subst, sym, take, take_all}
+use Rattle.std.proofs.Common.{◌≡◌, ◌∙◌, Some, ap, arith, map, subst, sym, take, take_all}
 use Rattle.std.specs.List.{AllByRecursion}
 use Rattle.std.specs.Option.{option_and_then}
 use Rattle.dv_change.specs.Changes.{forget}
@@ -6,7 +6,7 @@ use Rattle.dv_coll.specs.Collection.{HasId}
 use Rattle.dv_pipe.specs.Stages.{evaluated}
 use Rattle.dv_views.specs.Inner.ById.{AreAtIds}
 use Rattle.dv_views.specs.Forms.{places_over, rows_over}
-use Rattle.dv_views.specs.Inner.Older.{place_of_name, views}
+use Rattle.dv_views.specs.Inner.Older.{views}
 use Rattle.dv_views.specs.Placed.{list_places}
 use Rattle.dv_views.specs.Inner.Seen.{view_seen}
 use Rattle.dv_views.specs.Inner.Views.{AreRight, Views, kept_rows, view_form, view_under}

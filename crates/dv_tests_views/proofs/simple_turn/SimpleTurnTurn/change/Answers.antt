@@ -3,10 +3,10 @@ use Rattle.std.proofs.Common.{◌≡◌, ◌+◌, ◌++◌, [], length, subst, s
 use Rattle.std.specs.Prelude.{OnOk}
 use Rattle.dv_change.specs.Raised.{raised}
 use Rattle.dv_change.specs.Work.{owed_by}
-use Rattle.dv_flow.specs.declared.simple.SimpleTurn.{SimpleTurn}
-use Rattle.dv_flow.specs.declared.simple.SimpleTurn.TheVariants.{Match, Project, Sort}
-use Rattle.dv_flow.specs.Inner.Simple.{simple_left, simple_makes}
-use Rattle.dv_flow.proofs.simple.SimpleTurnTurn.change.Goals as goal
+use Rattle.dv_tests_views.specs.declared.simple_turn.SimpleTurn.{SimpleTurn}
+use Rattle.dv_tests_views.specs.declared.simple_turn.SimpleTurn.TheVariants.{Match, Project, Sort}
+use Rattle.dv_tests_views.specs.Inner.Simple.{simple_left, simple_makes}
+use Rattle.dv_tests_views.proofs.simple_turn.SimpleTurnTurn.change.Goals as goal
 
 pub returns-in-Match-clause-makes : goal.returns-in-Match-clause-makes
 returns-in-Match-clause-makes c =

@@ -1,19 +1,15 @@
-//! The simple stages together.
+//! Operators of several kinds in one chain.
 
 ghost use Rattle.std.specs.Prelude.{[]};
-ghost use Rattle.dv_flow.specs.Inner.Simple.{IsSoundSimple, simple_empty, simple_even, simple_left, simple_makes, simple_ordered, simple_positioned};
+ghost use Rattle.dv_tests_views.specs.Inner.Simple.{IsSoundSimple, simple_empty, simple_even, simple_left, simple_makes, simple_ordered, simple_positioned};
 
-use crate::limit_turn::LimitTurn;
-use crate::matching::MatchTurn;
-use crate::project::ProjectTurn;
-use crate::sort::SortTurn;
-use crate::unwind::UnwindTurn;
 use dv_change::{Change, Input, Ticks, Turn};
+use dv_flow::{LimitTurn, MatchTurn, ProjectTurn, SortTurn, UnwindTurn};
 use dv_value::NoMemory;
 
 /// A stage of one of these kinds, kept by changes, so that they can be in one chain.
 #[derive(Drop)]
-pub enum SimpleTurn {
+pub(crate) enum SimpleTurn {
     /// `$match`.
     Match(MatchTurn),
     /// `$project`.

@@ -3,8 +3,8 @@ use Rattle.std.specs.Prelude.{◌≡◌, List, [], refl}
 use Rattle.std.specs.List.{AllByRecursion}
 use Rattle.dv_change.specs.Changes.{Positioned}
 use Rattle.dv_change.specs.Inner.Changes.{HaveOneLength, IsPositioned}
-use Rattle.dv_flow.specs.declared.simple.SimpleTurn.{SimpleTurn}
-use Rattle.dv_flow.specs.declared.simple.SimpleTurn.TheVariants.{Limit, Match, Project, Sort, Unwind}
+use Rattle.dv_tests_views.specs.declared.simple_turn.SimpleTurn.{SimpleTurn}
+use Rattle.dv_tests_views.specs.declared.simple_turn.SimpleTurn.TheVariants.{Limit, Match, Project, Sort, Unwind}
 use Rattle.dv_flow.specs.Inner.Limiting.{IsSoundLimit, limit_count, limit_empty, limit_even, limit_left, limit_makes, limit_ordered, limit_positioned}
 use Rattle.dv_flow.specs.Inner.Matching.{match_even, match_ordered}
 use Rattle.dv_flow.specs.Placed.{matched_at, shown_at, sorted_at, unwound_at}

@@ -1,0 +1,2 @@
+-- what only bodies and proofs need
+pub mod Inner
