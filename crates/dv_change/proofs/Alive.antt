@@ -1,5 +1,5 @@
 -- Rows that come out of operators, behind a change, behind their first rows, and where nothing came yet.
-use Rattle.std.proofs.Common.{◌≡◌, ◌∙◌, ap, sym, subst, ℕ, List, [], map}
+use Rattle.std.proofs.Common.{◌≡◌, ◌∙◌, ap, sym, subst, ℕ, List, [], ◌∷◌, map}
 use Rattle.std.specs.List.{AllByRecursion}
 use Rattle.dv_change.specs.declared.change.Change.{Change}
 use Rattle.dv_change.specs.declared.input.Input.{Input}
@@ -15,7 +15,7 @@ use Rattle.dv_change.specs.Inner.Told.{changes_told, input_rows, with_old}
 use Rattle.dv_change.specs.Inner.ToldLaws.{changes-told}
 use Rattle.dv_change.specs.Inner.Work.{forms_after}
 use Rattle.dv_change.specs.Inputs.{HasInput, left_after, others_after}
-use Rattle.dv_change.specs.Work.{Form, pass_in, through_forms}
+use Rattle.dv_change.specs.Work.{Form, pass_in, stage_rows, through_forms}
 use Rattle.dv_change.proofs.Flat.{lists-after, rows-at, there-counted}
 use Rattle.dv_change.proofs.Passing.{fresh-held, lists_in_order, nothing_through}
 
@@ -62,6 +62,14 @@ module _ {O : Type 0} (makes : O → List Positioned → Positioned → Position
       rows = rows ∙ (λ i. with_changes (alive.rows i) (comes_out i)) ∙ passed.leads ∙ ap (through_forms (forms_after input change forms)) (sym left);
     }
 
+  -- what comes out of rows in order is in order
+  through_in_order : (operators : List O) (forms : List Form) (rows : Positioned) → AreHeld makes holds operators forms rows → IsPositioned rows → IsPositioned (through_forms forms rows)
+  through_in_order [] [] rows held are = are
+  through_in_order [] (form ∷ forms) rows held are = absurd held
+  through_in_order (o ∷ operators) [] rows held are = absurd held
+  through_in_order (o ∷ operators) (form ∷ forms) rows held are =
+      through_in_order operators forms (stage_rows form rows) held.2 (subst (λ (f : List Positioned → Positioned → Positioned). IsPositioned (f form.named rows)) held.0 (ordered o form.named rows are))
+
   module _ (empty : (o : O) (others : List Positioned) → makes o others [] ≡ []) where
     -- where no row came yet
     pub alive_first : (live : LiveRows O) (operators : List O) (forms : List Form) (lists : List Positioned) → live.operators ≡ operators → live.left.entries ≡ [] → map (λ m. m.entries) live.lists.items ≡ lists → live.rows.entries ≡ []
@@ -76,17 +84,29 @@ module _ {O : Type 0} (makes : O → List Positioned → Positioned → Position
           rows = rows ∙ sym (nothing_through makes holds positioned ordered empty operators forms held) ∙ ap (through_forms forms) (sym left);
         }
 
-    -- once the first rows came
+    -- once the first rows came: what comes out
+    filled_rows : (live : LiveRows O) (operators : List O) (forms : List Form) (changes : List Change) (made : List Taken) → IsLive makes holds is_sound live forms → live.left.entries ≡ []
+        → IsFilled (through_forms forms) (AreHeld makes holds operators forms) changes made → with_changes live.rows.entries (changes_told made) ≡ through_forms forms (with_changes [] changes)
+    filled_rows live operators forms changes made alive none filled =
+        let held = subst (λ (r : Positioned). AreHeld makes holds live.operators forms r) none alive.held in
+        let nothing : live.rows.entries ≡ [] = alive.rows ∙ ap (through_forms forms) none ∙ nothing_through makes holds positioned ordered empty live.operators forms held in
+        (λ i. with_changes (nothing i) (changes_told made)) ∙ ap (with_changes []) (ap changes_told filled.told ∙ changes-told [] filled.outs) ∙ filled.leads
+
+    -- that is in order
+    pub filled_in_order : (live : LiveRows O) (operators : List O) (forms : List Form) (changes : List Change) (made : List Taken) → IsLive makes holds is_sound live forms → live.left.entries ≡ [] → AllByRecursion IsExactChange changes
+        → IsFilled (through_forms forms) (AreHeld makes holds operators forms) changes made → IsPositioned (with_changes live.rows.entries (changes_told made))
+    filled_in_order live operators forms changes made alive none exact filled =
+        subst (λ (r : Positioned). IsPositioned r) (sym (filled_rows live operators forms changes made alive none filled))
+        (through_in_order operators forms (with_changes [] changes) filled.held (positioned-changes [] changes positioned-none exact))
+
+    -- and all that is kept
     pub alive_filled : (live after : LiveRows O) (operators : List O) (forms : List Form) (changes : List Change) (made : List Taken) → IsLive makes holds is_sound live forms → live.left.entries ≡ [] → after.operators ≡ operators → AllByRecursion is_sound operators → AllByRecursion IsExactChange changes
         → IsFilled (through_forms forms) (AreHeld makes holds operators forms) changes made → after.left.entries ≡ with_changes [] changes → map (λ m. m.entries) after.lists.items ≡ map (λ m. m.entries) live.lists.items → after.rows.entries ≡ with_changes live.rows.entries (changes_told made)
         → IsLive makes holds is_sound after forms
-    alive_filled live after operators forms changes made alive none same sounds exact filled left lists rows =
-        let held = subst (λ (r : Positioned). AreHeld makes holds live.operators forms r) none alive.held in
-        let nothing : live.rows.entries ≡ [] = alive.rows ∙ ap (through_forms forms) none ∙ nothing_through makes holds positioned ordered empty live.operators forms held in
-        record {
-          sound = subst (λ (os : List O). AllByRecursion is_sound os) (sym same) sounds;
-          held = subst (λ (r : Positioned). AreHeld makes holds after.operators forms r) (sym left) (subst (λ (os : List O). AreHeld makes holds os forms (with_changes [] changes)) (sym same) filled.held);
-          lists = alive.lists ∙ sym lists;
-          positioned = subst (λ (r : Positioned). IsPositioned r) (sym left) (positioned-changes [] changes positioned-none exact);
-          rows = rows ∙ (λ i. with_changes (nothing i) (changes_told made)) ∙ ap (with_changes []) (ap changes_told filled.told ∙ changes-told [] filled.outs) ∙ filled.leads ∙ ap (through_forms forms) (sym left);
-        }
+    alive_filled live after operators forms changes made alive none same sounds exact filled left lists rows = record {
+      sound = subst (λ (os : List O). AllByRecursion is_sound os) (sym same) sounds;
+      held = subst (λ (r : Positioned). AreHeld makes holds after.operators forms r) (sym left) (subst (λ (os : List O). AreHeld makes holds os forms (with_changes [] changes)) (sym same) filled.held);
+      lists = alive.lists ∙ sym lists;
+      positioned = subst (λ (r : Positioned). IsPositioned r) (sym left) (positioned-changes [] changes positioned-none exact);
+      rows = rows ∙ filled_rows live operators forms changes made alive none filled ∙ ap (through_forms forms) (sym left);
+    }

@@ -12,6 +12,7 @@ mod live_rows;
 mod operator;
 mod operators;
 mod ordered;
+mod packed;
 mod part_code;
 mod place;
 mod position;

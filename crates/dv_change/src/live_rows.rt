@@ -21,6 +21,7 @@ use crate::input::Input;
 use crate::keeping::take_in_at;
 use crate::operator::Operator;
 use crate::operators::Operators;
+use crate::packed::packed;
 use crate::position::Pos;
 use crate::taking::{Taken, take_in};
 use crate::ticks::Ticks;
@@ -106,8 +107,10 @@ impl<O: Operator + Drop> LiveRows<O> {
     {
         let mut live = self;
         let all = take_in_all(&mut live.left, changes)?;
+        live.left = packed(live.alloc, live.left)?;
         let made = live.operators.fill(all)?;
         put_each(&mut live.rows, made)?;
+        live.rows = packed(live.alloc, live.rows)?;
         Ok(live)
     }
 

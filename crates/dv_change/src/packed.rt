@@ -1,0 +1,46 @@
+//! Rows in as few nodes of a tree as hold them.
+
+ghost use Rattle.std.specs.Prelude.{◌≡◌, IfOk};
+ghost use Rattle.std.specs.BTreeMap.{IsFromIterResult};
+ghost use Rattle.std.specs.List.{AllByRecursion};
+ghost use Rattle.std.specs.Map.{keys_of};
+ghost use Rattle.dv_change.specs.Inner.Changes.{IsPositioned};
+ghost use Rattle.dv_change.specs.Positions.{IsExact, pos_order};
+
+use crate::position::Pos;
+use dv_value::{Document, NoMemory};
+use std::alloc::Global;
+use std::collections::BTreeMap;
+
+/// The same rows, in as few nodes as hold them: rows that were inserted in ascending order leave each node half empty. Fails where
+/// memory is wanting.
+pub(crate) fn packed(
+    alloc: Global,
+    rows: BTreeMap<Pos, Document>,
+) -> Result<BTreeMap<Pos, Document>, NoMemory>
+    requires { IsPositioned rows.entries }
+    ensures { IfOk result (λ packed. packed.entries ≡ rows.entries) }
+{
+    let packed = built_anew(alloc, rows)?;
+    are_exact(&packed);
+    Ok(packed)
+}
+
+/// The rows in a tree that is built of all of them at once. Fails where memory is wanting.
+fn built_anew(
+    alloc: Global,
+    rows: BTreeMap<Pos, Document>,
+) -> Result<BTreeMap<Pos, Document>, NoMemory>
+    ensures { IfOk result (IsFromIterResult pos_order rows.entries) }
+{
+    rows.into_iter().collect(alloc)
+}
+
+/// That the keys of the positions are those of values, or the one that no value has. Changes nothing.
+fn are_exact(rows: &BTreeMap<Pos, Document>)
+    ensures { AllByRecursion IsExact (keys_of rows.now.entries) }
+{
+    'rows: for pos in rows.keys() {
+        pos.is_exact();
+    }
+}
