@@ -4,8 +4,7 @@
 
 #[cfg(test)]
 mod changes;
-#[cfg(test)]
-mod simple_turn;
+pub mod simple_turn;
 #[cfg(test)]
 mod turns;
 #[cfg(test)]

@@ -9,7 +9,7 @@ use dv_value::NoMemory;
 
 /// A stage of one of these kinds, kept by changes, so that they can be in one chain.
 #[derive(Drop)]
-pub(crate) enum SimpleTurn {
+pub enum SimpleTurn {
     /// `$match`.
     Match(MatchTurn),
     /// `$project`.

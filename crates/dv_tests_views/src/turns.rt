@@ -5,9 +5,7 @@ ghost use Rattle.std.specs.Prelude.{◌≡◌, [], IfOk, OnOk};
 ghost use Rattle.dv_change.specs.Inner.Linked.{IsLinked, first_left};
 
 use crate::simple_turn::SimpleTurn;
-use dv_change::{
-    Chain, Change, Input, Ordered, Part, Pos, Taken, Ticks, Turn, hand_on, take_in,
-};
+use dv_change::{Chain, Change, Input, Ordered, Part, Pos, Taken, Ticks, Turn, hand_on, take_in};
 use dv_flow::{LimitTurn, MatchTurn, ProjectTurn, SortTurn, UnwindTurn};
 use dv_match::Filter;
 use dv_path::SortSpec;

@@ -4,5 +4,5 @@ use Rattle.dv_change.specs.Inner.Linked.{first_left}
 use Rattle.dv_change.proofs.Linking.{first-linked}
 use Rattle.dv_tests_views.proofs.turns.changed.Goals as goal
 
-pub returns-clause-linked : goal.returns-clause-linked
-returns-clause-linked g c = first-linked g.T.Turn.left g.T.Turn.others g.T.Turn.makes g.T.Turn.sound c.change.new.self (left_after Left c.args.change (first_left g.T.Turn.left g.T.Turn.others g.T.Turn.makes g.T.Turn.sound c.args.chain)) c.in_ok-change.ensures.linked
+pub returns : goal.returns
+returns g c = record { linked = first-linked g.T.Turn.left g.T.Turn.others g.T.Turn.makes g.T.Turn.sound c.change.new.self (left_after Left c.args.change (first_left g.T.Turn.left g.T.Turn.others g.T.Turn.makes g.T.Turn.sound c.args.chain)) c.in_ok-change.ensures.linked }
