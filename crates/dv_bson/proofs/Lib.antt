@@ -14,6 +14,7 @@ pub mod Both
 pub mod Fronts
 pub mod Shorter
 pub mod Elements
+pub mod Alike
 pub mod Loop
 pub mod Turns
 pub mod Items

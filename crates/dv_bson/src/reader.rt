@@ -2,14 +2,15 @@
 
 ghost use Rattle.std.specs.Prelude.{◌≡◌, ℕ, ◌+◌, ◌<◌, ◌≤◌, ◌++◌, ◌⊎◌, true, false, List as Entries, ◌∷◌, [], take, length, map, decimal, IfOk, IfErr, MatchResult, OnOk};
 ghost use Rattle.dv_value.specs.Tree.{Field};
+ghost use Rattle.dv_value.specs.Names.{AreNamed, with_values};
 ghost use Rattle.dv_value.specs.View.{tree};
 ghost use Rattle.dv_value.specs.Spelling.{Spells, Fits};
-ghost use Rattle.dv_bson.specs.Reading.{Gives, value_at, closed_by, body_at, document_at, first_fault};
-ghost use Rattle.dv_bson.specs.Inner.Parts.{field_at, numbered};
+ghost use Rattle.dv_bson.specs.Reading.{Gives, value_at, closed_by, fields_at, body_at, document_at, first_fault};
+ghost use Rattle.dv_bson.specs.Inner.Parts.{field_at, numbered, GivesNext, LeavesToRead};
 
 use crate::fault::ReadError;
 use crate::reading::{
-    behind_index, binary_of, boolean_of, date_of, field_name_of, frame_of, front_kind_of, int32_of,
+    behind_index, behind_name, binary_of, boolean_of, date_of, field_name_of, frame_of, front_kind_of, int32_of,
     int64_of, kind_of, object_id_of, outermost_frame_of, text_of, timestamp_of,
 };
 use dv_value::{BsonFault, Document, FRAME, Fields, Kind, List, MAX_LEVELS, NoMemory, Value};
@@ -161,6 +162,98 @@ pub(crate) fn first_room(len: usize) -> usize
     if len == 0 { 0 } else { (len / 20).clamp(4, 12) }
 }
 
+/// The value of the field at the front, behind those of `before`, and the bytes behind it, where the field has the name that `like`
+/// has at its place.
+#[cycle(reader)]
+fn value_like_next<'a>(
+    alloc: Global,
+    levels: u32,
+    like: &Document,
+    at: usize,
+    before: &[Value],
+    bytes: &'a [u8],
+) -> Result<Option<(Value, &'a [u8])>, ReadError>
+    requires at { at + length bytes.now < 16777216 }
+    requires levels { levels ≤ 100 }
+    requires named { AreNamed like.now }
+    ensures { GivesNext like.now (length before.now) (λ x. (tree x.0, x.1.now)) result (field_at (body_at levels) false at (with_values like.now (map tree before.now)) bytes.now) }
+{
+    let Some((name, value)) = like.entry(before.len()) else {
+        return Ok(None);
+    };
+    if bytes.is_empty() {
+        return Ok(None);
+    }
+    let (kind, behind) = front_kind_of(bytes, at)?;
+    let Some(rest) = behind_name(name, behind) else {
+        return Ok(None);
+    };
+    let at = at + (bytes.len() - rest.len());
+    let (value, after) = value_of(alloc, levels, kind, Some(value), at, rest)?;
+    Ok(Some((value, after)))
+}
+
+/// The first fields of a document.
+#[derive(Drop)]
+struct Begun<'a> {
+    fields: Fields,
+    /// Where the next element is.
+    at: usize,
+    /// The bytes of the elements behind these fields.
+    rest: &'a [u8],
+}
+
+/// The first of a document's fields, as far as they have the names of `like`, in its order.
+#[cycle(reader)]
+fn begun_like<'a>(
+    alloc: Global,
+    levels: u32,
+    like: &Document,
+    mut at: usize,
+    elements: &'a [u8],
+) -> Result<Begun<'a>, ReadError>
+    requires at { at + length elements.now < 16777216 }
+    requires levels { levels ≤ 100 }
+    ensures { (last : ℕ) → LeavesToRead (λ begun. fields_at (body_at levels) (length begun.rest.now) false begun.at begun.fields begun.rest.now last) result (fields_at (body_at levels) (length elements.now) false at [] elements.now last) }
+    ensures at { IfOk result (λ begun. begun.at + length begun.rest.now ≡ at + length elements.now) }
+{
+    let mut values = Vec::with_capacity(alloc, like.len())?;
+    let mut rest = elements;
+    'fields: while let Some((value, after)) =
+        value_like_next(alloc, levels, like, at, &values, rest)?
+    {
+        values.push(value)?;
+        at += rest.len() - after.len();
+        rest = after;
+    }
+    let fields = Fields::like(like, values)?;
+    Ok(Begun { fields, at, rest })
+}
+
+/// The same, or no field yet where there is no `like`.
+#[cycle(reader)]
+fn begun<'a>(
+    alloc: Global,
+    levels: u32,
+    like: Option<&Document>,
+    at: usize,
+    elements: &'a [u8],
+) -> Result<Begun<'a>, ReadError>
+    requires at { at + length elements.now < 16777216 }
+    requires levels { levels ≤ 100 }
+    ensures { (last : ℕ) → LeavesToRead (λ begun. fields_at (body_at levels) (length begun.rest.now) false begun.at begun.fields begun.rest.now last) result (fields_at (body_at levels) (length elements.now) false at [] elements.now last) }
+    ensures at { IfOk result (λ begun. begun.at + length begun.rest.now ≡ at + length elements.now) }
+{
+    if let Some(like) = like {
+        return begun_like(alloc, levels, like, at, elements);
+    }
+    Ok(Begun {
+        fields: Fields::with_room(alloc, first_room(elements.len()))?,
+        at,
+        rest: elements,
+    })
+}
+
 /// The document whose elements these are, the first of them at `at` in the outermost document, with so many
 /// levels left, itself among them.
 #[cycle(reader)]
@@ -168,7 +261,7 @@ fn document_of(
     alloc: Global,
     levels: u32,
     like: Option<&Document>,
-    mut at: usize,
+    at: usize,
     elements: &[u8],
     last: u8,
 ) -> Result<Document, ReadError>
@@ -179,8 +272,11 @@ fn document_of(
     if levels == 0 {
         return Err(ReadError::Fault(BsonFault::TooDeep));
     }
-    let mut fields = Fields::expected(alloc, like, first_room(elements.len()))?;
-    let mut rest = elements;
+    let Begun {
+        mut fields,
+        mut at,
+        mut rest,
+    } = begun(alloc, levels - 1, like, at, elements)?;
     'elements: while !rest.is_empty() {
         let (name, value, after) = field_of(alloc, levels - 1, like, at, &fields, rest)?;
         fields.add(name, value)?;

@@ -5,6 +5,7 @@ ghost use Rattle.std.specs.Option.{option_map};
 ghost use Rattle.std.specs.Int.{w32, w64, from_le_bytes};
 ghost use Rattle.std.specs.Str.{is_utf8};
 ghost use Rattle.dv_value.specs.Tree.{Field, int32, int64, binary, object_id, date, timestamp};
+ghost use Rattle.dv_value.specs.Names.{has_name, has_zero};
 ghost use Rattle.dv_value.specs.View.{tree};
 ghost use Rattle.dv_bson.specs.Reading.{Gives, count_at, kind_of_byte, kind_at, cut_at_zero, name_at, text_at, frame_of, frame_at, boolean_at, first_bytes, signed_at, binary_at};
 ghost use Rattle.dv_bson.specs.Inner.Parts.{front_kind_at, any_name_at, outermost_frame_at};
@@ -152,18 +153,17 @@ fn name_of(bytes: &[u8]) -> Result<(&str, &[u8]), ReadError>
     Ok((utf8_of(name)?, rest))
 }
 
-/// The name that is expected behind the fields of `before`, and the bytes behind its closing zero, where it stands there:
-/// it is known to be a text without a zero, which no field has.
-fn expected_name_of<'a>(before: &Fields, bytes: &'a [u8]) -> Option<(&'a str, &'a [u8])>
-    ensures { IfSome result (λ x. name_at false before.now bytes.now ≡ Ok (x.0.now, x.1.now)) }
+/// The bytes behind this name and its closing zero, where these stand at the front: the name is known to be a text without a
+/// zero, which no field before it has.
+#[inline]
+pub(crate) fn behind_name<'a>(name: &str, bytes: &'a [u8]) -> Option<&'a [u8]>
+    ensures { IfSome result (λ rest. (seen : Entries Field) → has_name name.now seen ≡ false → has_zero name.now ≡ false → name_at false seen bytes.now ≡ Ok (name.now, rest.now)) }
 {
-    let expected = before.expected_name()?;
-    let end = expected.len();
-    if bytes.len() <= end || bytes[end] != 0 || &bytes[..end] != expected.as_bytes() {
+    let end = name.len();
+    if bytes.len() <= end || bytes[end] != 0 || &bytes[..end] != name.as_bytes() {
         return None;
     }
-    let name = unsafe { str::from_utf8_unchecked(&bytes[..end]) };
-    Some((name, &bytes[end + 1..]))
+    Some(&bytes[end + 1..])
 }
 
 /// The name of a field that stands behind those of `before`, and the bytes behind its closing zero.
@@ -174,9 +174,6 @@ pub(crate) fn field_name_of<'a>(
 ) -> Result<(&'a str, &'a [u8]), ReadError>
     ensures { Gives (λ x. (x.0.now, x.1.now)) result (name_at false before.now bytes.now) }
 {
-    if let Some(found) = expected_name_of(before, bytes) {
-        return Ok(found);
-    }
     let (name, rest) = name_of(bytes)?;
     if before.has(name) {
         return Err(ReadError::Fault(BsonFault::RepeatedName));

@@ -1,7 +1,8 @@
 -- Reading a path, name by name.
 use Rattle.std.proofs.Common.{◌≡◌, ℕ, ◌==◌, ◌&&◌, Bool, true, false, List, [], ◌∷◌, ◌++◌, length, Option, Some, None, refl, ap, sym, ◌∙◌, arith, append_assoc, append-nil}
 use Rattle.std.specs.Iterator.{AlwaysYields}
-use Rattle.std.specs.List.{list_all, slice_split}
+use Rattle.std.specs.List.{list_all, list_any, slice_split}
+use Rattle.std.proofs.lemmas.Bool.{or_parts}
 use Rattle.std.proofs.lemmas.Iterator.{YieldsList}
 use Rattle.std.proofs.lemmas.List.Splits.{length-slice_split}
 use Rattle.dv_candidates.specs.Path.{is_component, path_of}
@@ -62,3 +63,18 @@ some-read {text} {names} {rest} r e none =
     let split : slice_split (λ b. b == 46) text ≡ [] = r.all ∙ ap (λ ns. names ++ ns) e ∙ append-nil names ∙ none in
     let long : length (slice_split (λ b. b == 46) text) ≡ 0 = ap length split in
     omega (arith, long, length-slice_split (λ b. b == 46) text)
+
+-- a text without a dot is cut nowhere
+uncut : (text : List ℕ) → list_any (λ b. b == 46) text ≡ false → slice_split (λ b. b == 46) text ≡ text ∷ []
+uncut [] none = refl
+uncut (b ∷ bs) none =
+    let parts : ((b == 46) ≡ false) × (list_any (λ b. b == 46) bs ≡ false) = or_parts (b == 46) (list_any (λ b. b == 46) bs) none in
+    rw (parts.0, uncut bs parts.1) refl
+
+pub undotted : (text : List ℕ) → list_any (λ b. b == 46) text ≡ false → is_component text ≡ true → path_of text ≡ Some (text ∷ [])
+unfolding path_of
+undotted text none named = rw (uncut text none, named) refl
+
+pub undotted_refused : (text : List ℕ) → list_any (λ b. b == 46) text ≡ false → is_component text ≡ false → path_of text ≡ None
+unfolding path_of
+undotted_refused text none named = rw (uncut text none, named) refl

@@ -3,3 +3,4 @@ pub mod Fold
 pub mod Fault
 pub mod Places
 pub mod Onward
+pub mod Components

@@ -5,14 +5,14 @@ ghost use Rattle.std.specs.Char.{is_ascii_digit};
 ghost use Rattle.std.specs.List.{list_all};
 ghost use Rattle.dv_candidates.specs.Path.{is_component, is_whole_number, index_of};
 
-use dv_value::{NoMemory, Str};
+use dv_value::{Name, NoMemory};
 use std::alloc::Global;
 use std::marker::Model;
 
 /// A name that a path leads through, which isn't empty and holds no zero byte. A whole number also is a place in arrays.
 #[derive(Debug, Drop)]
 pub struct Component {
-    name: Str,
+    name: Name,
     index: Option<usize>,
 }
 
@@ -36,7 +36,7 @@ impl Component {
         ensures { IfOk result (λ component. component ≡ name.now) }
     {
         let index = whole_number(name);
-        let name = Str::of(String::from_str(alloc, name)?);
+        let name = Name::of(alloc, name)?;
         Ok(Component { name, index })
     }
 

@@ -7,7 +7,7 @@ use Rattle.std.specs.Str.{bytes_eq}
 use Rattle.std.proofs.lemmas.List.{take-append-drop, take_more}
 use Rattle.std.proofs.lemmas.Option.{slice_get_within, get_or_from_slice_get}
 use Rattle.dv_value.specs.Tree.{Tree, null, Field}
-use Rattle.dv_value.specs.Names.{AreNamed, has_name, has_zero, place_under, value_under, value_at}
+use Rattle.dv_value.specs.Names.{AreNamed, has_name, has_zero, place_under, value_under, value_at, with_values}
 use Rattle.dv_value.specs.Inner.Covers.{under, covered, IsCovered, AreCovered}
 use Rattle.dv_value.specs.Inner.Put.{with_value_at}
 use Rattle.dv_value.proofs.Items.{drop_item}
@@ -42,6 +42,12 @@ pub AreNamed-covered : (fs : List Field) (cs : List (Option Tree)) → AreNamed 
 AreNamed-covered [] cs named = tt
 AreNamed-covered (f ∷ fs) [] named = named
 AreNamed-covered (f ∷ fs) (c ∷ cs) named = rw (under-name f c, has_name-covered f.0 fs cs) (named.0, named.1, AreNamed-covered fs cs named.2)
+
+pub with_values-covered : (fs : List Field) (cs : List (Option Tree)) (vs : List Tree) → with_values (covered fs cs) vs ≡ with_values fs vs
+with_values-covered [] cs vs = refl
+with_values-covered (f ∷ fs) [] vs = refl
+with_values-covered (f ∷ fs) (c ∷ cs) [] = refl
+with_values-covered (f ∷ fs) (c ∷ cs) (v ∷ vs) = rw (under-name f c, with_values-covered fs cs vs) refl
 
 place_from : (name : List ℕ) (i : ℕ) (fs : List Field) (cs : List (Option Tree)) → position_from (λ f. bytes_eq name f.0) i (covered fs cs) ≡ position_from (λ f. bytes_eq name f.0) i fs
 place_from name i [] cs = refl

@@ -9,7 +9,7 @@ use Rattle.std.proofs.lemmas.List.{length_push, length-take-le, take-append-drop
 use Rattle.std.proofs.lemmas.Option.{slice_get_within, slice_get_past, get_or_from_slice_get}
 use Rattle.std.proofs.lemmas.Slice.Zip.{length-zip}
 use Rattle.dv_value.specs.Tree.{Tree, Field}
-use Rattle.dv_value.specs.Names.{bare, AreNamed, has_name, has_zero, place_under}
+use Rattle.dv_value.specs.Names.{bare, AreNamed, has_name, has_zero, place_under, with_values}
 use Rattle.dv_value.proofs.Items.{drop_item}
 use Rattle.dv_value.proofs.Named.{named_apart}
 
@@ -68,6 +68,15 @@ zip-more ns ms vs n v le e =
 pub zip-same : (ns ms : Texts) (vs : List Tree) → take (length vs) ns ≡ take (length vs) ms → zip ns vs ≡ zip ms vs
 zip-same ns ms vs e = sym (zip-take ns vs) ∙ ap (λ (names : Texts). zip names vs) e ∙ zip-take ms vs
 
+-- other values under the same names
+pub with_values-zip : (ns : Texts) (ws vs : List Tree) → length vs ≤ length (zip ns ws) → with_values (zip ns ws) vs ≡ zip ns vs
+with_values-zip [] ws [] le = refl
+with_values-zip [] ws (v ∷ vs) le = refl
+with_values-zip (n ∷ ns) [] [] le = refl
+with_values-zip (n ∷ ns) (w ∷ ws) [] le = refl
+with_values-zip (n ∷ ns) [] (v ∷ vs) le = absurd (omega arith)
+with_values-zip (n ∷ ns) (w ∷ ws) (v ∷ vs) le = ap (λ (fs : List Field). (n, v) ∷ fs) (with_values-zip ns ws vs (omega arith))
+
 -- ---- names
 
 pub has_name-zip : (name : List ℕ) (ns : Texts) (vs : List Tree) → length vs ≤ length ns → has_name name (zip ns vs) ≡ has_name name (map bare (take (length vs) ns))
@@ -94,22 +103,6 @@ next_is_fresh name ns vs named next =
     let rest = drop (length vs + 1) ns in
     let split : map bare ns ≡ map bare front ++ bare name ∷ map bare rest = ap (map bare) (sym (take-append-drop (length vs) ns) ∙ ap (λ (left : Texts). front ++ left) (drop_item ns (length vs) name next)) ∙ map-append bare front (name ∷ rest) in
     has_name-zip name ns vs (omega arith) ∙ named_apart (map bare front) (map bare rest) (bare name) (subst AreNamed split named)
-
--- and it holds no zero
-named_whole : (fs gs : List Field) (f : Field) → AreNamed (fs ++ f ∷ gs) → has_zero f.0 ≡ false
-named_whole [] gs f named = named.0
-named_whole (g ∷ fs) gs f named = named_whole fs gs f named.2
-
-pub next_is_whole : (name : List ℕ) (ns : Texts) (place : ℕ) → AreNamed (map bare ns) → slice_get ns place ≡ Some name → has_zero name ≡ false
-next_is_whole name ns place named next =
-    let front = take place ns in
-    let rest = drop (place + 1) ns in
-    let split : map bare ns ≡ map bare front ++ bare name ∷ map bare rest = ap (map bare) (sym (take-append-drop place ns) ∙ ap (λ (left : Texts). front ++ left) (drop_item ns place name next)) ∙ map-append bare front (name ∷ rest) in
-    named_whole (map bare front) (map bare rest) (bare name) (subst AreNamed split named)
-
-pub next_name : {B : Type 0} (text : B → List ℕ) (o : Option B) (ns : Texts) (vs : List Tree) → AreNamed (map bare ns) → option_map text o ≡ slice_get ns (length vs) → IfSome o (λ b. (has_name (text b) (zip ns vs) ≡ false) × (has_zero (text b) ≡ false))
-next_name text None ns vs named e = tt
-next_name text (Some b) ns vs named e = (next_is_fresh (text b) ns vs named (sym e), next_is_whole (text b) ns (length vs) named (sym e))
 
 -- a place, if it is below n
 abbrev pub below : ℕ → Option ℕ → Option ℕ

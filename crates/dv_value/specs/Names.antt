@@ -28,6 +28,12 @@ value_at (suc place) (f ∷ fs) = value_at place fs
 abbrev pub place_under : List ℕ → List Field → Option ℕ
 place_under name fs = position_from (λ f. bytes_eq name f.0) 0 fs
 
+-- the first fields, with these values instead of their own
+abbrev pub with_values : List Field → List Tree → List Field
+with_values fs [] = []
+with_values [] (v ∷ vs) = []
+with_values (f ∷ fs) (v ∷ vs) = (f.0, v) ∷ with_values fs vs
+
 -- whether a field has this name
 abbrev pub has_name : List ℕ → List Field → Bool
 has_name name [] = false

@@ -21,7 +21,7 @@ pub use kind::Kind;
 pub use limits::{
     FRAME, MAX_DOCUMENT_LEN, MAX_LEVELS, document_size, fits, size, value_size, value_within,
 };
-pub use name::begins_with_dollar;
+pub use name::{Name, begins_with_dollar};
 pub use name_list::Names;
 pub use text::Str;
 pub use value::{Document, Fields, List, Value};

@@ -22,9 +22,9 @@ pub(crate) enum Kept {
     Long(String),
 }
 
-/// A name. A short one takes no memory of its own.
+/// A name. One of at most 16 bytes takes no memory of its own.
 #[derive(Debug, Drop)]
-pub(crate) struct Name {
+pub struct Name {
     kept: Kept,
 }
 
@@ -38,8 +38,8 @@ impl Model for Name {
 }
 
 impl Name {
-    /// The name with this text. Fails where memory is wanting.
-    pub(crate) fn of(alloc: Global, text: &str) -> Result<Self, NoMemory>
+    /// The name with this text. Fails with `NoMemory` when memory runs out.
+    pub fn of(alloc: Global, text: &str) -> Result<Self, NoMemory>
         ensures { IfOk result (λ name. name ≡ text.now) }
     {
         let kept = match ArrayString::from(text) {
@@ -50,7 +50,7 @@ impl Name {
     }
 
     /// The name's text.
-    pub(crate) fn as_str(&self) -> &str
+    pub fn as_str(&self) -> &str
         ensures { result.now ≡ self.now }
     {
         match &self.kept {
@@ -75,8 +75,8 @@ impl Name {
         own == name
     }
 
-    /// A copy of its own. Fails where memory is wanting.
-    pub(crate) fn try_clone(&self) -> Result<Self, NoMemory>
+    /// A copy of its own. Fails with `NoMemory` when memory runs out.
+    pub fn try_clone(&self) -> Result<Self, NoMemory>
         ensures { IfOk result (λ copy. copy ≡ self.now) }
     {
         let kept = match &self.kept {

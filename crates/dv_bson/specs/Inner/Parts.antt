@@ -1,5 +1,5 @@
 -- Parts of reading, as the reader takes them one by one.
-use Rattle.std.specs.Prelude.{◌≡◌, ℕ, suc, ◌+◌, ◌-◌, Bool, List, [], ◌∷◌, length, Option, Some, None, Result, Ok, Err, nat_lt, if◌then◌else◌, decimal}
+use Rattle.std.specs.Prelude.{◌≡◌, ℕ, suc, ◌+◌, ◌-◌, Bool, List, [], ◌∷◌, length, Option, Some, None, Result, Ok, Err, nat_lt, slice_get, if◌then◌else◌, decimal}
 use Rattle.std.specs.Str.{is_utf8}
 use Rattle.dv_value.specs.declared.kind.Kind.{Kind}
 use Rattle.dv_value.specs.declared.fault.BsonFault.{BsonFault}
@@ -48,6 +48,19 @@ numbered i (v ∷ vs) = (decimal i, v) ∷ numbered (suc i) vs
 abbrev pub GivesPart : {X Y Z : Type 0} → (X → Z) → (Y → Z) → Result X ReadError → Result Y BsonFault → Type 0
 GivesPart {Y = Y} view part (Ok x) read = (y : Y) × (read ≡ Ok y) × (part y ≡ view x)
 GivesPart view part (Err e) read = Fails e read
+
+-- What a function returned is the next field's value and what is behind it, and the field has the name of the one at a place of other
+-- fields; its fault is reading's first one, unless memory is wanting.
+abbrev pub GivesNext : {X : Type 0} → List Field → ℕ → (X → Tree × List ℕ) → Result (Option X) ReadError → Result (Field × List ℕ) BsonFault → Type 0
+GivesNext like place view (Ok None) read = Unit {0}
+GivesNext like place view (Ok (Some x)) read = (f : Field) × (slice_get like place ≡ Some f) × (read ≡ Ok ((f.0, (view x).0), (view x).1))
+GivesNext like place view (Err e) read = Fails e read
+
+-- What is left to be read behind what a function returned gives what reading gives, and its fault is reading's first one, unless memory
+-- is wanting.
+abbrev pub LeavesToRead : {X Y : Type 0} → (X → Result Y BsonFault) → Result X ReadError → Result Y BsonFault → Type 0
+LeavesToRead left (Ok x) read = left x ≡ read
+LeavesToRead left (Err e) read = Fails e read
 
 -- Reading goes on to the end where a function says so, and else the function's fault is reading's first one, unless memory is
 -- wanting.

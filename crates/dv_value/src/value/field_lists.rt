@@ -3,7 +3,7 @@
 ghost use Rattle.std.specs.Prelude.{◌≡◌, ◌+◌, ◌<◌, ◌≤◌, [], ◌∷◌, ◌++◌, false, length, take, map, OnOk, OnErr, IfOk, IfSome, slice_get};
 ghost use Rattle.std.specs.Option.{option_map};
 ghost use Rattle.dv_value.specs.FieldChange.{with_value_pushed};
-ghost use Rattle.dv_value.specs.Names.{bare, AreNamed, place_under, value_under, with_value_under, without, has_name, has_zero};
+ghost use Rattle.dv_value.specs.Names.{bare, AreNamed, place_under, value_under, with_value_under, with_values, without, has_name, has_zero};
 ghost use Rattle.dv_value.specs.Inner.Put.{with_value_at};
 ghost use Rattle.dv_value.specs.View.{tree};
 
@@ -16,8 +16,8 @@ use std::mem::replace;
 use std::rc::Rc;
 
 impl Fields {
-    /// No fields, with room for so many. Fails where memory is wanting.
-    pub(super) fn with_room(alloc: Global, fields: usize) -> Result<Self, NoMemory>
+    /// No fields, with room for so many. Fails with `NoMemory` when memory runs out.
+    pub fn with_room(alloc: Global, fields: usize) -> Result<Self, NoMemory>
         ensures { IfOk result (λ fields. fields ≡ []) }
     {
         Ok(Fields {
@@ -47,15 +47,32 @@ impl Fields {
         })
     }
 
-    /// No fields yet of a document that is read. The names to expect are those of the document that came before it; without one
-    /// there is room for so many. Fails with `NoMemory` when memory runs out.
-    pub fn expected(alloc: Global, before: Option<&Document>, room: usize) -> Result<Self, NoMemory>
-        ensures { IfOk result (λ fields. fields ≡ []) }
+    /// Fields of these values under the names of the document's first ones, which they share. Fails with `NoMemory` when memory runs
+    /// out.
+    pub fn like(document: &Document, values: Vec<Value>) -> Result<Self, NoMemory>
+        requires { length values.items ≤ length document.now }
+        ensures { IfOk result (λ fields. fields ≡ with_values document.now (map tree values.items)) }
     {
-        match before {
-            Some(document) => Fields::beside(alloc, document),
-            None => Fields::with_room(alloc, room),
+        let alloc = *values.allocator();
+        match &document.content {
+            Content::Own(measured) => measured.fields().with_values(values),
+            Content::Over(overlay) => overlay.with_values(values),
+            Content::Empty => Ok(Fields {
+                names: Rc::new(alloc, Names::with_room(alloc, 0)?)?,
+                values,
+            }),
         }
+    }
+
+    /// These values under the first names, which are shared. Fails where memory is wanting.
+    pub(super) fn with_values(&self, values: Vec<Value>) -> Result<Self, NoMemory>
+        requires { length values.items ≤ length self.now }
+        ensures { IfOk result (λ fields. fields ≡ with_values self.now (map tree values.items)) }
+    {
+        Ok(Fields {
+            names: self.names.clone()?,
+            values,
+        })
     }
 
     /// How many fields there are.
@@ -98,19 +115,7 @@ impl Fields {
         }
     }
 
-    /// The name that the next field is expected to have, if other documents of the same names have one there.
-    pub fn expected_name(&self) -> Option<&str>
-        ensures { IfSome result (λ name. (has_name name.now self.now ≡ false) × (has_zero name.now ≡ false)) }
-    {
-        let place = self.values.len();
-        if place < self.names.len() {
-            self.names.get(place)
-        } else {
-            None
-        }
-    }
-
-    /// Whether a field has the name. Takes constant time if it is the expected name.
+    /// Whether a field has the name. Takes constant time if others of the names that it shares have it next.
     pub fn has(&self, name: &str) -> bool
         ensures has { result ≡ has_name name.now self.now }
         ensures named { AreNamed self.now }

@@ -2,7 +2,7 @@
 
 ghost use Rattle.std.specs.Prelude.{◌≡◌, ◌<◌, ◌≤◌, [], ◌∷◌, ◌++◌, false, length, slice_get, map, OnOk, OnErr, IfOk, IfSome};
 ghost use Rattle.std.specs.Option.{option_map, option_flatten};
-ghost use Rattle.dv_value.specs.Names.{AreNamed, place_under, value_under, value_at, has_name, has_zero};
+ghost use Rattle.dv_value.specs.Names.{AreNamed, place_under, value_under, value_at, with_values, has_name, has_zero};
 ghost use Rattle.dv_value.specs.Tree.{fields_of, elements_of};
 ghost use Rattle.dv_value.specs.Inner.Covers.{IsText};
 ghost use Rattle.dv_value.specs.Inner.Put.{with_value_at};
@@ -27,6 +27,14 @@ impl Overlay {
     /// The fields with their own values: the names are those that are shown.
     pub(super) fn own_fields(&self) -> &Fields {
         &self.fields
+    }
+
+    /// As `with_values` of `Fields`.
+    pub(super) fn with_values(&self, values: Vec<Value>) -> Result<Fields, NoMemory>
+        requires { length values.items ≤ length self.now }
+        ensures { IfOk result (λ fields. fields ≡ with_values self.now (map tree values.items)) }
+    {
+        self.fields.with_values(values)
     }
 
     /// How many fields there are.

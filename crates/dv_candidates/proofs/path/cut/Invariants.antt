@@ -3,7 +3,7 @@ use Rattle.std.proofs.lemmas.Iterator.{YieldsList}
 use Rattle.std.specs.Str.Iter.{split_steps}
 use Rattle.std.specs.Str.Pattern.{FindsChar}
 use Rattle.dv_candidates.proofs.Parsing.{IsRead}
-use Rattle.dv_candidates.proofs.path.Path.parse.Given as goal
+use Rattle.dv_candidates.proofs.path.cut.Given as goal
 
 abbrev pub invariant-names : goal.invariant-names
 invariant-names l =

@@ -4,7 +4,7 @@ use Rattle.std.specs.Str.Iter.{split_steps}
 use Rattle.std.specs.Str.Pattern.{FindsChar}
 use Rattle.std.proofs.lemmas.Iterator.Splits.{YieldsList-from_str_split}
 use Rattle.dv_candidates.proofs.Parsing.{YieldsList-next, YieldsList-last, IsRead-none, IsRead-more, path_of-refused, path_of-read, some-read}
-use Rattle.dv_candidates.proofs.path.Path.parse.Goals as goal
+use Rattle.dv_candidates.proofs.path.cut.Goals as goal
 
 pub names-init : goal.names-init
 names-init c =
