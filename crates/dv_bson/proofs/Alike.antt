@@ -1,10 +1,13 @@
 -- Fields under the names of others.
-use Rattle.std.proofs.Common.{◌≡◌, ℕ, zero, suc, ◌||◌, Bool, true, false, List, [], ◌∷◌, ◌++◌, length, Some, None, refl, sym, ap, subst, ◌∙◌}
+use Rattle.std.proofs.Common.{◌≡◌, ℕ, zero, suc, ◌||◌, Bool, true, false, List, [], ◌∷◌, ◌++◌, length, map, Some, refl, sym, ap, subst, ◌∙◌}
 use Rattle.std.specs.List.{slice_get}
 use Rattle.std.specs.Str.{bytes_eq}
+use Rattle.std.proofs.lemmas.List.{length-map, map-append}
 use Rattle.std.proofs.lemmas.Slice.Eq.{bytes_eq-Decides}
 use Rattle.dv_value.specs.Tree.{Tree, Field}
 use Rattle.dv_value.specs.Names.{AreNamed, has_name, has_zero, with_values}
+use Rattle.dv_value.specs.View.{tree}
+use Rattle.dv_value.specs.declared.value.Value.{Value}
 use Rattle.dv_bson.proofs.Elements.{MayBeAdded}
 
 some_is : (f g : Field) → Some f ≡ Some g → f ≡ g
@@ -42,3 +45,11 @@ pub with_values-push : (fs : List Field) (vs : List Tree) (f : Field) (v : Tree)
 with_values-push [] vs f v e = absurd cc
 with_values-push (g ∷ fs) [] f v e = ap (λ (h : Field). (h.0, v) ∷ []) (some_is g f e)
 with_values-push (g ∷ fs) (w ∷ vs) f v e = ap (λ (gs : List Field). (g.0, w) ∷ gs) (with_values-push fs vs f v e)
+
+-- the same of values in memory
+pub next_field : (fs : List Field) (values : List Value) (f : Field) → AreNamed fs → slice_get fs (length values) ≡ Some f → MayBeAdded (with_values fs (map tree values)) f.0
+next_field fs values f named there = next_may_be_added fs (map tree values) f named (ap (slice_get fs) (length-map values tree) ∙ there)
+
+pub values_grown : (fs : List Field) (values : List Value) (f : Field) (v : Value) → slice_get fs (length values) ≡ Some f → with_values fs (map tree (values ++ v ∷ [])) ≡ with_values fs (map tree values) ++ (f.0, tree v) ∷ []
+values_grown fs values f v there =
+    ap (with_values fs) (map-append tree values (v ∷ [])) ∙ with_values-push fs (map tree values) f (tree v) (ap (slice_get fs) (length-map values tree) ∙ there)

@@ -181,9 +181,6 @@ fn value_like_next<'a>(
     let Some((name, value)) = like.entry(before.len()) else {
         return Ok(None);
     };
-    if bytes.is_empty() {
-        return Ok(None);
-    }
     let (kind, behind) = front_kind_of(bytes, at)?;
     let Some(rest) = behind_name(name, behind) else {
         return Ok(None);
@@ -203,9 +200,9 @@ struct Begun<'a> {
     rest: &'a [u8],
 }
 
-/// The first of a document's fields, as far as they have the names of `like`, in its order.
+/// Reads the first of a document's fields, as far as they have the names of `like`, in its order.
 #[cycle(reader)]
-fn begun_like<'a>(
+fn begin_like<'a>(
     alloc: Global,
     levels: u32,
     like: &Document,
@@ -214,14 +211,15 @@ fn begun_like<'a>(
 ) -> Result<Begun<'a>, ReadError>
     requires at { at + length elements.now < 16777216 }
     requires levels { levels ≤ 100 }
-    ensures { (last : ℕ) → LeavesToRead (λ begun. fields_at (body_at levels) (length begun.rest.now) false begun.at begun.fields begun.rest.now last) result (fields_at (body_at levels) (length elements.now) false at [] elements.now last) }
+    ensures left { (last : ℕ) → LeavesToRead (λ begun. fields_at (body_at levels) (length begun.rest.now) false begun.at begun.fields begun.rest.now last) result (fields_at (body_at levels) (length elements.now) false at [] elements.now last) }
     ensures at { IfOk result (λ begun. begun.at + length begun.rest.now ≡ at + length elements.now) }
 {
     let mut values = Vec::with_capacity(alloc, like.len())?;
     let mut rest = elements;
-    'fields: while let Some((value, after)) =
-        value_like_next(alloc, levels, like, at, &values, rest)?
-    {
+    'fields: while !rest.is_empty() {
+        let Some((value, after)) = value_like_next(alloc, levels, like, at, &values, rest)? else {
+            break;
+        };
         values.push(value)?;
         at += rest.len() - after.len();
         rest = after;
@@ -230,9 +228,9 @@ fn begun_like<'a>(
     Ok(Begun { fields, at, rest })
 }
 
-/// The same, or no field yet where there is no `like`.
+/// The same, or none where there is no `like`.
 #[cycle(reader)]
-fn begun<'a>(
+fn begin<'a>(
     alloc: Global,
     levels: u32,
     like: Option<&Document>,
@@ -241,11 +239,11 @@ fn begun<'a>(
 ) -> Result<Begun<'a>, ReadError>
     requires at { at + length elements.now < 16777216 }
     requires levels { levels ≤ 100 }
-    ensures { (last : ℕ) → LeavesToRead (λ begun. fields_at (body_at levels) (length begun.rest.now) false begun.at begun.fields begun.rest.now last) result (fields_at (body_at levels) (length elements.now) false at [] elements.now last) }
+    ensures left { (last : ℕ) → LeavesToRead (λ begun. fields_at (body_at levels) (length begun.rest.now) false begun.at begun.fields begun.rest.now last) result (fields_at (body_at levels) (length elements.now) false at [] elements.now last) }
     ensures at { IfOk result (λ begun. begun.at + length begun.rest.now ≡ at + length elements.now) }
 {
     if let Some(like) = like {
-        return begun_like(alloc, levels, like, at, elements);
+        return begin_like(alloc, levels, like, at, elements);
     }
     Ok(Begun {
         fields: Fields::with_room(alloc, first_room(elements.len()))?,
@@ -276,7 +274,7 @@ fn document_of(
         mut fields,
         mut at,
         mut rest,
-    } = begun(alloc, levels - 1, like, at, elements)?;
+    } = begin(alloc, levels - 1, like, at, elements)?;
     'elements: while !rest.is_empty() {
         let (name, value, after) = field_of(alloc, levels - 1, like, at, &fields, rest)?;
         fields.add(name, value)?;

@@ -1,10 +1,14 @@
-use Rattle.std.proofs.Common.{map, false, true, sym, ◌∙◌, rules, arith}
+use Rattle.std.proofs.Common.{length, map, false, true, sym, ◌∙◌, rules, arith}
+use Rattle.std.proofs.lemmas.List.{length_push}
+use Rattle.std.proofs.lemmas.Option.{slice_get_within}
 use Rattle.std.proofs.lemmas.Result.{err_from_is_err_and}
+use Rattle.dv_value.specs.Names.{with_values}
 use Rattle.dv_value.specs.View.{tree}
 use Rattle.dv_bson.specs.Inner.Parts.{numbered}
 use Rattle.dv_bson.proofs.Shorter.{behind_name, frame_within}
 use Rattle.dv_bson.proofs.Fronts.{length_numbered}
 use Rattle.dv_bson.proofs.Elements.{field_may_be_added, array_read, numbered_push}
+use Rattle.dv_bson.proofs.Alike.{next_field, values_grown}
 use Rattle.dv_bson.proofs.Measured.{inside_measured}
 use Rattle.dv_bson.proofs.Loop.{shorter, goes_on, ends, is_done, starts, too_deep, some_left, none_left}
 use Rattle.dv_bson.proofs.Turns.{fails_kind, fails_name, fails_value, gives_field, gives_element}
@@ -72,6 +76,72 @@ value_of-list_of-requires t c = (search rules, omega (arith, c.requires, frame_w
 pub value_of-returns-in_ok-list-in-Array : goal.value_of-returns-in_ok-list-in-Array
 value_of-returns-in_ok-list-in-Array t c = rw c.in-Array.is (array_read _ _ _ _ _ c.in_ok-frame-in-Array.ensures c.in_ok-list-in-Array.ensures)
 
+-- ---- the fields that have the names of others
+
+pub value_like_next-overflow_sub-at : goal.value_like_next-overflow_sub-at
+value_like_next-overflow_sub-at t c =
+    let like = c.args.like.now in
+    let before = c.args.before.now in
+    let next = next_field like before (c.in-Some.name.now, tree c.in-Some.value.now) c.requires.named (sym c.in-Some.ensures) in
+    let name = c.in-Some-behind_name.ensures (with_values like (map tree before)) next.fresh next.whole in
+    behind_name _ _ _ _ _ _ c.in_ok-kind.ensures name
+
+pub value_like_next-value_of-requires : goal.value_like_next-value_of-requires
+value_like_next-value_of-requires t c =
+    let like = c.args.like.now in
+    let before = c.args.before.now in
+    let next = next_field like before (c.in-Some.name.now, tree c.in-Some.value.now) c.requires.named (sym c.in-Some.ensures) in
+    let name = c.in-Some-behind_name.ensures (with_values like (map tree before)) next.fresh next.whole in
+    (search rules, omega (arith, c.requires.at, behind_name _ _ _ _ _ _ c.in_ok-kind.ensures name))
+
+pub value_like_next-returns-in_err-kind : goal.value_like_next-returns-in_err-kind
+value_like_next-returns-in_err-kind t c =
+    let p = err_from_is_err_and c.from_residual.result c.from_residual.ensures.1 in
+    rw (p.1, p.2) (fails_kind _ _ _ _ _ _ c.in_err-kind.ensures)
+
+pub value_like_next-returns-in_err-value : goal.value_like_next-returns-in_err-value
+value_like_next-returns-in_err-value t c =
+    let like = c.args.like.now in
+    let before = c.args.before.now in
+    let next = next_field like before (c.in-Some.name.now, tree c.in-Some.value.now) c.requires.named (sym c.in-Some.ensures) in
+    let name = c.in-Some-behind_name.ensures (with_values like (map tree before)) next.fresh next.whole in
+    let p = err_from_is_err_and c.from_residual-in_err-value.result c.from_residual-in_err-value.ensures.1 in
+    rw (p.1, p.2) (fails_value _ _ _ _ _ _ c.in_ok-kind.ensures _ name _ c.in_err-value.ensures)
+
+pub value_like_next-returns : goal.value_like_next-returns
+value_like_next-returns t c =
+    let like = c.args.like.now in
+    let before = c.args.before.now in
+    let next = next_field like before (c.in-Some.name.now, tree c.in-Some.value.now) c.requires.named (sym c.in-Some.ensures) in
+    let name = c.in-Some-behind_name.ensures (with_values like (map tree before)) next.fresh next.whole in
+    ((c.in-Some.name.now, tree c.in-Some.value.now), sym c.in-Some.ensures, gives_field _ _ _ _ _ _ c.in_ok-kind.ensures _ name _ c.in_ok-value.ensures)
+
+pub begin_like-returns-in_err-value-clause-left : goal.begin_like-returns-in_err-value-clause-left
+begin_like-returns-in_err-value-clause-left t c = λ last.
+    let p = err_from_is_err_and c.from_residual-in_err-value.result c.from_residual-in_err-value.ensures.1 in
+    let failed = rw c.deref.ensures.value at c.in_err-value.ensures in
+    rw (p.1, p.2) (ends _ _ _ _ _ _ _ _ (some_left _ (sym c.is_empty.ensures ∙ c.fields-test.true)) failed (c.fields.invariant.read last))
+
+pub begin_like-overflow_sub-at : goal.begin_like-overflow_sub-at
+begin_like-overflow_sub-at t c =
+    let next = rw (c.in-Some.is, c.deref.ensures.value) at c.in_ok-value.ensures in
+    omega (arith, shorter _ _ _ _ _ _ next.2)
+
+pub begin_like-fields-smaller : goal.begin_like-fields-smaller
+begin_like-fields-smaller t c =
+    let next = rw (c.in-Some.is, c.deref.ensures.value) at c.in_ok-value.ensures in
+    shorter _ _ _ _ _ _ next.2
+
+pub begin_like-fields-preserved : goal.begin_like-fields-preserved
+begin_like-fields-preserved t c =
+    let next = rw (c.in-Some.is, c.deref.ensures.value) at c.in_ok-value.ensures in
+    let values = c.fields.values.items in
+    record {
+      read = λ last. rw (c.in_ok-push.ensures.items, values_grown c.args.like.now values next.0 c.in-Some.value next.1) (goes_on _ _ _ _ _ _ _ _ next.2 (c.fields.invariant.read last));
+      as_far = omega (arith, c.fields.invariant.as_far, shorter _ _ _ _ _ _ next.2);
+      fits = rw c.in_ok-push.ensures.items (omega (arith, length_push values c.in-Some.value, slice_get_within c.args.like.now (length values) next.0 next.1));
+    }
+
 -- ---- the loop over a document's fields
 
 pub document_of-returns-then-levels-eq0 : goal.document_of-returns-then-levels-eq0
@@ -79,9 +149,14 @@ document_of-returns-then-levels-eq0 t c = too_deep _ _ _ _ _ (omega arith)
 
 pub document_of-elements-init : goal.document_of-elements-init
 document_of-elements-init t c = record {
-  read = rw c.in_ok-fields.ensures (starts c.args.levels false c.args.at c.args.elements.now c.args.last (omega arith));
-  in_range = c.requires.at;
+  read = c.in_ok-fields.ensures.left c.args.last ∙ starts c.args.levels false c.args.at c.args.elements.now c.args.last (omega arith);
+  in_range = omega (arith, c.in_ok-fields.ensures.at, c.requires.at);
 }
+
+pub document_of-returns-in_err-fields : goal.document_of-returns-in_err-fields
+document_of-returns-in_err-fields t c =
+    let p = err_from_is_err_and c.from_residual.result c.from_residual.ensures.1 in
+    rw (p.1, p.2, ← starts c.args.levels false c.args.at c.args.elements.now c.args.last (omega arith)) (c.in_err-fields.ensures.left c.args.last)
 
 pub document_of-returns-in_err-name : goal.document_of-returns-in_err-name
 document_of-returns-in_err-name t c =
