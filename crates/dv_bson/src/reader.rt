@@ -10,8 +10,9 @@ ghost use Rattle.dv_bson.specs.Inner.Parts.{field_at, numbered, GivesNext, Leave
 
 use crate::fault::ReadError;
 use crate::reading::{
-    behind_index, behind_name, binary_of, boolean_of, date_of, field_name_of, frame_of, front_kind_of, int32_of,
-    int64_of, kind_of, object_id_of, outermost_frame_of, text_of, timestamp_of,
+    behind_index, behind_name, binary_of, boolean_of, date_of, field_name_of, frame_of,
+    front_kind_of, int32_of, int64_of, kind_of, object_id_of, outermost_frame_of, text_of,
+    timestamp_of,
 };
 use dv_value::{BsonFault, Document, FRAME, Fields, Kind, List, MAX_LEVELS, NoMemory, Value};
 use std::alloc::Global;
