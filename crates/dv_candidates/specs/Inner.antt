@@ -4,3 +4,4 @@ pub mod Fault
 pub mod Places
 pub mod Onward
 pub mod Components
+pub mod Examples

@@ -1,12 +1,12 @@
 //! Sets of places in a path.
 
-ghost use Rattle.std.specs.Prelude.{◌≡◌, ℕ, suc, ◌<◌, ◌==◌, ◌&&◌, ◌||◌, true, false, Bool, List, Some, MatchBool, IfSome};
+ghost use Rattle.std.specs.Prelude.{◌≡◌, ℕ, suc, ◌<◌, ◌==◌, ◌||◌, true, false, Bool, List, Some, MatchBool, IfSome};
 ghost use Rattle.std.specs.Int.{bit_at};
 ghost use Rattle.std.specs.Option.{option_map};
 ghost use Rattle.std.specs.Str.{bytes_eq};
 ghost use Rattle.dv_candidates.specs.Inner.Fold.{Answers};
 ghost use Rattle.dv_candidates.specs.Path.{index_of};
-ghost use Rattle.dv_candidates.specs.Inner.Places.{has, passes_at, picks, follows, HaveName, IsBefore};
+ghost use Rattle.dv_candidates.specs.Inner.Places.{AreThose, HaveName, IsBefore, follows, has, picks};
 
 use crate::component::Component;
 
@@ -42,14 +42,14 @@ impl Places {
 
     /// The places that have a component.
     pub(crate) fn before_end(self, components: &[Component]) -> Self
-        ensures { (place : ℕ) → has result place ≡ (has self place && passes_at (λ _. true) components.now place) }
+        ensures { AreThose (λ _. true) components.now self result }
     {
         self.those(components, |_| true)
     }
 
     /// The places whose component has this name.
     pub(crate) fn named(self, components: &[Component], name: &str) -> Self
-        ensures { (place : ℕ) → has result place ≡ (has self place && passes_at (bytes_eq name.now) components.now place) }
+        ensures { AreThose (bytes_eq name.now) components.now self result }
     {
         self.those(components, |component| name == component.as_str())
     }
@@ -74,7 +74,7 @@ impl Places {
 
     /// The places whose component picks the element at this index.
     pub(crate) fn picking(self, components: &[Component], index: usize) -> Self
-        ensures { (place : ℕ) → has result place ≡ (has self place && passes_at (λ name. picks index (index_of name)) components.now place) }
+        ensures { AreThose (λ name. picks index (index_of name)) components.now self result }
     {
         self.those(components, |component| match component.index() {
             Some(place) => place == index,
@@ -85,7 +85,7 @@ impl Places {
     /// The places whose component passes the test.
     fn those<F: Fn(&Component) -> bool>(self, components: &[Component], test: F) -> Self
         requires { F.IsAlwaysCallable test }
-        ensures { (passes : List ℕ → Bool) → Answers (λ x. x.now) (λ x b. F.post test x b) passes → (place : ℕ) → has result place ≡ (has self place && passes_at passes components.now place) }
+        ensures { (passes : List ℕ → Bool) → Answers (λ x. x.now) (λ x b. F.post test x b) passes → AreThose passes components.now self result }
     {
         let mut mask = 0;
         for (place, component) in components.iter().enumerate() {

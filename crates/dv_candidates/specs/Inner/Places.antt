@@ -29,6 +29,10 @@ passes_at test [] place = false
 passes_at test (name ∷ names) zero = test name
 passes_at test (name ∷ names) (suc place) = passes_at test names place
 
+-- of places, those whose component passes a test
+abbrev pub AreThose : (List ℕ → Bool) → List (List ℕ) → Places → Places → Type 0
+AreThose test names all those = (place : ℕ) → has those place ≡ (has all place && passes_at test names place)
+
 -- whether a place follows one that is in a set
 abbrev pub follows : (ℕ → Bool) → ℕ → Bool
 follows inside zero = false
