@@ -5,6 +5,7 @@ pub mod Places
 pub mod PlaceLaws
 pub mod Lents
 pub mod Changes
+pub mod Bounds
 pub mod Beginning
 pub mod DiffLaws
 pub mod Answered

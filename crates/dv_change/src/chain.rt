@@ -1,16 +1,15 @@
 //! Stages one behind the other.
 
-ghost use Rattle.std.specs.Prelude.{◌≡◌, ◌+◌, ◌<◌, ◌≤◌, ◌++◌, [], length, OnErr, OnOk};
+ghost use Rattle.std.specs.Prelude.{◌≡◌, ◌<◌, ◌≤◌, ◌++◌, [], OnErr, OnOk};
 ghost use Rattle.std.specs.List.{AllByRecursion};
 ghost use Rattle.dv_change.specs.Inner.Beginning.{BeginsWith};
 ghost use Rattle.dv_change.specs.Changes.{with_changes};
 ghost use Rattle.dv_change.specs.Inner.Changes.{IsExactChange};
-ghost use Rattle.dv_change.specs.Inputs.{left_after};
-ghost use Rattle.dv_change.specs.Inner.Linked.{IsLinked, first_left, forms_of, last_outs};
+ghost use Rattle.dv_change.specs.declared.input.Input.TheVariants.{Named};
+ghost use Rattle.dv_change.specs.Inner.Linked.{IsLinked, LeadOn, MakeAsStages, StagesFollow, StayLinked, StayLinkedAlong, changes_returned, changes_returned_in, first_left, forms_of, work_done, work_done_in};
 ghost use Rattle.dv_change.specs.Raised.{raised};
 ghost use Rattle.dv_change.specs.Work as defined;
-ghost use Rattle.dv_change.specs.Work.{pass, pass_in, pass_named, through_forms, work, work_in, work_named};
-ghost use Rattle.dv_change.specs.Inner.Work.{HasAny, forms_after, forms_named, named_in};
+ghost use Rattle.dv_change.specs.Inner.Work.{HasAny, named_in, stage_work};
 
 use crate::change::Change;
 use crate::input::Input;
@@ -57,12 +56,12 @@ impl<T: Turn + Drop> Chain<T> {
     ) -> Result<(), NoMemory>
         requires linked { IsLinked T.left T.others T.makes T.sound self.old (first_left T.left T.others T.makes T.sound self.old) }
         requires input { HasAny input (forms_of T.left T.others T.makes T.sound self.old) }
-        ensures forms { OnOk result (forms_of T.left T.others T.makes T.sound self.new ≡ forms_after input change (forms_of T.left T.others T.makes T.sound self.old)) }
-        ensures linked { OnOk result (IsLinked T.left T.others T.makes T.sound self.new (left_after input change (first_left T.left T.others T.makes T.sound self.old))) }
-        ensures outs { OnOk result (last_outs T.left T.others T.makes T.sound self.new (left_after input change (first_left T.left T.others T.makes T.sound self.old)) ≡ through_forms (forms_of T.left T.others T.makes T.sound self.new) (left_after input change (first_left T.left T.others T.makes T.sound self.old))) }
-        ensures leads { OnOk result (with_changes (through_forms (forms_of T.left T.others T.makes T.sound self.old) (first_left T.left T.others T.makes T.sound self.old)) (pass_in input change (forms_of T.left T.others T.makes T.sound self.old) (first_left T.left T.others T.makes T.sound self.old)) ≡ through_forms (forms_of T.left T.others T.makes T.sound self.new) (left_after input change (first_left T.left T.others T.makes T.sound self.old))) }
-        ensures out { OnOk result (out.new.items ≡ out.old.items ++ pass_in input change (forms_of T.left T.others T.makes T.sound self.old) (first_left T.left T.others T.makes T.sound self.old)) }
-        ensures ticks { OnOk result (ticks.new ≡ raised ticks.old (work_in input change (forms_of T.left T.others T.makes T.sound self.old) (first_left T.left T.others T.makes T.sound self.old))) }
+        ensures forms { OnOk result (StagesFollow T.left T.others T.makes T.sound input change self.old self.new) }
+        ensures linked { OnOk result (StayLinked T.left T.others T.makes T.sound input change self.old self.new) }
+        ensures outs { OnOk result (MakeAsStages T.left T.others T.makes T.sound input change self.old self.new) }
+        ensures leads { OnOk result (LeadOn T.left T.others T.makes T.sound input change self.old self.new) }
+        ensures out { OnOk result (out.new.items ≡ out.old.items ++ changes_returned_in T.left T.others T.makes T.sound input change self.old) }
+        ensures ticks { OnOk result (ticks.new ≡ raised ticks.old (work_done_in T.left T.others T.makes T.sound input change self.old)) }
         ensures begins { OnErr result (BeginsWith out.new.items out.old.items) }
         ensures no_fewer { OnErr result (ticks.old ≤ ticks.new) }
     {
@@ -88,12 +87,12 @@ fn feed_input<T: Turn>(
 ) -> Result<(), NoMemory>
     requires linked { IsLinked T.left T.others T.makes T.sound turns.old (first_left T.left T.others T.makes T.sound turns.old) }
     requires input { HasAny input (forms_of T.left T.others T.makes T.sound turns.old) }
-    ensures forms { OnOk result (forms_of T.left T.others T.makes T.sound turns.new ≡ forms_after input change (forms_of T.left T.others T.makes T.sound turns.old)) }
-    ensures linked { OnOk result (IsLinked T.left T.others T.makes T.sound turns.new (left_after input change (first_left T.left T.others T.makes T.sound turns.old))) }
-    ensures outs { OnOk result (last_outs T.left T.others T.makes T.sound turns.new (left_after input change (first_left T.left T.others T.makes T.sound turns.old)) ≡ through_forms (forms_of T.left T.others T.makes T.sound turns.new) (left_after input change (first_left T.left T.others T.makes T.sound turns.old))) }
-    ensures leads { OnOk result (with_changes (through_forms (forms_of T.left T.others T.makes T.sound turns.old) (first_left T.left T.others T.makes T.sound turns.old)) (pass_in input change (forms_of T.left T.others T.makes T.sound turns.old) (first_left T.left T.others T.makes T.sound turns.old)) ≡ through_forms (forms_of T.left T.others T.makes T.sound turns.new) (left_after input change (first_left T.left T.others T.makes T.sound turns.old))) }
-    ensures out { OnOk result (out.new.items ≡ out.old.items ++ pass_in input change (forms_of T.left T.others T.makes T.sound turns.old) (first_left T.left T.others T.makes T.sound turns.old)) }
-    ensures ticks { OnOk result (ticks.new ≡ raised ticks.old (work_in input change (forms_of T.left T.others T.makes T.sound turns.old) (first_left T.left T.others T.makes T.sound turns.old))) }
+    ensures forms { OnOk result (StagesFollow T.left T.others T.makes T.sound input change turns.old turns.new) }
+    ensures linked { OnOk result (StayLinked T.left T.others T.makes T.sound input change turns.old turns.new) }
+    ensures outs { OnOk result (MakeAsStages T.left T.others T.makes T.sound input change turns.old turns.new) }
+    ensures leads { OnOk result (LeadOn T.left T.others T.makes T.sound input change turns.old turns.new) }
+    ensures out { OnOk result (out.new.items ≡ out.old.items ++ changes_returned_in T.left T.others T.makes T.sound input change turns.old) }
+    ensures ticks { OnOk result (ticks.new ≡ raised ticks.old (work_done_in T.left T.others T.makes T.sound input change turns.old)) }
     ensures begins { OnErr result (BeginsWith out.new.items out.old.items) }
     ensures no_fewer { OnErr result (ticks.old ≤ ticks.new) }
 {
@@ -121,7 +120,7 @@ fn feed<T: Turn>(
     ensures left { OnOk result (T.left turn.new ≡ with_changes (T.left turn.old) changes.items) }
     ensures others { OnOk result (T.others turn.new ≡ T.others turn.old) }
     ensures out { OnOk result (out.new.items ≡ out.old.items ++ defined.handed (T.makes turn.old (T.others turn.old)) (T.left turn.old) changes.items) }
-    ensures ticks { OnOk result (ticks.new ≡ raised ticks.old (length changes.items + length (defined.handed (T.makes turn.old (T.others turn.old)) (T.left turn.old) changes.items))) }
+    ensures ticks { OnOk result (ticks.new ≡ raised ticks.old (stage_work (T.makes turn.old (T.others turn.old)) (T.left turn.old) changes.items)) }
     ensures begins { OnErr result (BeginsWith out.new.items out.old.items) }
     ensures no_fewer { OnErr result (ticks.old ≤ ticks.new) }
 {
@@ -142,9 +141,9 @@ fn feed_all<T: Turn>(
     requires linked { IsLinked T.left T.others T.makes T.sound turns.old (first_left T.left T.others T.makes T.sound turns.old) }
     requires exact { AllByRecursion IsExactChange changes.items }
     ensures forms { OnOk result (forms_of T.left T.others T.makes T.sound turns.new ≡ forms_of T.left T.others T.makes T.sound turns.old) }
-    ensures linked { OnOk result (IsLinked T.left T.others T.makes T.sound turns.new (with_changes (first_left T.left T.others T.makes T.sound turns.old) changes.items)) }
-    ensures out { OnOk result (out.new.items ≡ out.old.items ++ pass (forms_of T.left T.others T.makes T.sound turns.old) (first_left T.left T.others T.makes T.sound turns.old) changes.items) }
-    ensures ticks { OnOk result (ticks.new ≡ raised ticks.old (work (forms_of T.left T.others T.makes T.sound turns.old) (first_left T.left T.others T.makes T.sound turns.old) changes.items)) }
+    ensures linked { OnOk result (StayLinkedAlong T.left T.others T.makes T.sound changes.items turns.old turns.new) }
+    ensures out { OnOk result (out.new.items ≡ out.old.items ++ changes_returned T.left T.others T.makes T.sound changes.items turns.old) }
+    ensures ticks { OnOk result (ticks.new ≡ raised ticks.old (work_done T.left T.others T.makes T.sound changes.items turns.old)) }
     ensures begins { OnErr result (BeginsWith out.new.items out.old.items) }
     ensures no_fewer { OnErr result (ticks.old ≤ ticks.new) }
 {
@@ -167,10 +166,10 @@ fn feed_named<T: Turn>(
 ) -> Result<(), NoMemory>
     requires linked { IsLinked T.left T.others T.makes T.sound turns.old (first_left T.left T.others T.makes T.sound turns.old) }
     requires input { place < named_in (forms_of T.left T.others T.makes T.sound turns.old) }
-    ensures forms { OnOk result (forms_of T.left T.others T.makes T.sound turns.new ≡ forms_named place change (forms_of T.left T.others T.makes T.sound turns.old)) }
+    ensures forms { OnOk result (StagesFollow T.left T.others T.makes T.sound (Named place) change turns.old turns.new) }
     ensures linked { OnOk result (IsLinked T.left T.others T.makes T.sound turns.new (first_left T.left T.others T.makes T.sound turns.old)) }
-    ensures out { OnOk result (out.new.items ≡ out.old.items ++ pass_named place change (forms_of T.left T.others T.makes T.sound turns.old) (first_left T.left T.others T.makes T.sound turns.old)) }
-    ensures ticks { OnOk result (ticks.new ≡ raised ticks.old (work_named place change (forms_of T.left T.others T.makes T.sound turns.old) (first_left T.left T.others T.makes T.sound turns.old))) }
+    ensures out { OnOk result (out.new.items ≡ out.old.items ++ changes_returned_in T.left T.others T.makes T.sound (Named place) change turns.old) }
+    ensures ticks { OnOk result (ticks.new ≡ raised ticks.old (work_done_in T.left T.others T.makes T.sound (Named place) change turns.old)) }
     ensures begins { OnErr result (BeginsWith out.new.items out.old.items) }
     ensures no_fewer { OnErr result (ticks.old ≤ ticks.new) }
 {

@@ -1,15 +1,12 @@
 //! Operators that keep the rows that they have taken in, and so need not be told what stood there.
 
-ghost use Rattle.std.specs.Prelude.{◌≡◌, ◌≤◌, ◌+◌, ◌<◌, ◌++◌, List, [], IfOk, OnErr, OnOk, length, map};
+ghost use Rattle.std.specs.Prelude.{◌≡◌, ◌≤◌, ◌<◌, ◌++◌, [], IfOk, OnErr, OnOk, length, map};
 ghost use Rattle.std.specs.List.{AllByRecursion};
-ghost use Rattle.dv_change.specs.declared.change.Change.{Change};
 ghost use Rattle.dv_change.specs.Inner.Beginning.{BeginsWith};
 ghost use Rattle.dv_change.specs.Changes.{Positioned};
 ghost use Rattle.dv_change.specs.Inner.Changes.{IsExactChange, IsPositioned};
-ghost use Rattle.dv_change.specs.Inputs.{input_changed_at, left_after, others_after};
-ghost use Rattle.dv_change.specs.Raised.{raised};
-ghost use Rattle.dv_change.specs.Inner.Told.{ComesTo, changes_told, list_at, with_old};
-ghost use Rattle.dv_change.specs.Work.{owed_by};
+ghost use Rattle.dv_change.specs.Inputs.{input_changed_at};
+ghost use Rattle.dv_change.specs.Inner.Told.{CountsChanges, ReturnsChanges, TakesIn, WhateverIsHeld, changes_told, list_at, with_old};
 
 use crate::change::Change;
 use crate::input::Input;
@@ -63,11 +60,11 @@ impl<O: Operator> Keeping<O> {
         ensures makes { OnOk result (O.makes self.new.operator ≡ O.makes self.old.operator) }
         ensures rows { OnOk result (self.new.rows ≡ self.old.rows) }
         ensures lists { OnOk result (self.new.lists ≡ self.old.lists) }
-        ensures holds { OnOk result ((others : List Positioned) (left : Positioned) (change : Change) → O.holds self.old.operator others left → ComesTo input taken change others left → O.holds self.new.operator (others_after input change others) (left_after input change left)) }
-        ensures out { OnOk result ((others : List Positioned) (left : Positioned) (change : Change) → O.holds self.old.operator others left → ComesTo input taken change others left → out.new.items ≡ out.old.items ++ owed_by input change (O.makes self.old.operator) others left) }
-        ensures ticks { OnOk result ((others : List Positioned) (left : Positioned) (change : Change) → O.holds self.old.operator others left → ComesTo input taken change others left → ticks.new ≡ raised ticks.old (1 + length (owed_by input change (O.makes self.old.operator) others left))) }
+        ensures holds { OnOk result (TakesIn (O.holds self.old.operator) input taken (O.holds self.new.operator)) }
+        ensures out { OnOk result (ReturnsChanges (O.holds self.old.operator) input taken (O.makes self.old.operator) out.old.items out.new.items) }
+        ensures ticks { OnOk result (CountsChanges (O.holds self.old.operator) input taken (O.makes self.old.operator) ticks.old ticks.new) }
         ensures begins { OnErr result (BeginsWith out.new.items out.old.items) }
-        ensures no_fewer { OnErr result ((others : List Positioned) (left : Positioned) (change : Change) → O.holds self.old.operator others left → ComesTo input taken change others left → ticks.old ≤ ticks.new) }
+        ensures no_fewer { OnErr result (WhateverIsHeld (O.holds self.old.operator) input taken (λ others left change. ticks.old ≤ ticks.new)) }
     {
         let mut told = Vec::new(self.alloc);
         self.operator.take(input, taken, ticks, &mut told)?;

@@ -10,7 +10,7 @@ ghost use Rattle.dv_change.specs.declared.input.Input.TheVariants.{Left, Named};
 ghost use Rattle.dv_change.specs.Changes.{Positioned, at, with_change, with_changes};
 ghost use Rattle.dv_change.specs.Inner.Changes.{IsExactChange, IsPositioned};
 ghost use Rattle.dv_change.specs.Difference.{diff};
-ghost use Rattle.dv_change.specs.Inner.Examples.{as_it_comes, first_alone, looked_up_form, numbered_row, place, wide_number};
+ghost use Rattle.dv_change.specs.Inner.Examples.{numbered_row, numbered_rows, place, three_stages, two_stages, wide_number};
 ghost use Rattle.dv_change.specs.Positions.{IsExact, PosTree, part_order, pos_order};
 ghost use Rattle.dv_change.specs.Raised.{raised};
 ghost use Rattle.dv_change.specs.Work.{pass_in, work_in};
@@ -48,7 +48,7 @@ pub fn positions_by_example()
 /// What goes comes first, and what stays as it is isn't in the difference.
 pub fn examples_of_differences()
     ensures nothing { diff ((place 0, numbered_row 1) ∷ []) ((place 0, numbered_row 1) ∷ []) ≡ [] }
-    ensures each_kind { diff ((place 0, numbered_row 1) ∷ (place 1, numbered_row 2) ∷ (place 2, numbered_row 3) ∷ []) ((place 1, numbered_row 2) ∷ (place 2, numbered_row 4) ∷ (place 3, numbered_row 5) ∷ []) ≡ Gone (place 0) ∷ Put (place 2) (numbered_row 4) ∷ Put (place 3) (numbered_row 5) ∷ [] }
+    ensures each_kind { diff (numbered_rows 0 (1 ∷ 2 ∷ 3 ∷ [])) (numbered_rows 1 (2 ∷ 4 ∷ 5 ∷ [])) ≡ Gone (place 0) ∷ Put (place 2) (numbered_row 4) ∷ Put (place 3) (numbered_row 5) ∷ [] }
     ensures another_width { diff ((place 0, numbered_row 1) ∷ []) ((place 0, wide_number 1) ∷ []) ≡ Put (place 0) (wide_number 1) ∷ [] }
 {}
 
@@ -62,9 +62,9 @@ pub fn examples_of_counts()
 pub fn examples_of_work()
     ensures no_stage { pass_in Left (Gone (place 0)) [] [] ≡ Gone (place 0) ∷ [] }
     ensures no_work_without_a_stage { work_in Left (Gone (place 0)) [] [] ≡ 0 }
-    ensures next_row { pass_in Left (Gone (place 0)) (as_it_comes ∷ first_alone ∷ []) ((place 0, numbered_row 1) ∷ (place 1, numbered_row 2) ∷ []) ≡ Gone (place 0) ∷ Put (place 1) (numbered_row 2) ∷ [] }
-    ensures work_for_next_row { work_in Left (Gone (place 0)) (as_it_comes ∷ first_alone ∷ []) ((place 0, numbered_row 1) ∷ (place 1, numbered_row 2) ∷ []) ≡ 5 }
-    ensures no_work_behind { work_in Left (Put (place 7) (numbered_row 9)) (as_it_comes ∷ first_alone ∷ []) ((place 0, numbered_row 1) ∷ (place 1, numbered_row 2) ∷ []) ≡ 3 }
-    ensures in_mid_chain { pass_in (Named 0) (Put (place 0) (numbered_row 3)) (as_it_comes ∷ looked_up_form [] ∷ first_alone ∷ []) [] ≡ Put (place 0) (numbered_row 3) ∷ [] }
-    ensures work_in_mid_chain { work_in (Named 0) (Put (place 0) (numbered_row 3)) (as_it_comes ∷ looked_up_form [] ∷ first_alone ∷ []) [] ≡ 4 }
+    ensures next_row { pass_in Left (Gone (place 0)) two_stages (numbered_rows 0 (1 ∷ 2 ∷ [])) ≡ Gone (place 0) ∷ Put (place 1) (numbered_row 2) ∷ [] }
+    ensures work_for_next_row { work_in Left (Gone (place 0)) two_stages (numbered_rows 0 (1 ∷ 2 ∷ [])) ≡ 5 }
+    ensures no_work_behind { work_in Left (Put (place 7) (numbered_row 9)) two_stages (numbered_rows 0 (1 ∷ 2 ∷ [])) ≡ 3 }
+    ensures in_mid_chain { pass_in (Named 0) (Put (place 0) (numbered_row 3)) three_stages [] ≡ Put (place 0) (numbered_row 3) ∷ [] }
+    ensures work_in_mid_chain { work_in (Named 0) (Put (place 0) (numbered_row 3)) three_stages [] ≡ 4 }
 {}

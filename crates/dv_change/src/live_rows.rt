@@ -7,14 +7,11 @@ ghost use Rattle.std.specs.Range.Bound.{IsForward};
 ghost use Rattle.dv_change.specs.Changes.{Positioned, forget, with_change, with_changes};
 ghost use Rattle.dv_change.specs.Inner.Beginning.{BeginsWith};
 ghost use Rattle.dv_change.specs.Inner.Changes.{IsExactChange, IsPositioned};
-ghost use Rattle.dv_change.specs.Inner.Fed.{AreFresh};
-ghost use Rattle.dv_change.specs.Inner.LiveRows.{IsLive, IsLiveRows, lists_of};
+ghost use Rattle.dv_change.specs.Inner.LiveRows.{AppendsReturned, AddsWork, FollowsReturned, IsLive, IsLiveRows, StartsLive, StaysLive};
 ghost use Rattle.dv_change.specs.Inner.Told.{changes_told, input_rows, told_along, with_old};
-ghost use Rattle.dv_change.specs.Inner.Work.{forms_after};
 ghost use Rattle.dv_change.specs.Inputs.{HasInput, left_after, others_after};
 ghost use Rattle.dv_change.specs.Positions.{pos_order};
-ghost use Rattle.dv_change.specs.Raised.{raised};
-ghost use Rattle.dv_change.specs.Work.{Form, pass_in, work_in};
+ghost use Rattle.dv_change.specs.Work.{Form};
 
 use crate::change::Change;
 use crate::input::Input;
@@ -55,7 +52,7 @@ impl<O: Operator + Drop> LiveRows<O> {
         ensures lists { result.lists ≡ lists }
         ensures rows { result.rows.entries ≡ [] }
         ensures ticks { result.ticks ≡ 0 }
-        ensures live { (forms : List Form) → AllByRecursion O.sound operators.items → AreFresh O.makes O.holds operators.items forms → lists_of forms ≡ map (λ m. m.entries) lists.items → IsLive O.makes O.holds O.sound result forms }
+        ensures live { StartsLive O.makes O.holds O.sound operators.items (map (λ m. m.entries) lists.items) result }
     {
         LiveRows {
             alloc,
@@ -80,10 +77,10 @@ impl<O: Operator + Drop> LiveRows<O> {
         requires input { HasInput input (map (λ m. m.entries) self.lists.items) }
         ensures left { IfOk result (λ live. live.left.entries ≡ left_after input change self.left.entries) }
         ensures lists { IfOk result (λ live. map (λ m. m.entries) live.lists.items ≡ others_after input change (map (λ m. m.entries) self.lists.items)) }
-        ensures live { IfOk result (λ live. (forms : List Form) → IsLive O.makes O.holds O.sound self forms → IsLive O.makes O.holds O.sound live (forms_after input change forms)) }
-        ensures ticks { IfOk result (λ live. (forms : List Form) → IsLive O.makes O.holds O.sound self forms → live.ticks ≡ raised self.ticks (work_in input change forms self.left.entries)) }
-        ensures told { IfOk result (λ live. (forms : List Form) → IsLive O.makes O.holds O.sound self forms → told.new.items ≡ told.old.items ++ pass_in input change forms self.left.entries) }
-        ensures leads { IfOk result (λ live. (forms : List Form) → IsLive O.makes O.holds O.sound self forms → live.rows.entries ≡ with_changes self.rows.entries (pass_in input change forms self.left.entries)) }
+        ensures live { IfOk result (λ live. StaysLive O.makes O.holds O.sound input change self live) }
+        ensures ticks { IfOk result (λ live. AddsWork O.makes O.holds O.sound input change self live) }
+        ensures told { IfOk result (λ live. AppendsReturned O.makes O.holds O.sound input change self told.old.items told.new.items) }
+        ensures leads { IfOk result (λ live. FollowsReturned O.makes O.holds O.sound input change self live) }
         ensures begins { OnErr result (BeginsWith told.new.items told.old.items) }
     {
         let mut live = self;

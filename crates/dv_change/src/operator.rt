@@ -1,16 +1,12 @@
 //! Stages that are told what stood where a change is.
 
-ghost use Rattle.std.specs.Prelude.{◌≡◌, ◌≤◌, ◌+◌, ◌++◌, List, [], length, IfOk, OnErr, OnOk};
+ghost use Rattle.std.specs.Prelude.{◌≡◌, ◌≤◌, List, [], length, IfOk, OnErr, OnOk};
 ghost use Rattle.std.specs.List.{AllByRecursion};
-ghost use Rattle.dv_change.specs.declared.change.Change.{Change};
 ghost use Rattle.dv_change.specs.Inner.Beginning.{BeginsWith};
 ghost use Rattle.dv_change.specs.Changes.{Positioned};
-ghost use Rattle.dv_change.specs.Inner.Changes.{HaveOneLength, IsExactChange, IsPositioned};
-ghost use Rattle.dv_change.specs.Inner.Fed.{IsFilled};
-ghost use Rattle.dv_change.specs.Inputs.{left_after, others_after};
-ghost use Rattle.dv_change.specs.Raised.{raised};
-ghost use Rattle.dv_change.specs.Inner.Told.{ComesTo, told_along};
-ghost use Rattle.dv_change.specs.Work.{owed_by};
+ghost use Rattle.dv_change.specs.Inner.Changes.{HaveOneLength, IsPositioned};
+ghost use Rattle.dv_change.specs.Inner.Fed.{OperatorFills};
+ghost use Rattle.dv_change.specs.Inner.Told.{CountsChanges, ReturnsTaken, TakesIn};
 
 use crate::input::Input;
 use crate::taking::Taken;
@@ -46,9 +42,9 @@ pub trait Operator {
         requires { sound self.old }
         ensures sound { OnOk result (sound self.new) }
         ensures makes { OnOk result (makes self.new ≡ makes self.old) }
-        ensures holds { OnOk result ((others : List Positioned) (left : Positioned) (change : Change) → holds self.old others left → ComesTo input taken change others left → holds self.new (others_after input change others) (left_after input change left)) }
-        ensures out { OnOk result ((others : List Positioned) (left : Positioned) (change : Change) → holds self.old others left → ComesTo input taken change others left → out.new.items ≡ out.old.items ++ told_along (makes self.old others left) (owed_by input change (makes self.old) others left)) }
-        ensures ticks { OnOk result ((others : List Positioned) (left : Positioned) (change : Change) → holds self.old others left → ComesTo input taken change others left → ticks.new ≡ raised ticks.old (1 + length (owed_by input change (makes self.old) others left))) }
+        ensures holds { OnOk result (TakesIn (holds self.old) input taken (holds self.new)) }
+        ensures out { OnOk result (ReturnsTaken (holds self.old) input taken (makes self.old) out.old.items out.new.items) }
+        ensures ticks { OnOk result (CountsChanges (holds self.old) input taken (makes self.old) ticks.old ticks.new) }
         ensures begins { OnErr result (BeginsWith out.new.items out.old.items) }
         ensures no_fewer { OnErr result (ticks.old ≤ ticks.new) };
 
@@ -58,7 +54,7 @@ pub trait Operator {
         requires { sound self.old }
         ensures sound { OnOk result (sound self.new) }
         ensures makes { OnOk result (makes self.new ≡ makes self.old) }
-        ensures filled { IfOk result (λ made. (others : List Positioned) (changes : List Change) → holds self.old others [] → AllByRecursion IsExactChange changes → all.items ≡ told_along [] changes → IsFilled (makes self.old others) (holds self.new others) changes made.items) }
+        ensures filled { IfOk result (λ made. OperatorFills makes holds self.old self.new all.items made.items) }
     {
         let mut made = Vec::new(*all.allocator());
         let mut ticks = Ticks::new();

@@ -1,15 +1,10 @@
 //! Operators one behind the other, each told what stood where a change is.
 
-ghost use Rattle.std.specs.Prelude.{◌≡◌, ◌++◌, List, [], IfOk, OnErr, OnOk};
+ghost use Rattle.std.specs.Prelude.{◌≡◌, ◌++◌, IfOk, OnErr, OnOk};
 ghost use Rattle.std.specs.List.{AllByRecursion};
-ghost use Rattle.dv_change.specs.declared.change.Change.{Change};
 ghost use Rattle.dv_change.specs.declared.input.Input.TheVariants.{Named};
-ghost use Rattle.dv_change.specs.Changes.{Positioned};
 ghost use Rattle.dv_change.specs.Inner.Beginning.{BeginsWith};
-ghost use Rattle.dv_change.specs.Inner.Changes.{IsExactChange};
-ghost use Rattle.dv_change.specs.Inner.Fed.{AreHeld, ComesIn, IsFed, IsFilled, IsPassed, IsPassedIn};
-ghost use Rattle.dv_change.specs.Inner.Told.{told_along};
-ghost use Rattle.dv_change.specs.Work.{Form, through_forms};
+ghost use Rattle.dv_change.specs.Inner.Fed.{ChainFills, ChainTakes, ChainTakesIn, OperatorTakes};
 
 use crate::input::Input;
 use crate::operator::Operator;
@@ -54,7 +49,7 @@ impl<O: Operator + Drop> Operators<O> {
     ) -> Result<(), NoMemory>
         requires { AllByRecursion O.sound self.old }
         ensures sound { OnOk result (AllByRecursion O.sound self.new) }
-        ensures passed { OnOk result ((forms : List Form) (rows : Positioned) (change : Change) → AreHeld O.makes O.holds self.old forms rows → ComesIn input taken change forms rows → IsPassedIn O.makes O.holds input change self.new forms rows out.old.items out.new.items ticks.old ticks.new) }
+        ensures passed { OnOk result (ChainTakesIn O.makes O.holds input taken self.old self.new out.old.items out.new.items ticks.old ticks.new) }
         ensures begins { OnErr result (BeginsWith out.new.items out.old.items) }
     {
         take_input(
@@ -72,7 +67,7 @@ impl<O: Operator + Drop> Operators<O> {
     pub fn fill(&mut self, all: Vec<Taken>) -> Result<Vec<Taken>, NoMemory>
         requires { AllByRecursion O.sound self.old }
         ensures sound { OnOk result (AllByRecursion O.sound self.new) }
-        ensures filled { IfOk result (λ made. (forms : List Form) (changes : List Change) → AreHeld O.makes O.holds self.old forms [] → AllByRecursion IsExactChange changes → all.items ≡ told_along [] changes → IsFilled (through_forms forms) (AreHeld O.makes O.holds self.new forms) changes made.items) }
+        ensures filled { IfOk result (λ made. ChainFills O.makes O.holds self.old self.new all.items made.items) }
     {
         fill_all(self.operators.as_mut_slice(), all)
     }
@@ -89,7 +84,7 @@ fn take_input<O: Operator>(
 ) -> Result<(), NoMemory>
     requires { AllByRecursion O.sound operators.old }
     ensures sound { OnOk result (AllByRecursion O.sound operators.new) }
-    ensures passed { OnOk result ((forms : List Form) (rows : Positioned) (change : Change) → AreHeld O.makes O.holds operators.old forms rows → ComesIn input taken change forms rows → IsPassedIn O.makes O.holds input change operators.new forms rows out.old.items out.new.items ticks.old ticks.new) }
+    ensures passed { OnOk result (ChainTakesIn O.makes O.holds input taken operators.old operators.new out.old.items out.new.items ticks.old ticks.new) }
     ensures begins { OnErr result (BeginsWith out.new.items out.old.items) }
 {
     match input {
@@ -112,7 +107,7 @@ fn take_each<O: Operator>(
     requires { O.sound operator.old }
     ensures sound { OnOk result (O.sound operator.new) }
     ensures makes { OnOk result (O.makes operator.new ≡ O.makes operator.old) }
-    ensures fed { OnOk result ((others : List Positioned) (left : Positioned) (changes : List Change) → O.holds operator.old others left → AllByRecursion IsExactChange changes → all.items ≡ told_along left changes → IsFed (O.makes operator.old others) (O.holds operator.new others) left changes out.old.items out.new.items ticks.old ticks.new) }
+    ensures fed { OnOk result (OperatorTakes O.makes O.holds operator.old operator.new all.items out.old.items out.new.items ticks.old ticks.new) }
 {
     'changes: for taken in all {
         operator.take(Input::Left, taken, ticks, out)?;
@@ -130,7 +125,7 @@ fn take_all<O: Operator>(
 ) -> Result<(), NoMemory>
     requires { AllByRecursion O.sound operators.old }
     ensures sound { OnOk result (AllByRecursion O.sound operators.new) }
-    ensures passed { OnOk result ((forms : List Form) (rows : Positioned) (changes : List Change) → AreHeld O.makes O.holds operators.old forms rows → AllByRecursion IsExactChange changes → all.items ≡ told_along rows changes → IsPassed O.makes O.holds operators.new forms rows changes out.old.items out.new.items ticks.old ticks.new) }
+    ensures passed { OnOk result (ChainTakes O.makes O.holds operators.old operators.new all.items out.old.items out.new.items ticks.old ticks.new) }
     ensures begins { OnErr result (BeginsWith out.new.items out.old.items) }
 {
     let Some((first, behind)) = operators.split_first_mut() else {
@@ -152,7 +147,7 @@ fn take_named<O: Operator>(
 ) -> Result<(), NoMemory>
     requires { AllByRecursion O.sound operators.old }
     ensures sound { OnOk result (AllByRecursion O.sound operators.new) }
-    ensures passed { OnOk result ((forms : List Form) (rows : Positioned) (change : Change) → AreHeld O.makes O.holds operators.old forms rows → ComesIn (Named place) taken change forms rows → IsPassedIn O.makes O.holds (Named place) change operators.new forms rows out.old.items out.new.items ticks.old ticks.new) }
+    ensures passed { OnOk result (ChainTakesIn O.makes O.holds (Named place) taken operators.old operators.new out.old.items out.new.items ticks.old ticks.new) }
     ensures begins { OnErr result (BeginsWith out.new.items out.old.items) }
 {
     let Some((first, behind)) = operators.split_first_mut() else {
@@ -172,7 +167,7 @@ fn take_named<O: Operator>(
 fn fill_all<O: Operator>(operators: &mut [O], all: Vec<Taken>) -> Result<Vec<Taken>, NoMemory>
     requires { AllByRecursion O.sound operators.old }
     ensures sound { OnOk result (AllByRecursion O.sound operators.new) }
-    ensures filled { IfOk result (λ made. (forms : List Form) (changes : List Change) → AreHeld O.makes O.holds operators.old forms [] → AllByRecursion IsExactChange changes → all.items ≡ told_along [] changes → IsFilled (through_forms forms) (AreHeld O.makes O.holds operators.new forms) changes made.items) }
+    ensures filled { IfOk result (λ made. ChainFills O.makes O.holds operators.old operators.new all.items made.items) }
 {
     let Some((first, behind)) = operators.split_first_mut() else {
         return Ok(all);

@@ -1,5 +1,5 @@
 -- Rows and stages of examples.
-use Rattle.std.specs.Prelude.{ℕ, pos, List, [], ◌∷◌, codes, take}
+use Rattle.std.specs.Prelude.{ℕ, suc, pos, List, [], ◌∷◌, codes, take}
 use Rattle.dv_value.specs.Tree.{Field, int32, int64}
 use Rattle.dv_change.specs.declared.position.Part.TheVariants.{At}
 use Rattle.dv_change.specs.Changes.{Positioned}
@@ -13,6 +13,11 @@ place n = At n ∷ []
 -- a row with one field, an int32
 abbrev pub numbered_row : ℕ → List Field
 numbered_row n = (codes "a", int32 (pos n)) ∷ []
+
+-- rows with these numbers, at positions that are counted from here on
+abbrev pub numbered_rows : ℕ → List ℕ → Positioned
+numbered_rows first [] = []
+numbered_rows first (n ∷ ns) = (place first, numbered_row n) ∷ numbered_rows (suc first) ns
 
 -- the same number as an int64
 abbrev pub wide_number : ℕ → List Field
@@ -33,3 +38,10 @@ first_named (rows ∷ others) = rows
 -- a stage that makes the rows of the list that it looks into
 abbrev pub looked_up_form : Positioned → Form
 looked_up_form rows = record { makes = λ named left. first_named named; named = rows ∷ [] }
+
+-- chains of them, the second one with an empty list for its look-up
+abbrev pub two_stages : List Form
+two_stages = as_it_comes ∷ first_alone ∷ []
+
+abbrev pub three_stages : List Form
+three_stages = as_it_comes ∷ looked_up_form [] ∷ first_alone ∷ []

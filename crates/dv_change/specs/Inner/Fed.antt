@@ -27,6 +27,14 @@ pub record IsFed (makes : Positioned → Positioned) (holds : Positioned → Typ
   pub out : now ≡ before ++ told_along (makes left) (handed makes left changes)
   pub ticks : after ≡ raised first (length changes + length (handed makes left changes))
 
+-- whatever lists it holds, with no rows, it is filled by the changes that it is told
+abbrev pub OperatorFills : {O : Type 0} → (O → List Positioned → Positioned → Positioned) → (O → List Positioned → Positioned → Type 0) → O → O → List Taken → List Taken → Type 0
+OperatorFills makes holds old new all made = (others : List Positioned) (changes : List Change) → holds old others [] → AllByRecursion IsExactChange changes → all ≡ told_along [] changes → IsFilled (makes old others) (holds new others) changes made
+
+-- whatever it holds, it takes in the changes of its rows that it is told
+abbrev pub OperatorTakes : {O : Type 0} → (O → List Positioned → Positioned → Positioned) → (O → List Positioned → Positioned → Type 0) → O → O → List Taken → List Taken → List Taken → ℕ → ℕ → Type 0
+OperatorTakes makes holds old new all before now first after = (others : List Positioned) (left : Positioned) (changes : List Change) → holds old others left → AllByRecursion IsExactChange changes → all ≡ told_along left changes → IsFed (makes old others) (holds new others) left changes before now first after
+
 -- it is about to take in some, and so far all is as it should be
 pub record IsUnderway (makes : Positioned → Positioned) (holds : Positioned → Type 0) (items : List Taken) (left : Positioned) (changes : List Change) (before now : List Taken) (first after : ℕ) : Type 0 where
   pub rows : Positioned
@@ -83,3 +91,15 @@ module _ {O : Type 0} (makes : O → List Positioned → Positioned → Position
     pub out : now ≡ before ++ told_along (through_forms forms rows) (pass_in input change forms rows)
     pub ticks : after ≡ raised first (work_in input change forms rows)
     pub leads : with_changes (through_forms forms rows) (pass_in input change forms rows) ≡ through_forms (forms_after input change forms) (left_after input change rows)
+
+  -- whatever they hold, the changes that they are told go through them
+  abbrev pub ChainTakes : List O → List O → List Taken → List Taken → List Taken → ℕ → ℕ → Type 0
+  ChainTakes old new all before now first after = (forms : List Form) (rows : Positioned) (changes : List Change) → AreHeld old forms rows → AllByRecursion IsExactChange changes → all ≡ told_along rows changes → IsPassed new forms rows changes before now first after
+
+  -- so does a change of an input
+  abbrev pub ChainTakesIn : Input → Taken → List O → List O → List Taken → List Taken → ℕ → ℕ → Type 0
+  ChainTakesIn input taken old new before now first after = (forms : List Form) (rows : Positioned) (change : Change) → AreHeld old forms rows → ComesIn input taken change forms rows → IsPassedIn input change new forms rows before now first after
+
+  -- whatever lists they hold, with no rows, they are filled by the changes that they are told
+  abbrev pub ChainFills : List O → List O → List Taken → List Taken → Type 0
+  ChainFills old new all made = (forms : List Form) (changes : List Change) → AreHeld old forms [] → AllByRecursion IsExactChange changes → all ≡ told_along [] changes → IsFilled (through_forms forms) (AreHeld new forms) changes made

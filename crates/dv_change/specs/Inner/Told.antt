@@ -1,5 +1,5 @@
 -- Changes that tell what stood at their positions.
-use Rattle.std.specs.Prelude.{◌≡◌, ℕ, zero, suc, List, [], ◌∷◌, ◌++◌, Option, None, Some, map}
+use Rattle.std.specs.Prelude.{◌≡◌, ◌+◌, ℕ, zero, suc, List, [], ◌∷◌, ◌++◌, Option, None, Some, length, map}
 use Rattle.std.specs.List.{AllByRecursion, filter}
 use Rattle.dv_value.specs.Tree.{Field}
 use Rattle.dv_change.specs.declared.change.Change.{Change}
@@ -10,8 +10,10 @@ use Rattle.dv_change.specs.declared.taking.Taken.{Taken}
 use Rattle.dv_change.specs.Changes.{Positioned, at, with_change}
 use Rattle.dv_change.specs.Inner.Changes.{IsExactChange, IsPositioned, position_changed, row_in}
 use Rattle.dv_change.specs.Inner.DiffLaws.{row_differs, went}
-use Rattle.dv_change.specs.Inputs.{HasInput}
+use Rattle.dv_change.specs.Inputs.{HasInput, left_after, others_after}
 use Rattle.dv_change.specs.Positions.{PosTree}
+use Rattle.dv_change.specs.Raised.{raised}
+use Rattle.dv_change.specs.Work.{owed_by}
 
 -- a change of rows, with the row that stood at its position
 abbrev pub with_old : Positioned → Change → Taken
@@ -64,6 +66,27 @@ pub record ComesTo (input : Input) (taken : Taken) (change : Change) (others : L
   pub there : HasInput input others
   pub told : taken ≡ with_old (input_rows input others left) change
   pub exact : IsExactChange change
+
+-- of an operator that holds lists and rows, and is told of a change of an input
+module _ (holds : List Positioned → Positioned → Type 0) (input : Input) (taken : Taken) where
+  -- this is true of whatever it holds, and of the change
+  abbrev pub WhateverIsHeld : (List Positioned → Positioned → Change → Type 0) → Type 0
+  WhateverIsHeld P = (others : List Positioned) (left : Positioned) (change : Change) → holds others left → ComesTo input taken change others left → P others left change
+
+  -- afterwards it holds the lists and the rows after the change
+  abbrev pub TakesIn : (List Positioned → Positioned → Type 0) → Type 0
+  TakesIn holds_then = WhateverIsHeld (λ others left change. holds_then (others_after input change others) (left_after input change left))
+
+  -- what it returns are the changes of its result: with what was at their positions, or the changes alone
+  abbrev pub ReturnsTaken : (List Positioned → Positioned → Positioned) → List Taken → List Taken → Type 0
+  ReturnsTaken makes before now = WhateverIsHeld (λ others left change. now ≡ before ++ told_along (makes others left) (owed_by input change makes others left))
+
+  abbrev pub ReturnsChanges : (List Positioned → Positioned → Positioned) → List Change → List Change → Type 0
+  ReturnsChanges makes before now = WhateverIsHeld (λ others left change. now ≡ before ++ owed_by input change makes others left)
+
+  -- its count rises by 1 for the change and 1 for each that it returns
+  abbrev pub CountsChanges : (List Positioned → Positioned → Positioned) → ℕ → ℕ → Type 0
+  CountsChanges makes before now = WhateverIsHeld (λ others left change. now ≡ raised before (1 + length (owed_by input change makes others left)))
 
 -- where there are no lists, all are positioned
 pub no_lists : (others : List Positioned) → others ≡ [] → AllByRecursion (λ rows. IsPositioned rows) others

@@ -3,8 +3,9 @@ use Rattle.std.specs.Prelude.{ℕ, ◌+◌, ◌-◌, List, [], ◌∷◌, length
 use Rattle.dv_change.specs.declared.change.Change.{Change}
 use Rattle.dv_change.specs.declared.input.Input.{Input}
 use Rattle.dv_change.specs.declared.input.Input.TheVariants.{Left, Named}
+use Rattle.dv_change.specs.Changes.{Positioned}
 use Rattle.dv_change.specs.Inputs.{input_changed_at}
-use Rattle.dv_change.specs.Work.{Form}
+use Rattle.dv_change.specs.Work.{Form, handed}
 
 -- how many lists the stages look into
 abbrev pub named_in : List Form → ℕ
@@ -24,3 +25,7 @@ forms_named i change (form ∷ forms) = if nat_lt i (length form.named) then rec
 abbrev pub forms_after : Input → Change → List Form → List Form
 forms_after Left change forms = forms
 forms_after (Named i) change forms = forms_named i change forms
+
+-- the work of one stage for changes of its rows: 1 for each change that it takes in, and 1 for each that it returns
+abbrev pub stage_work : (Positioned → Positioned) → Positioned → List Change → ℕ
+stage_work makes rows changes = length changes + length (handed makes rows changes)
