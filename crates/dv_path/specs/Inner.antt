@@ -3,3 +3,4 @@ pub mod GatheredKeys
 pub mod Apart
 pub mod Groups
 pub mod GroupView
+pub mod Examples

@@ -14,5 +14,6 @@ pub mod SlotView
 pub mod Placing
 pub mod Removing
 pub mod Apart
+pub mod Laws
 -- what only bodies and proofs need
 pub mod Inner

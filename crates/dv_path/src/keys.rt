@@ -7,6 +7,7 @@ ghost use Rattle.dv_order.specs.Key.{KeyTree, key_order, value};
 ghost use Rattle.dv_order.specs.Order.{canon};
 ghost use Rattle.dv_candidates.specs.Candidates.{or_null, with_elements};
 ghost use Rattle.dv_candidates.specs.Candidates as candidates;
+ghost use Rattle.dv_path.specs.Inner.GatheredKeys.{AddsKeysOf};
 ghost use Rattle.dv_path.specs.LeafKeys.{is_key_of, is_leaf_key, is_some_key};
 ghost use Rattle.dv_candidates.specs.View.{seen};
 
@@ -30,7 +31,7 @@ pub fn leaf_keys(alloc: Global, document: &Document, path: &Path) -> Result<BTre
 
 /// The keys with that of a candidate, and of its elements where it is an array.
 fn with_leaves(mut keys: BTreeSet<Key>, candidate: Candidate<'_>) -> Result<BTreeSet<Key>, NoMemory>
-    ensures { IfOk result (λ new. (k : KeyTree) → contains key_order new k ≡ (contains key_order keys k || is_some_key k (map or_null (with_elements (seen candidate.entry))))) }
+    ensures { IfOk result (λ new. AddsKeysOf (map or_null (with_elements (seen candidate.entry))) keys new) }
 {
     add_key(&mut keys, candidate)?;
     let Some(list) = array_in(candidate) else {

@@ -10,9 +10,8 @@ ghost use Rattle.dv_path.specs.Inner.Apart as apart_inner;
 ghost use Rattle.dv_path.specs.Apart.{AreAllApart};
 ghost use Rattle.dv_path.specs.Inner.Apart.{field_alone, fields_alone, leading_further};
 ghost use Rattle.dv_path.specs.Inner.GroupView.{group as seen};
-ghost use Rattle.dv_path.specs.Inner.Groups.{begins_with_none, left_of_each, remove_each_element};
-ghost use Rattle.dv_candidates.specs.Path.{index_of};
-ghost use Rattle.dv_path.specs.Removing.{remove_element, remove_field};
+ghost use Rattle.dv_path.specs.Inner.Groups.{begins_with_none, elements_with_group, left_of_each, remove_each_element};
+ghost use Rattle.dv_path.specs.Removing.{remove_field};
 
 use crate::exchange::{put_element_back, put_field_back, take_element, take_field};
 use crate::grouping::{Group, grouped};
@@ -198,7 +197,7 @@ fn remove_from_element(
     group: &Group<'_>,
 ) -> Result<(), NoMemory>
     requires { AreAllApart (seen group.now).1 }
-    ensures { OnOk result (map tree values.new.items ≡ remove_element (λ v. Some (left_of_each (seen group.now).1 v)) (index_of (seen group.now).0) (map tree values.old.items)) }
+    ensures { OnOk result (map tree values.new.items ≡ elements_with_group (map tree values.old.items) (seen group.now)) }
 {
     let component = group.component();
     let Some(index) = component.index() else {

@@ -5,9 +5,15 @@ use Rattle.std.proofs.lemmas.List.Folds.{list_any-append}
 use Rattle.std.specs.BTreeSet.{BTreeSet, contains}
 use Rattle.std.specs.List.{list_any, flat_map, FoldsTo}
 use Rattle.std.specs.Ordering.{is_eq}
+use Rattle.dv_value.specs.Tree.{Tree}
 use Rattle.dv_order.specs.Key.{KeyTree, key_order}
 use Rattle.dv_candidates.specs.Candidates.{Candidate}
 use Rattle.dv_candidates.specs.Inner.Fold.{Takes, FoldsOver, PassesOne}
+use Rattle.dv_path.specs.LeafKeys.{is_some_key}
+
+-- a set of keys with those of these values
+abbrev pub AddsKeysOf : List Tree → BTreeSet KeyTree → BTreeSet KeyTree → Type 0
+AddsKeysOf vs old new = (k : KeyTree) → contains key_order new k ≡ (contains key_order old k || is_some_key k vs)
 
 -- a test of some item behind each of a list
 pub any-flat_map : {X Y : Type 0} (test : Y → Bool) (f : X → List Y) (xs : List X) → list_any test (flat_map f xs) ≡ list_any (λ x. list_any test (f x)) xs

@@ -68,10 +68,13 @@ remove_each_element vs [] = vs
 remove_each_element vs ([] ∷ paths) = remove_each_element vs paths
 remove_each_element vs ((name ∷ path) ∷ paths) = remove_each_element (remove_element (left_behind path) (index_of name) vs) paths
 
--- fields, and elements, without what the paths of groups lead to in them
+-- fields without what the paths of groups lead to in them, and elements without that of one group, and of some
 abbrev pub with_groups : List Field → List Group → List Field
 with_groups fs [] = fs
 with_groups fs (g ∷ gs) = with_groups (remove_field (λ v. Some (left_of_each g.1 v)) g.0 fs) gs
+
+abbrev pub elements_with_group : List Tree → Group → List Tree
+elements_with_group vs g = remove_element (λ v. Some (left_of_each g.1 v)) (index_of g.0) vs
 
 abbrev pub elements_with_groups : List Tree → List Group → List Tree
 elements_with_groups vs [] = vs
