@@ -7,3 +7,4 @@ pub mod Filter
 pub mod FilterCode
 pub mod PathFault
 pub mod ViewFalls
+pub mod Parsing

@@ -1,4 +1,5 @@
 pub mod Straight
+pub mod Laws
 pub mod Fault
 pub mod Filter
 pub mod Match

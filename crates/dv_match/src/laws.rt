@@ -1,16 +1,17 @@
 //! What holds of filters and of the documents that match them, each the contract of a function that does nothing.
 
-ghost use Rattle.std.specs.Prelude.{◌≡◌, ◌&&◌, ℕ, not, true, false, List, [], ◌∷◌, codes, Ok, Err, Some};
-ghost use Rattle.dv_value.specs.Tree.{Tree, Field, boolean, document, fields_of, null};
+ghost use Rattle.std.specs.Prelude.{◌≡◌, ℕ, not, true, false, List, [], ◌∷◌, codes, Ok, Err};
+ghost use Rattle.dv_value.specs.Tree.{Tree, Field, boolean, fields_of, null};
 ghost use Rattle.dv_match.specs.declared.fault.FilterFault.TheVariants.{BadPath, EmptyList, UnknownOperator};
 ghost use Rattle.dv_match.specs.Parsing.{filter_in};
 ghost use Rattle.dv_candidates.specs.Candidates.{Candidate, whole, leaves};
-ghost use Rattle.dv_match.specs.Inner.Examples.{answer};
+ghost use Rattle.dv_candidates.specs.Inner.Examples.{b_alone, two_in_a_list};
+ghost use Rattle.dv_match.specs.Inner.Examples.{a_alone, a_by, answer, document_in_a, number_in_a_list, some_element_above, some_element_with_b};
 ghost use Rattle.dv_value.specs.Short.{one, doc, list, int};
 ghost use Rattle.dv_match.specs.declared.range.Range.{Range};
-ghost use Rattle.dv_match.specs.Filter.{Members, no_members, none_of, no_filters, more_filters, Conditions, equal, unequal, among, not_among, unmet, in_range, no_conditions, more_conditions};
-ghost use Rattle.dv_match.specs.Match.{is_in_range, matches, matches_member, meets, meets_all};
-ghost use Rattle.dv_match.specs.Straight.{meets_no_array, end_of};
+ghost use Rattle.dv_match.specs.Filter.{Members, no_members, none_of, no_filters, more_filters, Conditions, equal, unequal, among, not_among, unmet};
+ghost use Rattle.dv_match.specs.Laws.{MeetsNoArray, is_in_both, two_bounds, value_at_end};
+ghost use Rattle.dv_match.specs.Match.{matches, matches_member, meets, meets_all};
 
 /// `$ne`, `$nin` and `$not` are what they deny.
 #[tactic(auto, unfolding(crate::specs::Match::meets))]
@@ -42,12 +43,12 @@ pub fn no_member_matches_all()
 /// If a path leads to only one leaf, two bounds on it are an interval.
 #[tactic(auto, using(crate::proofs::Few::interval))]
 pub fn bounds_on_one_leaf()
-    ensures { (r s : Range) (v w : Tree) (wholes : List Candidate) (c : Candidate) → meets_all (more_conditions (in_range r v) (more_conditions (in_range s w) no_conditions)) wholes (c ∷ []) ≡ (is_in_range r v c && is_in_range s w c) }
+    ensures { (r s : Range) (v w : Tree) (wholes : List Candidate) (c : Candidate) → meets_all (two_bounds r v s w) wholes (c ∷ []) ≡ is_in_both r v s w c }
 {}
 
 /// If there is no array on the way of a path nor at its end, two bounds on it are an interval.
 pub fn bounds_without_arrays()
-    ensures { (path : List (List ℕ)) (d : List Field) → meets_no_array path (Some (document (fields_of d))) ≡ true → (r s : Range) (v w : Tree) → meets_all (more_conditions (in_range r v) (more_conditions (in_range s w) no_conditions)) (whole d path) (leaves d path) ≡ (is_in_range r v (end_of path (Some (document (fields_of d)))) && is_in_range s w (end_of path (Some (document (fields_of d))))) }
+    ensures { (path : List (List ℕ)) (d : List Field) → MeetsNoArray path d → (r s : Range) (v w : Tree) → meets_all (two_bounds r v s w) (whole d path) (leaves d path) ≡ is_in_both r v s w (value_at_end path d) }
 {}
 
 /// On an array they aren't: each bound may be met by another element.
@@ -59,33 +60,33 @@ pub fn bounds_on_an_array()
 /// Filters over three documents: an array of documents, a document, and an array of a number.
 #[tactic(auto, unfolding(crate::specs::Parsing::filter_in, crate::specs::Parsing::filters_in, crate::specs::Parsing::each_filter, crate::specs::Parsing::filter_of, crate::specs::Parsing::conditions_in, crate::specs::Parsing::operators_in, crate::specs::Parsing::negated_in, crate::specs::Parsing::test_in, crate::specs::Parsing::member_named, crate::specs::Parsing::operator_named, crate::specs::Match::matches, crate::specs::Match::matches_member, crate::specs::Match::meets_all, crate::specs::Match::meets, crate::specs::Match::passes, dv_candidates::specs::Path::path_of, dv_candidates::specs::Path::index_of, dv_candidates::specs::Candidates::whole, dv_candidates::specs::Candidates::leaves))]
 pub fn worked_examples()
-    ensures some_element_first { answer (one (codes "a.b") (int 2)) (one (codes "a") (list ((doc ((codes "b", int 1) ∷ [])) ∷ (doc ((codes "b", int 2) ∷ [])) ∷ []))) ≡ Ok true }
-    ensures some_element_second { answer (one (codes "a.b") (int 2)) (one (codes "a") (doc ((codes "b", int 2) ∷ []))) ≡ Ok true }
-    ensures some_element_third { answer (one (codes "a.b") (int 2)) (one (codes "a") (list (int 5 ∷ []))) ≡ Ok false }
-    ensures an_element_by_its_place_first { answer (one (codes "a.0.b") (int 1)) (one (codes "a") (list ((doc ((codes "b", int 1) ∷ [])) ∷ (doc ((codes "b", int 2) ∷ [])) ∷ []))) ≡ Ok true }
-    ensures an_element_by_its_place_second { answer (one (codes "a.0.b") (int 1)) (one (codes "a") (doc ((codes "b", int 2) ∷ []))) ≡ Ok false }
-    ensures an_element_by_its_place_third { answer (one (codes "a.0.b") (int 1)) (one (codes "a") (list (int 5 ∷ []))) ≡ Ok false }
-    ensures nothing_in_an_array_is_not_missing_first { answer (one (codes "a.b") null) (one (codes "a") (list ((doc ((codes "b", int 1) ∷ [])) ∷ (doc ((codes "b", int 2) ∷ [])) ∷ []))) ≡ Ok false }
-    ensures nothing_in_an_array_is_not_missing_second { answer (one (codes "a.b") null) (one (codes "a") (doc ((codes "b", int 2) ∷ []))) ≡ Ok false }
-    ensures nothing_in_an_array_is_not_missing_third { answer (one (codes "a.b") null) (one (codes "a") (list (int 5 ∷ []))) ≡ Ok false }
-    ensures no_element_first { answer (one (codes "a.b") (doc ((codes "$ne", int 2) ∷ []))) (one (codes "a") (list ((doc ((codes "b", int 1) ∷ [])) ∷ (doc ((codes "b", int 2) ∷ [])) ∷ []))) ≡ Ok false }
-    ensures no_element_second { answer (one (codes "a.b") (doc ((codes "$ne", int 2) ∷ []))) (one (codes "a") (doc ((codes "b", int 2) ∷ []))) ≡ Ok false }
-    ensures no_element_third { answer (one (codes "a.b") (doc ((codes "$ne", int 2) ∷ []))) (one (codes "a") (list (int 5 ∷ []))) ≡ Ok true }
-    ensures an_element_that_matches_first { answer (one (codes "a") (doc ((codes "$elemMatch", (doc ((codes "b", (doc ((codes "$gt", int 1) ∷ []))) ∷ []))) ∷ []))) (one (codes "a") (list ((doc ((codes "b", int 1) ∷ [])) ∷ (doc ((codes "b", int 2) ∷ [])) ∷ []))) ≡ Ok true }
-    ensures an_element_that_matches_second { answer (one (codes "a") (doc ((codes "$elemMatch", (doc ((codes "b", (doc ((codes "$gt", int 1) ∷ []))) ∷ []))) ∷ []))) (one (codes "a") (doc ((codes "b", int 2) ∷ []))) ≡ Ok false }
-    ensures an_element_that_matches_third { answer (one (codes "a") (doc ((codes "$elemMatch", (doc ((codes "b", (doc ((codes "$gt", int 1) ∷ []))) ∷ []))) ∷ []))) (one (codes "a") (list (int 5 ∷ []))) ≡ Ok false }
-    ensures an_element_that_meets_first { answer (one (codes "a") (doc ((codes "$elemMatch", (doc ((codes "$gt", int 4) ∷ []))) ∷ []))) (one (codes "a") (list ((doc ((codes "b", int 1) ∷ [])) ∷ (doc ((codes "b", int 2) ∷ [])) ∷ []))) ≡ Ok false }
-    ensures an_element_that_meets_second { answer (one (codes "a") (doc ((codes "$elemMatch", (doc ((codes "$gt", int 4) ∷ []))) ∷ []))) (one (codes "a") (doc ((codes "b", int 2) ∷ []))) ≡ Ok false }
-    ensures an_element_that_meets_third { answer (one (codes "a") (doc ((codes "$elemMatch", (doc ((codes "$gt", int 4) ∷ []))) ∷ []))) (one (codes "a") (list (int 5 ∷ []))) ≡ Ok true }
-    ensures size_first { answer (one (codes "a") (doc ((codes "$size", int 1) ∷ []))) (one (codes "a") (list ((doc ((codes "b", int 1) ∷ [])) ∷ (doc ((codes "b", int 2) ∷ [])) ∷ []))) ≡ Ok false }
-    ensures size_second { answer (one (codes "a") (doc ((codes "$size", int 1) ∷ []))) (one (codes "a") (doc ((codes "b", int 2) ∷ []))) ≡ Ok false }
-    ensures size_third { answer (one (codes "a") (doc ((codes "$size", int 1) ∷ []))) (one (codes "a") (list (int 5 ∷ []))) ≡ Ok true }
-    ensures all_of_none_first { answer (one (codes "a") (doc ((codes "$all", list []) ∷ []))) (one (codes "a") (list ((doc ((codes "b", int 1) ∷ [])) ∷ (doc ((codes "b", int 2) ∷ [])) ∷ []))) ≡ Ok false }
-    ensures all_of_none_second { answer (one (codes "a") (doc ((codes "$all", list []) ∷ []))) (one (codes "a") (doc ((codes "b", int 2) ∷ []))) ≡ Ok false }
-    ensures all_of_none_third { answer (one (codes "a") (doc ((codes "$all", list []) ∷ []))) (one (codes "a") (list (int 5 ∷ []))) ≡ Ok false }
-    ensures a_candidate_beside_missing { answer (one (codes "a.b") (doc ((codes "$exists", boolean true) ∷ []))) (one (codes "a") (list ((doc ((codes "b", int 1) ∷ [])) ∷ doc [] ∷ []))) ≡ Ok true }
-    ensures size_of_an_element { answer (one (codes "a") (doc ((codes "$size", int 1) ∷ []))) (one (codes "a") (list (list (int 1 ∷ []) ∷ list [] ∷ []))) ≡ Ok false }
-    ensures an_element_of_an_element { answer (one (codes "a") (doc ((codes "$elemMatch", (doc ((codes "$gt", int 4) ∷ []))) ∷ []))) (one (codes "a") (list (list (int 5 ∷ []) ∷ []))) ≡ Ok false }
+    ensures some_element_first { answer (one (codes "a.b") (int 2)) two_in_a_list ≡ Ok true }
+    ensures some_element_second { answer (one (codes "a.b") (int 2)) document_in_a ≡ Ok true }
+    ensures some_element_third { answer (one (codes "a.b") (int 2)) number_in_a_list ≡ Ok false }
+    ensures an_element_by_its_place_first { answer (one (codes "a.0.b") (int 1)) two_in_a_list ≡ Ok true }
+    ensures an_element_by_its_place_second { answer (one (codes "a.0.b") (int 1)) document_in_a ≡ Ok false }
+    ensures an_element_by_its_place_third { answer (one (codes "a.0.b") (int 1)) number_in_a_list ≡ Ok false }
+    ensures nothing_in_an_array_is_not_missing_first { answer (one (codes "a.b") null) two_in_a_list ≡ Ok false }
+    ensures nothing_in_an_array_is_not_missing_second { answer (one (codes "a.b") null) document_in_a ≡ Ok false }
+    ensures nothing_in_an_array_is_not_missing_third { answer (one (codes "a.b") null) number_in_a_list ≡ Ok false }
+    ensures no_element_first { answer (one (codes "a.b") (doc ((codes "$ne", int 2) ∷ []))) two_in_a_list ≡ Ok false }
+    ensures no_element_second { answer (one (codes "a.b") (doc ((codes "$ne", int 2) ∷ []))) document_in_a ≡ Ok false }
+    ensures no_element_third { answer (one (codes "a.b") (doc ((codes "$ne", int 2) ∷ []))) number_in_a_list ≡ Ok true }
+    ensures an_element_that_matches_first { answer some_element_with_b two_in_a_list ≡ Ok true }
+    ensures an_element_that_matches_second { answer some_element_with_b document_in_a ≡ Ok false }
+    ensures an_element_that_matches_third { answer some_element_with_b number_in_a_list ≡ Ok false }
+    ensures an_element_that_meets_first { answer some_element_above two_in_a_list ≡ Ok false }
+    ensures an_element_that_meets_second { answer some_element_above document_in_a ≡ Ok false }
+    ensures an_element_that_meets_third { answer some_element_above number_in_a_list ≡ Ok true }
+    ensures size_first { answer (a_by (codes "$size") (int 1)) two_in_a_list ≡ Ok false }
+    ensures size_second { answer (a_by (codes "$size") (int 1)) document_in_a ≡ Ok false }
+    ensures size_third { answer (a_by (codes "$size") (int 1)) number_in_a_list ≡ Ok true }
+    ensures all_of_none_first { answer (a_by (codes "$all") (list [])) two_in_a_list ≡ Ok false }
+    ensures all_of_none_second { answer (a_by (codes "$all") (list [])) document_in_a ≡ Ok false }
+    ensures all_of_none_third { answer (a_by (codes "$all") (list [])) number_in_a_list ≡ Ok false }
+    ensures a_candidate_beside_missing { answer (one (codes "a.b") (doc ((codes "$exists", boolean true) ∷ []))) (a_alone (list (b_alone 1 ∷ doc [] ∷ []))) ≡ Ok true }
+    ensures size_of_an_element { answer (a_by (codes "$size") (int 1)) (a_alone (list (list (int 1 ∷ []) ∷ list [] ∷ []))) ≡ Ok false }
+    ensures an_element_of_an_element { answer some_element_above (a_alone (list (list (int 5 ∷ []) ∷ []))) ≡ Ok false }
     ensures in_of_an_operator_list { answer (one (codes "a") (doc ((codes "$in", list (doc ((codes "$gt", int 1) ∷ []) ∷ [])) ∷ []))) [] ≡ Ok false }
     ensures a_bad_path_before_a_bad_condition { filter_in (fields_of (one (codes "a..b") (doc ((codes "$add", int 1) ∷ [])))) ≡ Err BadPath }
     ensures and_of_none { filter_in (fields_of (one (codes "$and") (list []))) ≡ Err EmptyList }

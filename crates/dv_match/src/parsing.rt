@@ -2,6 +2,7 @@
 
 ghost use Rattle.dv_value.specs.Tree.{document as doc, fields_of, elements_of};
 ghost use Rattle.dv_value.specs.View.{tree};
+ghost use Rattle.dv_match.specs.Inner.Parsing.{condition_named};
 ghost use Rattle.dv_match.specs.Parsing as defined;
 ghost use Rattle.dv_match.specs.Parsing.{Gives};
 ghost use Rattle.dv_match.specs.View.{member, condition, test};
@@ -151,7 +152,7 @@ fn operators_of(alloc: Global, document: &Document) -> Result<Conditions, Filter
 /// The condition of this operator and operand.
 #[cycle(parsing)]
 fn condition_of(alloc: Global, name: &str, value: &Value) -> Result<Condition, FilterFault>
-    ensures { Gives condition result (defined.condition_by (defined.operator_named name.now) (tree value.now) (defined.negated_in (tree value.now)) (defined.test_in (tree value.now))) }
+    ensures { Gives condition result (condition_named name.now (tree value.now)) }
 {
     let Some(operator) = operator_named(name) else {
         return Err(FilterFault::UnknownOperator);
