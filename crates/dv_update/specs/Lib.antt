@@ -8,5 +8,6 @@ pub mod Update
 pub mod UpdateView
 pub mod View
 pub mod Removals
+pub mod Laws
 -- what only bodies and proofs need
 pub mod Inner

@@ -39,6 +39,10 @@ outcome_seen name d told.Same = d
 outcome_seen name d (told.Field change) = with_field_changed name change d
 outcome_seen name d (told.Whole e) = e
 
+-- the document that an update's outcome gives, from the old one
+abbrev pub document_seen : Update → List Field → Outcome → List Field
+document_seen update d outcome = outcome_seen (sole_name update) d outcome
+
 -- whether the outcome says that the document stays the same
 abbrev pub stays : Outcome → Bool
 stays told.Same = true

@@ -5,19 +5,17 @@
 //! much, the edits are made without those that fill an array: no further edit needs what these make to be refused or not. One
 //! that fills an array in `_id` changes the `_id`.
 
-ghost use Rattle.std.specs.Prelude as prelude;
-ghost use Rattle.std.specs.Prelude.{◌≡◌, ◌≤◌, ◌⊎◌, ◌∷◌, Some, Err, map, true, IfErr, IfOk, IsTrue};
+ghost use Rattle.std.specs.Prelude.{◌≡◌, ◌≤◌, ◌⊎◌, Some, Err, map, true, IfErr, IfOk, IsTrue};
 ghost use Rattle.std.specs.List.{list_any};
 ghost use Rattle.std.specs.Option.{option_map};
 ghost use Rattle.dv_value.specs.Tree.{array, document as whole_document, elements_of, fields_of};
 ghost use Rattle.dv_value.specs.View.{tree};
 ghost use Rattle.dv_update.specs.Apply as defined;
 ghost use Rattle.dv_update.specs.Inner.Filling as filling;
-ghost use Rattle.dv_update.specs.Inner.Filling.{IsTooLarge, IsUnfilled, Made, Unfilled, Unfills, judged};
+ghost use Rattle.dv_update.specs.Inner.Filling.{IsTooLarge, Unfilled, UnfillsOne, judged};
 ghost use Rattle.dv_update.specs.Inner.FillView.{fill};
 ghost use Rattle.dv_update.specs.Inner.Collected.{Steps};
 ghost use Rattle.dv_update.specs.Removals as last_of;
-ghost use Rattle.dv_update.specs.Update as form;
 ghost use Rattle.dv_update.specs.View.{edit as seen};
 ghost use Rattle.dv_update.specs.declared.fault.UpdateFault.TheVariants.{NoMemory as wanting};
 
@@ -302,7 +300,7 @@ fn made_unless_filled(
     edit: &Edit,
     with_id: bool,
 ) -> Result<Document, UpdateFault>
-    ensures { (further : prelude.List form.Edit) → (whole : Made) → Steps (seen edit.now ∷ further) → IsUnfilled with_id document (seen edit.now ∷ further) whole → Unfills with_id result further whole }
+    ensures { UnfillsOne with_id document (seen edit.now) result }
 {
     dv_path::laws::paths_that_part_are_independent();
     if edit.is_removal() || is_left_out(&document, edit, with_id) {

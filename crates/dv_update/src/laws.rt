@@ -1,19 +1,21 @@
 //! What holds of updates, each the contract of a function that does nothing.
 
-ghost use Rattle.std.specs.Prelude.{◌≡◌, ◌↔◌, ◌<◌, ◌≤◌, true, false, List, [], ◌∷◌, ◌++◌, length, Ok, Err, codes};
+ghost use Rattle.std.specs.Prelude.{◌≡◌, ◌↔◌, ◌≤◌, true, false, List, [], ◌∷◌, ◌++◌, length, Ok, Err, codes};
 ghost use Rattle.std.specs.Ordering.{ordering_reverse};
 ghost use Rattle.std.specs.declared.cmp.Ordering.TheVariants.{Less, Equal};
-ghost use Rattle.dv_value.specs.Spelling.{AreFields, Fits, levels, spelling};
-ghost use Rattle.dv_value.specs.Tree.{Tree, Field, document, fields_of, null};
+ghost use Rattle.dv_value.specs.Spelling.{AreFields, Fits, spelling};
+ghost use Rattle.dv_value.specs.Tree.{Tree, Field, fields_of, null};
+ghost use Rattle.dv_path.specs.Laws.{IsFirst};
 ghost use Rattle.dv_path.specs.Slots.{slot, taken};
-ghost use Rattle.dv_update.specs.Apply.{Path, applied, changed, edited, leading_id, set_at};
-ghost use Rattle.dv_update.specs.Inner.Examples.{one_edit, outcome, start, with_a};
+ghost use Rattle.dv_update.specs.Apply.{Path, applied, changed, edited, set_at};
+ghost use Rattle.dv_update.specs.Inner.Examples.{dollar_below_b, id_and, one_edit, one_inside_the_other, one_more_in_v, out_of_order, outcome, push_each_to_a, push_to_a, set_each, start, v_and_vw, with_a, with_v, with_x};
+ghost use Rattle.dv_update.specs.Laws.{ExceedsDepth, ExceedsSize, have_same_id};
 ghost use Rattle.dv_value.specs.Short.{doc, int, list, long};
 ghost use Rattle.dv_update.specs.Parsing.{conflicts, has_conflict, in_order, update_of};
 ghost use Rattle.dv_update.specs.PathOrder.{path_order};
 ghost use Rattle.dv_path.specs.Apart.{remove_each};
 ghost use Rattle.dv_update.specs.Removals.{edited_removals_last, other_edits, removals};
-ghost use Rattle.dv_order.specs.Same.{both_same, is_same, same_fields};
+ghost use Rattle.dv_order.specs.Same.{is_same, same_fields};
 ghost use Rattle.dv_update.specs.Update.{Edit, Update};
 ghost use Rattle.dv_update.specs.declared.fault.UpdateFault.TheVariants.{BadName, BadOperand, Conflict, IdChanged, NotArray, NotNumber, NotViable, Overflow, TooDeep, TooLarge, UnknownOperator};
 
@@ -55,7 +57,7 @@ pub fn setting_what_is_there_changes_nothing()
 /// What an update makes of a document begins with its `_id`, in the same encoding.
 #[tactic(auto, using(crate::proofs::Lawful::id_stays))]
 pub fn the_id_stays()
-    ensures { (update : Update) (v : Tree) (others after : List Field) → applied update ((codes "_id", v) ∷ others) ≡ Ok after → (rest : List Field) × (after ≡ (codes "_id", v) ∷ rest) }
+    ensures { (update : Update) (v : Tree) (others after : List Field) → applied update ((codes "_id", v) ∷ others) ≡ Ok after → IsFirst (codes "_id", v) after }
 {}
 
 /// What an update makes of a document fits.
@@ -67,10 +69,10 @@ pub fn what_comes_out_fits()
 /// What fits and keeps its `_id` is what the update makes; another `_id` is reported before size, and size before levels.
 #[tactic(auto, using(crate::proofs::Lawful::kept, crate::proofs::Lawful::changed_first, crate::proofs::Lawful::size_next, crate::proofs::Lawful::depth_last))]
 pub fn results_are_refused_in_order()
-    ensures kept { (update : Update) (d after : List Field) → changed update d ≡ Ok after → both_same (leading_id d) (leading_id after) ≡ true → Fits after → applied update d ≡ Ok after }
-    ensures another_id { (update : Update) (d after : List Field) → changed update d ≡ Ok after → both_same (leading_id d) (leading_id after) ≡ false → applied update d ≡ Err IdChanged }
-    ensures too_large { (update : Update) (d after : List Field) → changed update d ≡ Ok after → both_same (leading_id d) (leading_id after) ≡ true → 16777216 < length (spelling after) → applied update d ≡ Err TooLarge }
-    ensures too_deep { (update : Update) (d after : List Field) → changed update d ≡ Ok after → both_same (leading_id d) (leading_id after) ≡ true → length (spelling after) ≤ 16777216 → 100 < levels (document (fields_of after)) → applied update d ≡ Err TooDeep }
+    ensures kept { (update : Update) (d after : List Field) → changed update d ≡ Ok after → have_same_id d after ≡ true → Fits after → applied update d ≡ Ok after }
+    ensures another_id { (update : Update) (d after : List Field) → changed update d ≡ Ok after → have_same_id d after ≡ false → applied update d ≡ Err IdChanged }
+    ensures too_large { (update : Update) (d after : List Field) → changed update d ≡ Ok after → have_same_id d after ≡ true → ExceedsSize after → applied update d ≡ Err TooLarge }
+    ensures too_deep { (update : Update) (d after : List Field) → changed update d ≡ Ok after → have_same_id d after ≡ true → length (spelling after) ≤ 16777216 → ExceedsDepth after → applied update d ≡ Err TooDeep }
 {}
 
 /// What an update makes of a valid document is valid, if the update's own document is.
@@ -90,19 +92,19 @@ pub fn sameness_is_equality()
 #[tactic(auto, unfolding(crate::specs::Parsing::operator_named, dv_candidates::specs::Path::path_of, dv_candidates::specs::Path::index_of, dv_path::specs::Placing::put, dv_path::specs::Removing::remove, dv_path::specs::Slots::slot, dv_value::specs::Spelling::payload, dv_value::specs::Spelling::framed, dv_value::specs::Spelling::counted, dv_value::specs::Spelling::element_spelling))]
 pub fn array_examples()
     ensures pull { outcome (one_edit (codes "$pull") (codes "a") (int 2)) start ≡ Ok (with_a (int 1 ∷ int 3 ∷ [])) }
-    ensures push_each { outcome (one_edit (codes "$push") (codes "a") (doc ((codes "$each", list (int 4 ∷ int 5 ∷ [])) ∷ []))) start ≡ Ok (with_a (int 1 ∷ int 2 ∷ long 2 ∷ int 3 ∷ int 4 ∷ int 5 ∷ [])) }
+    ensures push_each { outcome (push_each_to_a (int 4 ∷ int 5 ∷ [])) start ≡ Ok (with_a (int 1 ∷ int 2 ∷ long 2 ∷ int 3 ∷ int 4 ∷ int 5 ∷ [])) }
     ensures unset { outcome (one_edit (codes "$unset") (codes "a.1") (int 0)) start ≡ Ok (with_a (int 1 ∷ null ∷ long 2 ∷ int 3 ∷ [])) }
-    ensures replaced { outcome ((codes "b", int 1) ∷ []) start ≡ Ok ((codes "_id", int 1) ∷ (codes "b", int 1) ∷ []) }
+    ensures replaced { outcome ((codes "b", int 1) ∷ []) start ≡ Ok (id_and ((codes "b", int 1) ∷ [])) }
     ensures same_id { outcome (one_edit (codes "$set") (codes "_id") (int 1)) start ≡ Ok start }
-    ensures conflict { outcome ((codes "$set", doc ((codes "a", int 1) ∷ (codes "a.b", int 2) ∷ [])) ∷ []) start ≡ Err Conflict }
+    ensures conflict { outcome (set_each one_inside_the_other) start ≡ Err Conflict }
     ensures not_viable { outcome (one_edit (codes "$set") (codes "a.x") (int 1)) start ≡ Err NotViable }
     ensures another_id { outcome (one_edit (codes "$set") (codes "_id") (long 1)) start ≡ Err IdChanged }
     ensures replaced_with_another_id { outcome ((codes "_id", long 1) ∷ (codes "b", int 1) ∷ []) start ≡ Err IdChanged }
     ensures no_array { outcome (one_edit (codes "$push") (codes "_id") (int 1)) start ≡ Err NotArray }
-    ensures null_is_no_array { outcome (one_edit (codes "$push") (codes "v") (int 1)) ((codes "_id", int 1) ∷ (codes "v", null) ∷ []) ≡ Err NotArray }
-    ensures names_that_begin_alike { outcome ((codes "$set", doc ((codes "v", int 1) ∷ (codes "vw", int 2) ∷ [])) ∷ []) ((codes "_id", int 1) ∷ []) ≡ Ok ((codes "_id", int 1) ∷ (codes "v", int 1) ∷ (codes "vw", int 2) ∷ []) }
-    ensures a_dollar_inside { outcome (one_edit (codes "$set") (codes "v$") (int 1)) ((codes "_id", int 1) ∷ []) ≡ Ok ((codes "_id", int 1) ∷ (codes "v$", int 1) ∷ []) }
-    ensures a_dollar_below { outcome ((codes "b", doc ((codes "$c", int 1) ∷ [])) ∷ []) ((codes "_id", int 1) ∷ []) ≡ Ok ((codes "_id", int 1) ∷ (codes "b", doc ((codes "$c", int 1) ∷ [])) ∷ []) }
+    ensures null_is_no_array { outcome (one_edit (codes "$push") (codes "v") (int 1)) (with_v null) ≡ Err NotArray }
+    ensures names_that_begin_alike { outcome (set_each v_and_vw) (id_and []) ≡ Ok (id_and v_and_vw) }
+    ensures a_dollar_inside { outcome (one_edit (codes "$set") (codes "v$") (int 1)) (id_and []) ≡ Ok (id_and ((codes "v$", int 1) ∷ [])) }
+    ensures a_dollar_below { outcome dollar_below_b (id_and []) ≡ Ok (id_and dollar_below_b) }
 {}
 
 /// An element of an array is taken out if it passes a condition.
@@ -114,17 +116,17 @@ pub fn condition_example()
 /// Sums at the ends of the widths, and what is no number.
 #[tactic(auto, unfolding(crate::specs::Parsing::operator_named, dv_candidates::specs::Path::path_of, dv_candidates::specs::Path::index_of, dv_path::specs::Placing::put, dv_path::specs::Slots::slot, dv_value::specs::Spelling::payload, dv_value::specs::Spelling::framed, dv_value::specs::Spelling::counted, dv_value::specs::Spelling::element_spelling))]
 pub fn sum_examples()
-    ensures widened { outcome (one_edit (codes "$inc") (codes "v") (int 1)) ((codes "_id", int 1) ∷ (codes "v", int 2147483647) ∷ []) ≡ Ok ((codes "_id", int 1) ∷ (codes "v", long 2147483648) ∷ []) }
-    ensures narrow { outcome (one_edit (codes "$inc") (codes "v") (int 1)) ((codes "_id", int 1) ∷ (codes "v", int 2147483646) ∷ []) ≡ Ok ((codes "_id", int 1) ∷ (codes "v", int 2147483647) ∷ []) }
-    ensures too_great { outcome (one_edit (codes "$inc") (codes "v") (int 1)) ((codes "_id", int 1) ∷ (codes "v", long 9223372036854775807) ∷ []) ≡ Err Overflow }
-    ensures no_number { outcome (one_edit (codes "$inc") (codes "v") (int 1)) ((codes "_id", int 3) ∷ (codes "v", list []) ∷ []) ≡ Err NotNumber }
+    ensures widened { outcome one_more_in_v (with_v (int 2147483647)) ≡ Ok (with_v (long 2147483648)) }
+    ensures narrow { outcome one_more_in_v (with_v (int 2147483646)) ≡ Ok (with_v (int 2147483647)) }
+    ensures too_great { outcome one_more_in_v (with_v (long 9223372036854775807)) ≡ Err Overflow }
+    ensures no_number { outcome one_more_in_v ((codes "_id", int 3) ∷ (codes "v", list []) ∷ []) ≡ Err NotNumber }
 {}
 
 /// Paths are taken in their order, and nulls pad an array.
 #[tactic(auto, unfolding(crate::specs::Parsing::operator_named, dv_candidates::specs::Path::path_of, dv_candidates::specs::Path::index_of, dv_path::specs::Placing::put, dv_path::specs::Slots::slot, dv_value::specs::Spelling::payload, dv_value::specs::Spelling::framed, dv_value::specs::Spelling::counted, dv_value::specs::Spelling::element_spelling))]
 pub fn order_examples()
-    ensures in_order { outcome ((codes "$set", doc ((codes "x.10", int 1) ∷ (codes "x.2", int 2) ∷ (codes "b", int 3) ∷ [])) ∷ []) ((codes "_id", int 1) ∷ []) ≡ Ok ((codes "_id", int 1) ∷ (codes "b", int 3) ∷ (codes "x", doc ((codes "2", int 2) ∷ (codes "10", int 1) ∷ [])) ∷ []) }
-    ensures padded { outcome (one_edit (codes "$set") (codes "x.3") (int 1)) ((codes "_id", int 1) ∷ (codes "x", list (int 0 ∷ [])) ∷ []) ≡ Ok ((codes "_id", int 1) ∷ (codes "x", list (int 0 ∷ null ∷ null ∷ int 1 ∷ [])) ∷ []) }
+    ensures in_order { outcome (set_each out_of_order) (id_and []) ≡ Ok (id_and ((codes "b", int 3) ∷ (codes "x", doc ((codes "2", int 2) ∷ (codes "10", int 1) ∷ [])) ∷ [])) }
+    ensures padded { outcome (one_edit (codes "$set") (codes "x.3") (int 1)) (with_x (int 0 ∷ [])) ≡ Ok (with_x (int 0 ∷ null ∷ null ∷ int 1 ∷ [])) }
 {}
 
 /// What is no update.
@@ -135,11 +137,11 @@ pub fn fault_examples()
     ensures no_document { outcome ((codes "$set", int 1) ∷ []) start ≡ Err BadOperand }
     ensures empty_component { outcome (one_edit (codes "$set") (codes "a..b") (int 1)) start ≡ Err BadName }
     ensures dollar { outcome (one_edit (codes "$set") (codes "a.$") (int 1)) start ≡ Err BadName }
-    ensures each_beside_another { outcome (one_edit (codes "$push") (codes "a") (doc ((codes "$each", list []) ∷ (codes "$slice", int 1) ∷ []))) start ≡ Err UnknownOperator }
-    ensures each_of_no_array { outcome (one_edit (codes "$push") (codes "a") (doc ((codes "$each", int 1) ∷ []))) start ≡ Err BadOperand }
+    ensures each_beside_another { outcome (push_to_a (doc ((codes "$each", list []) ∷ (codes "$slice", int 1) ∷ []))) start ≡ Err UnknownOperator }
+    ensures each_of_no_array { outcome (push_to_a (doc ((codes "$each", int 1) ∷ []))) start ≡ Err BadOperand }
     ensures no_condition { outcome (one_edit (codes "$pull") (codes "a") (doc ((codes "$near", int 1) ∷ []))) start ≡ Err BadOperand }
-    ensures each_behind_another { outcome (one_edit (codes "$push") (codes "a") (doc ((codes "$slice", int 1) ∷ (codes "$each", list []) ∷ []))) start ≡ Err UnknownOperator }
-    ensures an_operand_before_a_conflict { outcome ((codes "$set", doc ((codes "a", int 1) ∷ (codes "a.b", int 2) ∷ [])) ∷ (codes "$inc", doc ((codes "c", null) ∷ [])) ∷ []) start ≡ Err NotNumber }
+    ensures each_behind_another { outcome (push_to_a (doc ((codes "$slice", int 1) ∷ (codes "$each", list []) ∷ []))) start ≡ Err UnknownOperator }
+    ensures an_operand_before_a_conflict { outcome ((codes "$set", doc one_inside_the_other) ∷ (codes "$inc", doc ((codes "c", null) ∷ [])) ∷ []) start ≡ Err NotNumber }
     ensures a_path_before_its_operand { outcome (one_edit (codes "$inc") (codes "a..b") null) start ≡ Err BadName }
     ensures a_dot_in_a_replacement { outcome ((codes "b", doc ((codes "c.d", int 1) ∷ [])) ∷ []) start ≡ Err BadName }
 {}

@@ -45,7 +45,7 @@ impl Operation {
         name: &str,
     ) -> Result<Option<Outcome>, NoMemory>
         requires { bytes_eq name.now (codes "_id") ≡ false }
-        ensures applied { IfOk result (λ found. IfSome found (λ outcome. defined_inner.applied_under name.now (operation self.now) document.now ≡ Ok (defined.outcome_seen name.now document.now outcome))) }
+        ensures applied { IfOk result (λ found. IfSome found (λ outcome. defined_inner.IsOutcomeUnder name.now (operation self.now) document.now outcome)) }
         ensures same { IfOk result (λ found. IfSome found (λ outcome. defined.stays outcome ≡ defined.stays_so name.now document.now outcome)) }
     {
         if let Operation::Push(values) = self {
@@ -86,7 +86,7 @@ fn slot_holding<'a>(there: Option<&'a Value>) -> Slot<'a>
 /// What `$set` of the value makes under the name, if the document surely has room for it.
 fn set_under(document: &Document, name: &str, value: Value) -> Option<Outcome>
     requires { bytes_eq name.now (codes "_id") ≡ false }
-    ensures applied { IfSome result (λ outcome. defined_inner.applied_under name.now (assign (tree value)) document.now ≡ Ok (defined.outcome_seen name.now document.now outcome)) }
+    ensures applied { IfSome result (λ outcome. defined_inner.IsOutcomeUnder name.now (assign (tree value)) document.now outcome) }
     ensures same { IfSome result (λ outcome. defined.stays outcome ≡ defined.stays_so name.now document.now outcome) }
 {
     laws::what_a_field_adds();
@@ -113,7 +113,7 @@ fn stands_under(document: &Document, name: &str, value: &Value) -> bool
 /// Fails where memory is wanting.
 fn pushed_under(document: &Document, name: &str, values: &List) -> Result<Option<Outcome>, NoMemory>
     requires { bytes_eq name.now (codes "_id") ≡ false }
-    ensures applied { IfOk result (λ found. IfSome found (λ outcome. defined_inner.applied_under name.now (append values.now) document.now ≡ Ok (defined.outcome_seen name.now document.now outcome))) }
+    ensures applied { IfOk result (λ found. IfSome found (λ outcome. defined_inner.IsOutcomeUnder name.now (append values.now) document.now outcome)) }
     ensures same { IfOk result (λ found. IfSome found (λ outcome. defined.stays outcome ≡ defined.stays_so name.now document.now outcome)) }
 {
     laws::what_a_field_adds();

@@ -9,7 +9,7 @@ ghost use Rattle.std.specs.declared.cmp.Ordering.TheVariants.{Less};
 ghost use Rattle.dv_update.specs.Parsing as defined;
 ghost use Rattle.dv_update.specs.Parsing.{Gives};
 ghost use Rattle.dv_update.specs.PathOrder.{begins as begins_with, component_order, path_order};
-ghost use Rattle.dv_update.specs.Inner.Collected.{Steps, last_begins};
+ghost use Rattle.dv_update.specs.Inner.Collected.{ConflictAlike, IsConflictOf, Steps, last_begins};
 ghost use Rattle.dv_update.specs.Inner.PathOrderLaws.{path_order_total};
 ghost use Rattle.dv_update.specs.Update.{operators};
 ghost use Rattle.dv_update.specs.View.{edit, edit as seen, entry};
@@ -175,7 +175,7 @@ pub(crate) fn in_order(alloc: Global, edits: Vec<Edit>) -> Result<Edits, UpdateF
 fn by_path(alloc: Global, edits: Vec<Edit>) -> Result<BTreeMap<PathKey, Operation>, UpdateFault>
     ensures sorted { IfOk result (λ places. map entry places.entries ≡ defined.sorted (map edit edits.items)) }
     ensures ordered { IfOk result (IsOrdered path_order) }
-    ensures conflicts { MatchResult result (λ places. defined.has_conflict (map edit edits.items) ≡ defined.has_conflict (map entry places.entries)) (λ e. (e ≡ NoMemory) ⊎ ((e ≡ Conflict) × (defined.has_conflict (map edit edits.items) ≡ true))) }
+    ensures conflicts { MatchResult result (λ places. ConflictAlike (map edit edits.items) (map entry places.entries)) (IsConflictOf (map edit edits.items)) }
 {
     let mut edits = edits;
     let mut places = BTreeMap::new(alloc);

@@ -1,11 +1,12 @@
 //! What an update changes in a document, told by one field where that is all.
 
-ghost use Rattle.std.specs.Prelude.{◌≡◌, ℕ, List, false, codes, IfOk, IfSome, Ok};
+ghost use Rattle.std.specs.Prelude.{◌≡◌, ℕ, List, false, codes, IfOk, IfSome};
 ghost use Rattle.std.specs.Option.{option_map};
 ghost use Rattle.std.specs.Str.{bytes_eq};
 ghost use Rattle.dv_value.specs.Names.{has_zero};
 ghost use Rattle.dv_value.specs.Tree.{Field};
 ghost use Rattle.dv_update.specs.Apply.{applied};
+ghost use Rattle.dv_update.specs.Inner.Outcome.{IsOutcome};
 ghost use Rattle.dv_update.specs.Outcome as defined;
 ghost use Rattle.dv_update.specs.Parsing.{Gives};
 ghost use Rattle.dv_update.specs.UpdateView.{update};
@@ -70,7 +71,7 @@ impl Update {
     /// put under the sole name, or at the end of the array there, and surely has room, nothing else is copied: then a `Field` is
     /// returned. `Same` is returned exactly if the document's encoding stays as it is.
     pub fn outcome(&self, alloc: Global, document: &Document) -> Result<Outcome, UpdateFault>
-        ensures applied { Gives (λ outcome. defined.outcome_seen (defined.sole_name (update self.now)) document.now outcome) result (applied (update self.now) document.now) }
+        ensures applied { Gives (λ outcome. defined.document_seen (update self.now) document.now outcome) result (applied (update self.now) document.now) }
         ensures same { IfOk result (λ outcome. defined.stays outcome ≡ defined.stays_so (defined.sole_name (update self.now)) document.now outcome) }
     {
         match self.field_alone(document)? {
@@ -81,7 +82,7 @@ impl Update {
 
     /// The same, but always with a whole document.
     pub fn whole_outcome(&self, alloc: Global, document: &Document) -> Result<Outcome, UpdateFault>
-        ensures applied { Gives (λ outcome. defined.outcome_seen (defined.sole_name (update self.now)) document.now outcome) result (applied (update self.now) document.now) }
+        ensures applied { Gives (λ outcome. defined.document_seen (update self.now) document.now outcome) result (applied (update self.now) document.now) }
         ensures same { IfOk result (λ outcome. defined.stays outcome ≡ defined.stays_so (defined.sole_name (update self.now)) document.now outcome) }
         ensures whole { IfOk result (λ outcome. defined.is_field outcome ≡ false) }
     {
@@ -95,7 +96,7 @@ impl Update {
     /// The outcome where the field under the sole name is all that changes, in a document that surely has room for it. Fails
     /// where memory is wanting.
     fn field_alone(&self, document: &Document) -> Result<Option<Outcome>, NoMemory>
-        ensures applied { IfOk result (λ found. IfSome found (λ outcome. applied (update self.now) document.now ≡ Ok (defined.outcome_seen (defined.sole_name (update self.now)) document.now outcome))) }
+        ensures applied { IfOk result (λ found. IfSome found (λ outcome. IsOutcome (update self.now) document.now outcome)) }
         ensures same { IfOk result (λ found. IfSome found (λ outcome. defined.stays outcome ≡ defined.stays_so (defined.sole_name (update self.now)) document.now outcome)) }
     {
         match self.sole_edit() {

@@ -10,6 +10,7 @@ use Rattle.dv_update.specs.Apply.{Path, checked, document_limit, edited, leading
 use Rattle.dv_value.specs.Results.{◌>>=◌}
 use Rattle.dv_update.specs.PathOrder.{begins, number_of}
 use Rattle.dv_update.specs.Removals.{other_edits}
+use Rattle.dv_update.specs.Inner.Collected.{Steps}
 use Rattle.dv_update.specs.Inner.StandIn.{new_value}
 use Rattle.dv_update.specs.Update.{Edit}
 use Rattle.dv_update.specs.declared.fault.UpdateFault.{UpdateFault}
@@ -128,3 +129,7 @@ Unfills with_id (Err f) further whole = (f ≡ NoMemory) ⊎ (whole ≡ Err f)
 abbrev pub Unfilled : Bool → Made → Made → Type 0
 Unfilled with_id (Ok made) whole = (after : List Field) × (whole ≡ Ok after) × SameId with_id made after
 Unfilled with_id (Err f) whole = (f ≡ NoMemory) ⊎ (whole ≡ Err f)
+
+-- whatever edits stand behind one, it is so of what this one makes, if it was so before
+abbrev pub UnfillsOne : Bool → List Field → Edit → Made → Type 0
+UnfillsOne with_id d e made = (further : List Edit) → (whole : Made) → Steps (e ∷ further) → IsUnfilled with_id d (e ∷ further) whole → Unfills with_id made further whole
