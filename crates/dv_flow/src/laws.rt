@@ -1,21 +1,20 @@
 //! What holds of stages at positions, each the contract of a function that does nothing: without the positions they are the stages
 //! of a pipeline, and a change of their rows changes few of the rows that they make.
 
-ghost use Rattle.std.specs.Prelude.{◌≡◌, ◌+◌, ◌≤◌, ℕ, List, filter, length, map, take};
+ghost use Rattle.std.specs.Prelude.{◌≡◌, ℕ, List, filter, map, take};
 ghost use Rattle.std.specs.List.{flat_map};
 ghost use Rattle.dv_match.specs.Filter.{Members};
 ghost use Rattle.dv_match.specs.Match.{matches};
-ghost use Rattle.dv_change.specs.declared.change.Change.{Change};
-ghost use Rattle.dv_change.specs.Changes.{Positioned, at, forget, with_change};
-ghost use Rattle.dv_change.specs.Inner.Changes.{HaveOneLength, IsExactChange, IsPositioned, position_changed, row_in};
-ghost use Rattle.dv_change.specs.Difference.{diff};
+ghost use Rattle.dv_change.specs.Changes.{Positioned, forget};
+ghost use Rattle.dv_change.specs.Inner.Bounds.{ChangesAtMost, ChangesWithin};
+ghost use Rattle.dv_change.specs.Inner.Changes.{HaveOneLength, IsPositioned};
 ghost use Rattle.dv_path.specs.SortSpec.{Part};
 ghost use Rattle.dv_row.specs.declared.project.Project.{Project};
 ghost use Rattle.dv_row.specs.declared.unwind.Unwind.{Unwind};
 ghost use Rattle.dv_row.specs.Projecting.{projected};
 ghost use Rattle.dv_row.specs.Unwinding.{unwound};
 ghost use Rattle.dv_sort.specs.Sorting.{stable};
-ghost use Rattle.dv_flow.specs.Inner.Bounds.{rows_made};
+ghost use Rattle.dv_flow.specs.Inner.Bounds.{rows_unwound};
 ghost use Rattle.dv_flow.specs.Placed.{front_at, matched_at, shown_at, sorted_at, unwound_at};
 
 /// Without positions, the rows that match are the filter of the rows.
@@ -27,7 +26,7 @@ pub fn matched_rows_are_the_filter()
 /// Of the rows that match, a change of a row changes one at most.
 #[tactic(auto, using(crate::proofs::Lawful::lawful))]
 pub fn a_match_hands_on_one_change()
-    ensures { (form : Members) (rows : Positioned) (change : Change) → IsPositioned rows → IsExactChange change → length (diff (matched_at form rows) (matched_at form (with_change rows change))) ≤ 1 }
+    ensures { (form : Members) → ChangesAtMost 1 (matched_at form) }
 {}
 
 /// Without positions, rows as they are shown are each of the rows as it is shown.
@@ -39,20 +38,20 @@ pub fn shown_rows_are_each_row_as_it_is_shown()
 /// Of the rows as they are shown, a change of a row changes one at most.
 #[tactic(auto, using(crate::proofs::Lawful::lawful))]
 pub fn a_project_hands_on_one_change()
-    ensures { (project : Project) (rows : Positioned) (change : Change) → IsPositioned rows → IsExactChange change → length (diff (shown_at project rows) (shown_at project (with_change rows change))) ≤ 1 }
+    ensures { (project : Project) → ChangesAtMost 1 (shown_at project) }
 {}
 
 /// A change of a row changes at most as many of the rows of elements as are made of the row that was there and of the one that is
 /// there now.
 #[tactic(auto, using(crate::proofs::Lawful::lawful))]
 pub fn an_unwind_hands_on_the_rows_of_a_row()
-    ensures { (unwind : Unwind) (rows : Positioned) (change : Change) → IsPositioned rows → IsExactChange change → length (diff (unwound_at unwind rows) (unwound_at unwind (with_change rows change))) ≤ rows_made unwind (at (position_changed change) rows) + rows_made unwind (row_in change) }
+    ensures { (unwind : Unwind) → ChangesWithin (rows_unwound unwind) (unwound_at unwind) }
 {}
 
 /// Of the rows in order, a change of a row changes two at most: one goes, and one comes.
 #[tactic(auto, using(crate::proofs::Lawful::lawful))]
 pub fn a_sort_hands_on_two_changes()
-    ensures { (parts : List Part) (rows : Positioned) (change : Change) → IsPositioned rows → IsExactChange change → length (diff (sorted_at parts rows) (sorted_at parts (with_change rows change))) ≤ 2 }
+    ensures { (parts : List Part) → ChangesAtMost 2 (sorted_at parts) }
 {}
 
 /// Without positions, the rows of elements are those of the rows.
@@ -76,5 +75,5 @@ pub fn first_rows_are_the_first_of_the_rows()
 /// Of the first rows, a change of a row changes two at most: one goes, and one comes.
 #[tactic(auto, using(crate::proofs::Lawful::lawful))]
 pub fn a_limit_hands_on_two_changes()
-    ensures { (count : ℕ) (rows : Positioned) (change : Change) → IsPositioned rows → IsExactChange change → length (diff (front_at count rows) (front_at count (with_change rows change))) ≤ 2 }
+    ensures { (count : ℕ) → ChangesAtMost 2 (front_at count) }
 {}

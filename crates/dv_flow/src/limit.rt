@@ -3,11 +3,10 @@
 ghost use Rattle.std.specs.Prelude.{◌≡◌, ◌+◌, ◌++◌, ◌≤◌, false, [], length, IfOk, IsTrue, OnErr, OnOk};
 ghost use Rattle.dv_change.specs.Inner.Beginning.{BeginsWith};
 ghost use Rattle.dv_change.specs.Changes.{at, with_change};
-ghost use Rattle.dv_change.specs.Difference.{diff};
 ghost use Rattle.dv_change.specs.Inner.Ordered.{gone, put};
 ghost use Rattle.dv_change.specs.Raised.{raised};
 ghost use Rattle.dv_change.specs.Inner.Told.{change_to, no_lists, told_along};
-ghost use Rattle.dv_flow.specs.Inner.Limiting.{HoldsLimit, IsBehind, IsCut, IsOverfull, IsUnderfull, IsWithinLimit, at_either, edge_of, is_past, last_place, limit_empty, limit_even, limit_ordered, limit_rows, next_place, positioned_held, with_limited_row};
+ghost use Rattle.dv_flow.specs.Inner.Limiting.{HoldsLimit, IsBehind, IsCut, IsOverfull, IsUnderfull, IsWithinLimit, at_either, edge_of, is_past, last_place, limit_changes, limit_empty, limit_even, limit_front, limit_ordered, limit_rows, next_place, positioned_held, with_limited_row};
 ghost use Rattle.dv_flow.specs.Placed.{front_at};
 
 use dv_change::{Input, Operator, Ordered, Pos, Taken, Ticks, hand_over};
@@ -53,8 +52,8 @@ impl LimitOperator {
         ensures sound { OnOk result (IsCut self.new) }
         ensures count { OnOk result (self.new.count ≡ self.old.count) }
         ensures left { OnOk result (limit_rows self.new ≡ with_change (limit_rows self.old) (change_to pos row)) }
-        ensures out { OnOk result (out.new.items ≡ out.old.items ++ told_along (front_at self.old.count (limit_rows self.old)) (diff (front_at self.old.count (limit_rows self.old)) (front_at self.old.count (with_change (limit_rows self.old) (change_to pos row))))) }
-        ensures ticks { OnOk result (ticks.new ≡ raised ticks.old (1 + length (diff (front_at self.old.count (limit_rows self.old)) (front_at self.old.count (with_change (limit_rows self.old) (change_to pos row)))))) }
+        ensures out { OnOk result (out.new.items ≡ out.old.items ++ told_along (limit_front self.old) (limit_changes self.old pos row)) }
+        ensures ticks { OnOk result (ticks.new ≡ raised ticks.old (1 + length (limit_changes self.old pos row))) }
         ensures begins { OnErr result (BeginsWith out.new.items out.old.items) }
         ensures no_fewer { OnErr result (ticks.old ≤ ticks.new) }
     {

@@ -1,6 +1,9 @@
 -- What the bounds on a stage's changes count.
-use Rattle.std.specs.Prelude.{ℕ, List, length, Option, None, Some}
+use Rattle.std.specs.Prelude.{ℕ, ◌+◌, List, length, Option, None, Some}
 use Rattle.dv_value.specs.Tree.{Field}
+use Rattle.dv_change.specs.declared.change.Change.{Change}
+use Rattle.dv_change.specs.Changes.{Positioned, at}
+use Rattle.dv_change.specs.Inner.Changes.{position_changed, row_in}
 use Rattle.dv_row.specs.declared.unwind.Unwind.{Unwind}
 use Rattle.dv_row.specs.Unwinding.{unwound}
 
@@ -8,3 +11,7 @@ use Rattle.dv_row.specs.Unwinding.{unwound}
 abbrev pub rows_made : Unwind → Option (List Field) → ℕ
 rows_made u None = 0
 rows_made u (Some d) = length (unwound u d)
+
+-- how many it makes of the row that is at the position of a change, and of the one that is there after it
+abbrev pub rows_unwound : Unwind → Positioned → Change → ℕ
+rows_unwound u rows change = rows_made u (at (position_changed change) rows) + rows_made u (row_in change)

@@ -7,9 +7,12 @@ use Rattle.std.specs.Map.{keys_of}
 use Rattle.std.specs.Ordering.{is_gt}
 use Rattle.std.specs.declared.cmp.Ordering.TheVariants.{Less}
 use Rattle.dv_value.specs.Tree.{Field}
-use Rattle.dv_change.specs.Changes.{Positioned, at}
+use Rattle.dv_change.specs.declared.change.Change.{Change}
+use Rattle.dv_change.specs.Changes.{Positioned, at, with_change}
+use Rattle.dv_change.specs.Difference.{diff}
 use Rattle.dv_change.specs.Inner.Changes.{HaveOneLength, IsPositioned}
 use Rattle.dv_change.specs.Inner.Ordered.{put}
+use Rattle.dv_change.specs.Inner.Told.{change_to}
 use Rattle.dv_change.specs.Positions.{IsExact, PosTree, pos_order}
 use Rattle.dv_flow.specs.declared.limit.LimitOperator.{LimitOperator}
 use Rattle.dv_flow.specs.declared.limit_turn.LimitTurn.{LimitTurn}
@@ -20,6 +23,14 @@ use Rattle.dv_flow.specs.Placed.{front_at}
 -- the rows that it has taken in: those that it shows, and behind them the others
 abbrev pub limit_rows : LimitOperator → Positioned
 limit_rows o = o.front.entries ++ o.rest.entries
+
+-- the first of them
+abbrev pub limit_front : LimitOperator → Positioned
+limit_front o = front_at o.count (limit_rows o)
+
+-- the changes of the first ones, where the row at a position becomes this one, or none
+abbrev pub limit_changes : LimitOperator → PosTree → Option (List Field) → List Change
+limit_changes o pos row = diff (limit_front o) (front_at o.count (with_change (limit_rows o) (change_to pos row)))
 
 -- its rows stand at exact positions, in their order, and the first of them are those that it shows
 pub record IsCut (o : LimitOperator) : Type 0 where
