@@ -2,7 +2,7 @@
 
 ghost use Rattle.std.specs.Prelude.{◌≡◌, ◌≤◌, ◌+◌, ◌++◌, [], length, IfOk, OnErr, OnOk, Some};
 ghost use Rattle.dv_change.specs.Inner.Beginning.{BeginsWith};
-ghost use Rattle.dv_change.specs.Changes.{Positioned, forget};
+ghost use Rattle.dv_change.specs.Changes.{forget};
 ghost use Rattle.dv_change.specs.Inner.Changes.{IsPositioned};
 ghost use Rattle.dv_change.specs.Raised.{raised};
 ghost use Rattle.dv_change.specs.Inner.Told.{diff_told, no_lists};
@@ -10,9 +10,8 @@ ghost use Rattle.dv_gather.specs.Grouping.{row_shown};
 ghost use Rattle.dv_group.specs.Inner.Grouped.{group_empty, group_even, group_ordered};
 ghost use Rattle.dv_group.specs.Inner.Held.{HoldsGroups};
 ghost use Rattle.dv_group.specs.Inner.Members as defined;
-ghost use Rattle.dv_group.specs.Inner.Members.{AreBundles, AreMembers, group_members, moved_as, shown_as};
+ghost use Rattle.dv_group.specs.Inner.Members.{AreBundles, AreGroupRows, FollowTaken, changes_shown, group_members};
 ghost use Rattle.dv_group.specs.Placed.{grouped_at};
-ghost use Rattle.dv_order.specs.Key.{KeyTree};
 
 use crate::groups::{Groups, follow, follow_all};
 use crate::shift::{Shifts, Telling, with_row};
@@ -59,10 +58,10 @@ impl GroupOperator {
     ) -> Result<(), NoMemory>
         requires { AreBundles self.old.group self.old.groups.entries }
         ensures group { OnOk result (self.new.group ≡ self.old.group) }
-        ensures groups { OnOk result ((k : KeyTree) → group_members k self.new.groups.entries ≡ moved_as self.old.group k (group_members k self.old.groups.entries) taken) }
+        ensures groups { OnOk result (FollowTaken self.old.group taken self.old.groups.entries self.new.groups.entries) }
         ensures sound { OnOk result (AreBundles self.new.group self.new.groups.entries) }
-        ensures out { OnOk result (out.new.items ≡ out.old.items ++ diff_told (shown_as self.old.group self.old.groups.entries taken) (shown_as self.old.group self.new.groups.entries taken)) }
-        ensures ticks { OnOk result (ticks.new ≡ raised ticks.old (1 + length (diff_told (shown_as self.old.group self.old.groups.entries taken) (shown_as self.old.group self.new.groups.entries taken)))) }
+        ensures out { OnOk result (out.new.items ≡ out.old.items ++ changes_shown self.old.group self.old.groups.entries self.new.groups.entries taken) }
+        ensures ticks { OnOk result (ticks.new ≡ raised ticks.old (1 + length (changes_shown self.old.group self.old.groups.entries self.new.groups.entries taken))) }
         ensures begins { OnErr result (BeginsWith out.new.items out.old.items) }
         ensures no_fewer { OnErr result (ticks.old ≤ ticks.new) }
     {
@@ -98,7 +97,7 @@ impl GroupOperator {
     fn all_shown(&self) -> Result<Ordered<Document>, NoMemory>
         requires { AreBundles self.now.group self.now.groups.entries }
         ensures positioned { IfOk result (λ rows. IsPositioned rows) }
-        ensures rows { IfOk result (λ rows. (left : Positioned) → IsPositioned left → AreMembers self.now.group (λ k. group_members k self.now.groups.entries) left → rows ≡ grouped_at self.now.group left) }
+        ensures rows { IfOk result (λ rows. AreGroupRows self.now.group self.now.groups.entries rows) }
     {
         let mut rows = Ordered::new(self.alloc);
         'groups: for (key, _) in &self.groups {

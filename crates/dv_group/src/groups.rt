@@ -1,9 +1,9 @@
 //! The rows of groups.
 
-ghost use Rattle.std.specs.Prelude.{◌≡◌, [], IfOk, OnOk, Some, cond};
+ghost use Rattle.std.specs.Prelude.{◌≡◌, [], IfOk, OnOk, Some};
 ghost use Rattle.dv_order.specs.Key.{KeyTree};
 ghost use Rattle.dv_group.specs.Inner.Members as defined;
-ghost use Rattle.dv_group.specs.Inner.Members.{AreBundles, AreShifts, IsShift, IsShiftAt, is_key, group_members, moved, moved_all, moved_as, own_key, set_at};
+ghost use Rattle.dv_group.specs.Inner.Members.{AreBundles, AreShiftsOfKeys, AreShiftsOfTaken, FollowTaken, IsShiftOfKey, SetInGroup, group_members, moved, moved_all, own_key};
 
 use crate::bundle::Bundle;
 use crate::kept::Kept;
@@ -46,9 +46,9 @@ pub(crate) fn follow(
     telling: Telling<'_>,
 ) -> Result<Shifts, NoMemory>
     requires { AreBundles group.now groups.old.entries }
-    ensures rows { OnOk result ((k : KeyTree) → group_members k groups.new.entries ≡ moved_as group.now k (group_members k groups.old.entries) taken) }
+    ensures rows { OnOk result (FollowTaken group.now taken groups.old.entries groups.new.entries) }
     ensures sound { OnOk result (AreBundles group.now groups.new.entries) }
-    ensures told { IfOk result (λ shifts. AreShifts telling.entry group.now (λ k. group_members k groups.old.entries) (λ k. group_members k groups.new.entries) (own_key group.now taken.old) (own_key group.now taken.new) shifts) }
+    ensures told { IfOk result (λ shifts. AreShiftsOfTaken telling.entry group.now groups.old.entries groups.new.entries taken shifts) }
 {
     let Taken { pos, old, new } = taken;
     let key = key_of_row(alloc, group, &old)?;
@@ -85,7 +85,7 @@ fn move_row(
     requires { AreBundles group.now groups.old.entries }
     ensures rows { OnOk result ((k : KeyTree) → group_members k groups.new.entries ≡ moved pos key.now other.now new k (group_members k groups.old.entries)) }
     ensures sound { OnOk result (AreBundles group.now groups.new.entries) }
-    ensures told { IfOk result (λ shifts. AreShifts telling.entry group.now (λ k. group_members k groups.old.entries) (λ k. group_members k groups.new.entries) key.now other.now shifts) }
+    ensures told { IfOk result (λ shifts. AreShiftsOfKeys telling.entry group.now groups.old.entries groups.new.entries key.now other.now shifts) }
 {
     pos.is_exact();
     let empty = Shifts::none(alloc);
@@ -113,9 +113,9 @@ fn set_in(
     telling: Telling<'_>,
 ) -> Result<Shift, NoMemory>
     requires { AreBundles group.now groups.old.entries }
-    ensures rows { OnOk result ((k : KeyTree) → group_members k groups.new.entries ≡ cond (is_key k key.now) (set_at pos row (group_members k groups.old.entries)) (group_members k groups.old.entries)) }
+    ensures rows { OnOk result (SetInGroup key.now pos row groups.old.entries groups.new.entries) }
     ensures sound { OnOk result (AreBundles group.now groups.new.entries) }
-    ensures told { IfOk result (λ shift. IsShiftAt telling.entry group.now (λ k. group_members k groups.old.entries) (λ k. group_members k groups.new.entries) key.now shift) }
+    ensures told { IfOk result (λ shift. IsShiftOfKey telling.entry group.now groups.old.entries groups.new.entries key.now shift) }
 {
     match key {
         Some(key) => set_under(alloc, group, groups, key, pos, row, telling),
@@ -137,9 +137,9 @@ fn set_under(
     telling: Telling<'_>,
 ) -> Result<Shift, NoMemory>
     requires { AreBundles group.now groups.old.entries }
-    ensures rows { OnOk result ((k : KeyTree) → group_members k groups.new.entries ≡ cond (is_key k (Some key.now)) (set_at pos row (group_members k groups.old.entries)) (group_members k groups.old.entries)) }
+    ensures rows { OnOk result (SetInGroup (Some key.now) pos row groups.old.entries groups.new.entries) }
     ensures sound { OnOk result (AreBundles group.now groups.new.entries) }
-    ensures told { IfOk result (λ shift. IsShift telling.entry group.now (group_members key.now groups.old.entries) (group_members key.now groups.new.entries) shift) }
+    ensures told { IfOk result (λ shift. IsShiftOfKey telling.entry group.now groups.old.entries groups.new.entries (Some key.now) shift) }
 {
     let Some(kept) = groups.get_mut(key) else {
         return set_first(alloc, group, groups, key, pos, row, telling);
@@ -164,9 +164,9 @@ fn set_first(
 ) -> Result<Shift, NoMemory>
     requires sound { AreBundles group.now groups.old.entries }
     requires none { group_members key.now groups.old.entries ≡ [] }
-    ensures rows { OnOk result ((k : KeyTree) → group_members k groups.new.entries ≡ cond (is_key k (Some key.now)) (set_at pos row (group_members k groups.old.entries)) (group_members k groups.old.entries)) }
+    ensures rows { OnOk result (SetInGroup (Some key.now) pos row groups.old.entries groups.new.entries) }
     ensures sound { OnOk result (AreBundles group.now groups.new.entries) }
-    ensures told { IfOk result (λ shift. IsShift telling.entry group.now (group_members key.now groups.old.entries) (group_members key.now groups.new.entries) shift) }
+    ensures told { IfOk result (λ shift. IsShiftOfKey telling.entry group.now groups.old.entries groups.new.entries (Some key.now) shift) }
 {
     let bundle = Bundle::new(alloc, group)?;
     let mut kept = Kept::of(bundle);

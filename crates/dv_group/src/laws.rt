@@ -1,11 +1,9 @@
 //! What holds of the rows of groups at positions, each the contract of a function that does nothing: without the positions they are
 //! those of `$group`, and a change of a row changes few of them.
 
-ghost use Rattle.std.specs.Prelude.{◌≡◌, ◌≤◌, length};
-ghost use Rattle.dv_change.specs.declared.change.Change.{Change};
-ghost use Rattle.dv_change.specs.Changes.{Positioned, forget, with_change};
-ghost use Rattle.dv_change.specs.Inner.Changes.{IsExactChange, IsPositioned};
-ghost use Rattle.dv_change.specs.Difference.{diff};
+ghost use Rattle.std.specs.Prelude.{◌≡◌};
+ghost use Rattle.dv_change.specs.Changes.{Positioned, forget};
+ghost use Rattle.dv_change.specs.Inner.Bounds.{ChangesAtMost};
 ghost use Rattle.dv_gather.specs.Grouping.{Grouping, grouped};
 ghost use Rattle.dv_group.specs.Placed.{grouped_at};
 
@@ -19,5 +17,5 @@ pub fn grouped_rows_are_the_rows_of_groups()
 /// comes.
 #[tactic(auto, using(crate::proofs::Lawful::lawful))]
 pub fn a_group_hands_on_two_changes()
-    ensures { (group : Grouping) (rows : Positioned) (change : Change) → IsPositioned rows → IsExactChange change → length (diff (grouped_at group rows) (grouped_at group (with_change rows change))) ≤ 2 }
+    ensures { (group : Grouping) → ChangesAtMost 2 (grouped_at group) }
 {}

@@ -11,7 +11,9 @@ use Rattle.dv_row.specs.Row.{Row}
 use Rattle.dv_change.specs.declared.position.Part.TheVariants.{Up}
 use Rattle.dv_change.specs.declared.taking.Taken.{Taken}
 use Rattle.dv_change.specs.Changes.{Positioned, forget}
+use Rattle.dv_change.specs.Inner.Changes.{IsPositioned}
 use Rattle.dv_change.specs.Inner.Ordered.{gone, put}
+use Rattle.dv_change.specs.Inner.Told.{diff_told}
 use Rattle.dv_change.specs.Positions.{PosTree}
 use Rattle.dv_gather.specs.Grouping.{Grouping, key_in, row_shown}
 use Rattle.dv_group.specs.declared.kept.Kept.{Kept}
@@ -20,6 +22,7 @@ use Rattle.dv_group.specs.declared.shift.Shifts.{Shifts}
 use Rattle.dv_group.specs.declared.shift.Telling.{Telling}
 use Rattle.dv_group.specs.declared.shift.Telling.TheVariants.{Told, Untold}
 use Rattle.dv_group.specs.Inner.Room.{IsBundle}
+use Rattle.dv_group.specs.Placed.{grouped_at}
 
 -- the key of a row
 abbrev pub row_key : Grouping → Row → KeyTree
@@ -112,6 +115,22 @@ moved_all g k rows all = fold (moved_as g k) rows all
 abbrev pub shown_as : Grouping → KeptGroups → Taken → Positioned
 shown_as g es taken = shown_of g (λ k. group_members k es) (own_key g taken.old) (own_key g taken.new)
 
+-- the changes that are told of them, from groups to those that came of them
+abbrev pub changes_shown : Grouping → KeptGroups → KeptGroups → Taken → List Taken
+changes_shown g old new taken = diff_told (shown_as g old taken) (shown_as g new taken)
+
+-- groups after a change that is told
+abbrev pub FollowTaken : Grouping → Taken → KeptGroups → KeptGroups → Type 0
+FollowTaken g taken old new = (k : KeyTree) → group_members k new ≡ moved_as g k (group_members k old) taken
+
+-- groups after the row at a position of the group of a key, where there is one, became this one, or none
+abbrev pub SetInGroup : Option KeyTree → PosTree → Option Row → KeptGroups → KeptGroups → Type 0
+SetInGroup key pos row old new = (k : KeyTree) → group_members k new ≡ cond (is_key k key) (set_at pos row (group_members k old)) (group_members k old)
+
+-- whatever rows the groups are of, these are the rows of the groups
+abbrev pub AreGroupRows : Grouping → KeptGroups → Positioned → Type 0
+AreGroupRows g es rows = (left : Positioned) → IsPositioned left → AreMembers g (λ k. group_members k es) left → rows ≡ grouped_at g left
+
 -- ---- the rows of groups before a change and after it
 
 -- the row of a group of these rows, where it is told
@@ -137,3 +156,13 @@ with_row (Some k) row rows = put_some (Up k ∷ []) row rows
 abbrev pub AreShifts : Telling → Grouping → (KeyTree → Positioned) → (KeyTree → Positioned) → Option KeyTree → Option KeyTree → Shifts → Type 0
 AreShifts Untold g was now key other shifts = ⊤
 AreShifts (Told lender) g was now key other shifts = (shifts.before ≡ shown_of g was key other) × (shifts.after ≡ shown_of g now key other)
+
+-- the same of groups before a change and after it: for a key, for two keys, and for those of a change that is told
+abbrev pub IsShiftOfKey : Telling → Grouping → KeptGroups → KeptGroups → Option KeyTree → Shift → Type 0
+IsShiftOfKey telling g old new key shift = IsShiftAt telling g (λ k. group_members k old) (λ k. group_members k new) key shift
+
+abbrev pub AreShiftsOfKeys : Telling → Grouping → KeptGroups → KeptGroups → Option KeyTree → Option KeyTree → Shifts → Type 0
+AreShiftsOfKeys telling g old new key other shifts = AreShifts telling g (λ k. group_members k old) (λ k. group_members k new) key other shifts
+
+abbrev pub AreShiftsOfTaken : Telling → Grouping → KeptGroups → KeptGroups → Taken → Shifts → Type 0
+AreShiftsOfTaken telling g old new taken shifts = AreShiftsOfKeys telling g old new (own_key g taken.old) (own_key g taken.new) shifts
