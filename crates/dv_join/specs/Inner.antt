@@ -5,3 +5,5 @@ pub mod Turning
 pub mod Listed
 pub mod Bounds
 pub mod Copied
+pub mod Joined
+pub mod Taking

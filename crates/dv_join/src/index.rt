@@ -1,14 +1,9 @@
 //! Rows by their keys.
 
-ghost use Rattle.std.specs.Prelude.{◌≡◌, ◌&&◌, [], Bool, cond, filter, map, not, IfOk, OnOk};
+ghost use Rattle.std.specs.Prelude.{◌≡◌, [], cond, IfOk, OnOk};
 ghost use Rattle.std.specs.BTreeSet.{IsUnion, contains, union};
 ghost use Rattle.std.specs.Ordering.{is_eq};
-ghost use Rattle.dv_change.specs.Changes.{Positioned, forget};
-ghost use Rattle.dv_change.specs.Inner.Changes.{IsPositioned};
-ghost use Rattle.dv_change.specs.Inner.Ordered.{gone};
-ghost use Rattle.dv_gather.specs.Joining.{as_value};
-ghost use Rattle.dv_join.specs.Inner.Copied.{Row};
-ghost use Rattle.dv_join.specs.Inner.Indexed.{IsJoinIndexOf, has_any, moved_in_index, row_set, under};
+ghost use Rattle.dv_join.specs.Inner.Indexed.{AreRowsUnder, AreValuesUnder, ExchangedIn, TakenOutOf, row_set, under};
 ghost use Rattle.dv_order.specs.Key.{KeyTree, key_order};
 
 use crate::joining::{values_of, with_all};
@@ -45,7 +40,7 @@ impl Index {
         row: &Option<Document>,
         new_keys: BTreeSet<Key>,
     ) -> Result<(), NoMemory>
-        ensures { OnOk result ((k : KeyTree) → under k self.new ≡ moved_in_index pos.now (contains key_order old_keys.now k) row.now (contains key_order new_keys k) (under k self.old)) }
+        ensures { OnOk result (ExchangedIn pos.now old_keys.now row.now new_keys self.old self.new) }
     {
         self.take_out(old_keys, &new_keys, pos)?;
         self.set(new_keys, pos, row)
@@ -58,7 +53,7 @@ impl Index {
         others: &BTreeSet<Key>,
         pos: &Pos,
     ) -> Result<(), NoMemory>
-        ensures { OnOk result ((k : KeyTree) → under k self.new ≡ cond (contains key_order keys.now k && not (contains key_order others.now k)) (gone pos.now (under k self.old)) (under k self.old)) }
+        ensures { OnOk result (TakenOutOf pos.now keys.now others.now self.old self.new) }
     {
         'keys: for key in keys.difference(others) {
             self.set_under(key.try_clone()?, pos, &None)?;
@@ -111,7 +106,7 @@ impl Index {
         others: &BTreeSet<Key>,
     ) -> Result<Ordered<Document>, NoMemory>
         ensures union { IsUnion key_order keys.now others.now (union key_order keys.now others.now) }
-        ensures rows { IfOk result (λ all. (has : KeyTree → Row → Bool) (rows : Positioned) → IsPositioned rows → IsJoinIndexOf has rows self.now → all ≡ filter (λ e. has_any has (union key_order keys.now others.now) e.1) rows) }
+        ensures rows { IfOk result (λ all. AreRowsUnder self.now (union key_order keys.now others.now) all) }
     {
         let mut found = Ordered::new(self.alloc);
         'keys: for key in keys.union(others) {
@@ -124,7 +119,7 @@ impl Index {
 
     /// The rows that have any of the keys, as values in the order of their positions. Fails where memory is wanting.
     pub(crate) fn values_under(&self, keys: &BTreeSet<Key>) -> Result<List, NoMemory>
-        ensures { IfOk result (λ values. (has : KeyTree → Row → Bool) (rows : Positioned) → IsPositioned rows → IsJoinIndexOf has rows self.now → values ≡ map as_value (forget (filter (λ e. has_any has keys.now.keys e.1) rows))) }
+        ensures { IfOk result (λ values. AreValuesUnder self.now keys.now.keys values) }
     {
         let Some(key) = keys.first() else {
             return Ok(List::new(self.alloc));

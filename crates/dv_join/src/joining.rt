@@ -1,19 +1,11 @@
 //! Rows joined with the documents that are found by their keys.
 
 ghost use Rattle.std.specs.Prelude.{◌≡◌, map, IfOk};
-ghost use Rattle.std.specs.BTreeSet.{contains};
 ghost use Rattle.std.specs.Option.{option_map, unwrap_or};
-ghost use Rattle.dv_change.specs.Changes.{Positioned, forget};
-ghost use Rattle.dv_change.specs.Inner.Changes.{IsPositioned};
-ghost use Rattle.dv_change.specs.Inner.Ordered.{put};
+ghost use Rattle.dv_change.specs.Changes.{forget};
 ghost use Rattle.dv_gather.specs.Joining.{as_value};
-ghost use Rattle.dv_gather.specs.Lookups.{joined_documents, set_field};
-ghost use Rattle.dv_join.specs.Inner.Copied.{DiffersByTarget, Row, made_of};
-ghost use Rattle.dv_join.specs.Inner.Indexed.{IsJoinIndexOf};
+ghost use Rattle.dv_join.specs.Inner.Joined.{AddsJoined, AreJoined, IsCopyJoined};
 ghost use Rattle.dv_join.specs.Inner.Listed as listed;
-ghost use Rattle.dv_join.specs.Placed.{looked_up_at};
-ghost use Rattle.dv_join.specs.Inner.Turning.{has_foreign, has_local};
-ghost use Rattle.dv_order.specs.Key.{KeyTree, key_order};
 
 use crate::index::Index;
 use dv_change::{Ordered, Pos};
@@ -32,7 +24,7 @@ pub(crate) fn joined_rows(
     rows: &Ordered<Document>,
     copied: &Ordered<Document>,
 ) -> Result<Ordered<Document>, NoMemory>
-    ensures { IfOk result (λ joined. (documents : Positioned) (made : Row → Row) → IsPositioned documents → IsJoinIndexOf (has_foreign lookup.now) documents foreign.now → IsPositioned rows.now → DiffersByTarget lookup.now made → copied.now ≡ made_of made rows.now → joined ≡ looked_up_at lookup.now rows.now documents) }
+    ensures { IfOk result (λ joined. AreJoined lookup.now foreign.now rows.now copied.now joined) }
 {
     let mut joined = Ordered::new(alloc);
     let Some((pos, row)) = rows.first() else {
@@ -68,7 +60,7 @@ fn with_joined(
     row: &Document,
     copied: &Document,
 ) -> Result<Ordered<Document>, NoMemory>
-    ensures { IfOk result (λ more. (documents : Positioned) → IsPositioned documents → IsJoinIndexOf (has_foreign lookup.now) documents foreign.now → more ≡ put pos.now (set_field lookup.now.target (joined_documents lookup.now (forget documents) row.now) copied.now) joined) }
+    ensures { IfOk result (λ more. AddsJoined lookup.now foreign.now pos.now row.now copied.now joined more) }
 {
     let keys = lookup.local_keys(alloc, row)?;
     let made = joined_row(alloc, lookup, foreign, &keys, copied)?;
@@ -83,7 +75,7 @@ pub(crate) fn joined_row(
     keys: &BTreeSet<Key>,
     copied: &Document,
 ) -> Result<Document, NoMemory>
-    ensures { IfOk result (λ joined. (documents : Positioned) (row : Row) → IsPositioned documents → IsJoinIndexOf (has_foreign lookup.now) documents foreign.now → ((k : KeyTree) → contains key_order keys.now k ≡ has_local lookup.now k row) → joined ≡ set_field lookup.now.target (joined_documents lookup.now (forget documents) row) copied.now) }
+    ensures { IfOk result (λ joined. IsCopyJoined lookup.now foreign.now keys.now copied.now joined) }
 {
     let matches = foreign.values_under(keys)?;
     lookup.row_with(alloc, copied, matches, None)

@@ -1,14 +1,11 @@
 //! What holds of look-ups at positions, each the contract of a function that does nothing: without the positions they are those of
 //! a pipeline, and a change of either side changes few of the rows that they make.
 
-ghost use Rattle.std.specs.Prelude.{◌≡◌, ◌≤◌, length};
-ghost use Rattle.dv_change.specs.declared.change.Change.{Change};
-ghost use Rattle.dv_change.specs.Changes.{Positioned, at, forget, with_change};
-ghost use Rattle.dv_change.specs.Inner.Changes.{IsExactChange, IsPositioned, position_changed, row_in};
-ghost use Rattle.dv_change.specs.Difference.{diff};
+ghost use Rattle.std.specs.Prelude.{◌≡◌};
+ghost use Rattle.dv_change.specs.Changes.{Positioned, forget};
 ghost use Rattle.dv_gather.specs.declared.lookup.Lookup.{Lookup};
 ghost use Rattle.dv_gather.specs.Lookups.{looked_up};
-ghost use Rattle.dv_join.specs.Inner.Bounds.{rows_touched};
+ghost use Rattle.dv_join.specs.Inner.Bounds.{DocumentChangesWithin, RowChangesAtMost, rows_touched_by};
 ghost use Rattle.dv_join.specs.Placed.{looked_up_at};
 
 /// Without positions, the rows with what they are joined with are those of a `$lookup` of the rows.
@@ -20,11 +17,11 @@ pub fn joined_rows_are_the_rows_looked_up()
 /// A change of a row changes one at most of the rows that are made.
 #[tactic(auto, using(crate::proofs::Lawful::lawful))]
 pub fn a_change_of_a_row_hands_on_one_change()
-    ensures { (lookup : Lookup) (rows foreign : Positioned) (change : Change) → IsPositioned rows → IsExactChange change → length (diff (looked_up_at lookup rows foreign) (looked_up_at lookup (with_change rows change) foreign)) ≤ 1 }
+    ensures { (lookup : Lookup) → RowChangesAtMost 1 (looked_up_at lookup) }
 {}
 
 /// A change of a document changes at most as many rows as share a value with the document that was there or with the one that is
 /// there now.
 pub fn a_change_of_a_document_hands_on_the_rows_that_share_a_value()
-    ensures { (lookup : Lookup) (rows foreign : Positioned) (change : Change) → IsPositioned rows → IsPositioned foreign → IsExactChange change → length (diff (looked_up_at lookup rows foreign) (looked_up_at lookup rows (with_change foreign change))) ≤ rows_touched lookup (at (position_changed change) foreign) (row_in change) rows }
+    ensures { (lookup : Lookup) → DocumentChangesWithin (rows_touched_by lookup) (looked_up_at lookup) }
 {}

@@ -1,14 +1,9 @@
 //! `$lookup`, told what stood where a change is.
 
-ghost use Rattle.std.specs.Prelude.{◌≡◌, ◌∷◌, [], List, refl, IfOk, OnOk};
+ghost use Rattle.std.specs.Prelude.{◌≡◌, ◌∷◌, [], refl, IfOk, OnOk};
 ghost use Rattle.std.specs.BTreeSet.{contains};
-ghost use Rattle.dv_change.specs.declared.change.Change.{Change};
-ghost use Rattle.dv_change.specs.Changes.{Positioned, with_change};
-ghost use Rattle.dv_change.specs.Inner.Changes.{IsExactChange, IsPositioned, alone};
-ghost use Rattle.dv_change.specs.Difference.{diff};
-ghost use Rattle.dv_change.specs.Inner.Told.{diff_told, told_along, with_old};
-ghost use Rattle.dv_join.specs.Inner.Copied.{DiffersByTarget, Row, made_of};
-ghost use Rattle.dv_join.specs.Inner.Indexed.{IsJoinIndexOf};
+ghost use Rattle.dv_join.specs.Inner.Joined.{AreJoined, IsJoinedAlone};
+ghost use Rattle.dv_join.specs.Inner.Taking.{HoldsAfterDocument, HoldsAfterRow, TellsAfterDocument, TellsAfterRow};
 ghost use Rattle.dv_join.specs.Placed.{looked_up_at};
 ghost use Rattle.dv_join.specs.Inner.Placed.{looked_up_even, looked_up_ordered};
 ghost use Rattle.dv_join.specs.Turning.{first_input};
@@ -57,8 +52,8 @@ impl LookupOperator {
         taken: &Taken,
     ) -> Result<(Ordered<Document>, Ordered<Document>), NoMemory>
         ensures lookup { OnOk result (self.new.lookup ≡ self.old.lookup) }
-        ensures holds { OnOk result ((others : List Positioned) (left : Positioned) (change : Change) → HoldsJoin self.old others left → IsExactChange change → taken.now ≡ with_old left change → HoldsJoin self.new others (with_change left change)) }
-        ensures told { IfOk result (λ made. (others : List Positioned) (left : Positioned) (change : Change) → HoldsJoin self.old others left → IsExactChange change → taken.now ≡ with_old left change → diff_told made.0 made.1 ≡ told_along (looked_up_at self.old.lookup left (first_input others)) (diff (looked_up_at self.old.lookup left (first_input others)) (looked_up_at self.old.lookup (with_change left change) (first_input others)))) }
+        ensures holds { OnOk result (HoldsAfterRow taken.now self.old self.new) }
+        ensures told { IfOk result (λ made. TellsAfterRow self.old taken.now made.0 made.1) }
     {
         let Taken { pos, old, new } = taken;
         let old_keys = self.local_keys(old)?;
@@ -76,8 +71,8 @@ impl LookupOperator {
         taken: &Taken,
     ) -> Result<(Ordered<Document>, Ordered<Document>), NoMemory>
         ensures lookup { OnOk result (self.new.lookup ≡ self.old.lookup) }
-        ensures holds { OnOk result ((others : List Positioned) (left : Positioned) (change : Change) → HoldsJoin self.old others left → IsExactChange change → taken.now ≡ with_old (first_input others) change → HoldsJoin self.new (with_change (first_input others) change ∷ []) left) }
-        ensures told { IfOk result (λ made. (others : List Positioned) (left : Positioned) (change : Change) → HoldsJoin self.old others left → IsExactChange change → taken.now ≡ with_old (first_input others) change → diff_told made.0 made.1 ≡ told_along (looked_up_at self.old.lookup left (first_input others)) (diff (looked_up_at self.old.lookup left (first_input others)) (looked_up_at self.old.lookup left (with_change (first_input others) change)))) }
+        ensures holds { OnOk result (HoldsAfterDocument taken.now self.old self.new) }
+        ensures told { IfOk result (λ made. TellsAfterDocument self.old taken.now made.0 made.1) }
     {
         let Taken { pos, old, new } = taken;
         let old_keys = self.foreign_keys(old)?;
@@ -95,7 +90,7 @@ impl LookupOperator {
         rows: &Ordered<Document>,
         copied: &Ordered<Document>,
     ) -> Result<Ordered<Document>, NoMemory>
-        ensures { IfOk result (λ joined. (documents : Positioned) (made : Row → Row) → IsPositioned documents → IsJoinIndexOf (has_foreign self.now.lookup) documents self.now.foreign_by → IsPositioned rows.now → DiffersByTarget self.now.lookup made → copied.now ≡ made_of made rows.now → joined ≡ looked_up_at self.now.lookup rows.now documents) }
+        ensures { IfOk result (λ joined. AreJoined self.now.lookup self.now.foreign_by rows.now copied.now joined) }
     {
         joined_rows(self.alloc, &self.lookup, &self.foreign_by, rows, copied)
     }
@@ -107,7 +102,7 @@ impl LookupOperator {
         row: &Option<Document>,
         keys: &BTreeSet<Key>,
     ) -> Result<Ordered<Document>, NoMemory>
-        ensures { IfOk result (λ joined. (documents : Positioned) → IsPositioned documents → IsJoinIndexOf (has_foreign self.now.lookup) documents self.now.foreign_by → ((k : KeyTree) → contains key_order keys.now k ≡ if_any (has_local self.now.lookup k) row.now) → joined ≡ looked_up_at self.now.lookup (alone pos.now row.now) documents) }
+        ensures { IfOk result (λ joined. IsJoinedAlone self.now.lookup self.now.foreign_by pos.now row.now keys.now joined) }
     {
         let none = Ordered::new(self.alloc);
         let Some(row) = row else {

@@ -1,13 +1,16 @@
 -- Rows by their keys in memory.
-use Rattle.std.specs.Prelude.{◌≡◌, Bool, cond, List, [], Option, Some, None, filter}
+use Rattle.std.specs.Prelude.{◌≡◌, ◌&&◌, Bool, cond, not, List, [], Option, Some, None, filter, map}
 use Rattle.std.specs.BTreeMap.{get}
+use Rattle.std.specs.BTreeSet.{BTreeSet, contains}
 use Rattle.std.specs.List.{list_any}
 use Rattle.std.specs.Option.{unwrap_or}
-use Rattle.dv_value.specs.Tree.{Field}
+use Rattle.dv_value.specs.Tree.{Field, Tree}
 use Rattle.dv_order.specs.Key.{KeyTree, key_order}
-use Rattle.dv_change.specs.Changes.{Positioned}
+use Rattle.dv_change.specs.Changes.{Positioned, forget}
+use Rattle.dv_change.specs.Inner.Changes.{IsPositioned}
 use Rattle.dv_change.specs.Inner.Ordered.{gone, put}
 use Rattle.dv_change.specs.Positions.{PosTree}
+use Rattle.dv_gather.specs.Joining.{as_value}
 use Rattle.dv_join.specs.declared.index.Index.{Index}
 
 -- the rows under a key
@@ -30,3 +33,18 @@ row_set pos (Some row) rows = put pos row rows
 -- the rows under a key, where another one came if that has the key, and else the one at its position went if that had it
 abbrev pub moved_in_index : PosTree → Bool → Option (List Field) → Bool → Positioned → Positioned
 moved_in_index pos had row has rows = cond has (row_set pos row rows) (cond had (gone pos rows) rows)
+
+-- an index after a row at a position, under some keys, gave way to another one, under others
+abbrev pub ExchangedIn : PosTree → BTreeSet KeyTree → Option (List Field) → BTreeSet KeyTree → Index → Index → Type 0
+ExchangedIn pos old_keys row new_keys old new = (k : KeyTree) → under k new ≡ moved_in_index pos (contains key_order old_keys k) row (contains key_order new_keys k) (under k old)
+
+-- an index after the row at a position went from under each of some keys that isn't one of the others
+abbrev pub TakenOutOf : PosTree → BTreeSet KeyTree → BTreeSet KeyTree → Index → Index → Type 0
+TakenOutOf pos keys others old new = (k : KeyTree) → under k new ≡ cond (contains key_order keys k && not (contains key_order others k)) (gone pos (under k old)) (under k old)
+
+-- whatever rows the index is of, these are the ones that have any of the keys, and these are they as values
+abbrev pub AreRowsUnder : Index → List KeyTree → Positioned → Type 0
+AreRowsUnder index keys all = (has : KeyTree → List Field → Bool) (rows : Positioned) → IsPositioned rows → IsJoinIndexOf has rows index → all ≡ filter (λ e. has_any has keys e.1) rows
+
+abbrev pub AreValuesUnder : Index → List KeyTree → List Tree → Type 0
+AreValuesUnder index keys values = (has : KeyTree → List Field → Bool) (rows : Positioned) → IsPositioned rows → IsJoinIndexOf has rows index → values ≡ map as_value (forget (filter (λ e. has_any has keys e.1) rows))
