@@ -13,3 +13,4 @@ pub mod Tallies
 pub mod TotalView
 pub mod Totals
 pub mod Valid
+pub mod Laws

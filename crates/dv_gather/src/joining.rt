@@ -1,13 +1,13 @@
 //! Documents joined with those that have one of their values.
 
-ghost use Rattle.std.specs.Prelude.{◌≡◌, ◌&&◌, ◌||◌, ◌==◌, ℕ, map, slice_get, IfOk, IfSome, OnOk};
+ghost use Rattle.std.specs.Prelude.{◌≡◌, ◌||◌, ℕ, map, slice_get, IfOk, IfSome, OnOk};
 ghost use Rattle.std.specs.List.{list_any};
 ghost use Rattle.std.specs.BTreeSet.{contains};
 ghost use Rattle.std.specs.Ordering.{is_eq, nat_cmp};
 ghost use Rattle.dv_order.specs.Key.{KeyTree, key_order};
 ghost use Rattle.dv_gather.specs.Joining.{as_value};
 ghost use Rattle.dv_gather.specs.Inner.KeySets.{referred};
-ghost use Rattle.dv_gather.specs.Inner.Places.{AreMatches, ArePlaces, items_chosen, is_found, is_place, is_under, item_at};
+ghost use Rattle.dv_gather.specs.Inner.Places.{AddsPlace, AreMatches, ArePlaces, items_chosen, is_found, is_place, is_under, item_at};
 
 use crate::keys::sole_key;
 use crate::lookup::Lookup;
@@ -39,7 +39,7 @@ fn add_place(
     place: usize,
     places: &mut BTreeMap<Key, Vec<usize>>,
 ) -> Result<(), NoMemory>
-    ensures { OnOk result ((k : KeyTree) (i : ℕ) → is_under places.new k i ≡ (is_under places.old k i || (place == i && is_found lookup.now.foreign k document.now))) }
+    ensures { OnOk result (AddsPlace (λ k. is_found lookup.now.foreign k document.now) place places.old places.new) }
 {
     // Most documents have one key, and a set costs more than that.
     if let Some(key) = sole_key(document, &lookup.foreign)? {
@@ -59,7 +59,7 @@ fn add_under(
     place: usize,
     places: &mut BTreeMap<Key, Vec<usize>>,
 ) -> Result<(), NoMemory>
-    ensures { OnOk result ((k : KeyTree) (i : ℕ) → is_under places.new k i ≡ (is_under places.old k i || (place == i && is_eq (key_order k key)))) }
+    ensures { OnOk result (AddsPlace (λ k. is_eq (key_order k key)) place places.old places.new) }
 {
     places.entry(key)?.or_insert(Vec::new(alloc)).push(place)?;
     Ok(())

@@ -5,7 +5,7 @@ ghost use Rattle.std.specs.List.{list_all};
 ghost use Rattle.std.specs.List.Sorted.{IsStrictlySortedBy};
 ghost use Rattle.std.specs.Ordering.{is_eq};
 ghost use Rattle.std.specs.declared.cmp.Ordering.TheVariants.{Less, Greater};
-ghost use Rattle.dv_value.specs.Tree.{Tree, int32, int64, array, boolean, null, no_elements, elements_of};
+ghost use Rattle.dv_value.specs.Tree.{Tree, int32, int64, array, boolean, no_elements};
 ghost use Rattle.dv_value.specs.Spelling.{IsValue};
 ghost use Rattle.dv_order.specs.Order.{order};
 ghost use Rattle.dv_row.specs.declared.fault.PipelineFault.TheVariants.{BadSpec};
@@ -17,8 +17,9 @@ ghost use Rattle.dv_value.specs.Short as short;
 ghost use Rattle.dv_gather.specs.Inner.Examples as examples;
 ghost use Rattle.dv_gather.specs.GroupParsing.{group_in};
 ghost use Rattle.dv_gather.specs.declared.lookup.Lookup as lookups;
-ghost use Rattle.dv_gather.specs.Grouping.{Grouping, accumulated, group_row, grouped, key_in, keyed, values_over};
+ghost use Rattle.dv_gather.specs.Grouping.{Grouping, accumulated, group_row, grouped, keyed, values_over};
 ghost use Rattle.dv_gather.specs.Groups.{Keyed, groups_of, group_keys};
+ghost use Rattle.dv_gather.specs.Inner.Laws.{array_pushed, rows_with_key};
 ghost use Rattle.dv_gather.specs.Inner.Leading.{IsLeader};
 ghost use Rattle.dv_gather.specs.Lookups.{looked_up, lookup_in, set_field};
 ghost use Rattle.dv_gather.specs.Sums.{sum_of};
@@ -36,7 +37,7 @@ pub fn each_row_is_in_one_group()
 #[tactic(auto, using(crate::proofs::Parted::groups_filter, crate::proofs::Parted::grouped_filter, crate::proofs::Parted::no_other_key))]
 pub fn groups_are_parted_by_their_keys()
     ensures parted { (rows : List Keyed) → groups_of rows ≡ map (λ k. map (λ row. row.1) (filter (λ row. is_eq (order k row.0)) rows)) (group_keys rows) }
-    ensures grouped { (group : Grouping) (rows : List Row) → grouped group rows ≡ map (λ k. group_row group (filter (λ row. is_eq (order k (key_in group row))) rows)) (group_keys (map (keyed group) rows)) }
+    ensures grouped { (group : Grouping) (rows : List Row) → grouped group rows ≡ map (λ k. group_row group (rows_with_key group k rows)) (group_keys (map (keyed group) rows)) }
     ensures no_other_key { (holds : Tree → Bool) (rows : List Keyed) → list_all (λ row. holds row.0) rows ≡ true → list_all holds (group_keys rows) ≡ true }
 {}
 
@@ -49,7 +50,7 @@ pub fn only_numbers_count()
 /// `$push` puts the value of each row after those of the rows before it, and a row without a value counts nowhere.
 #[tactic(auto, using(crate::proofs::Parted::pushed_last, crate::proofs::Parted::missing_left_out))]
 pub fn values_are_pushed_in_order()
-    ensures pushed { (e : Expression) (rows : List Row) (row : Row) (v : Tree) → value_of e row ≡ Some v → accumulated Accumulator.Push (values_over e (rows ++ row ∷ [])) ≡ array (elements_of (values_over e rows ++ v ∷ [])) }
+    ensures pushed { (e : Expression) (rows : List Row) (row : Row) (v : Tree) → value_of e row ≡ Some v → array_pushed e (rows ++ row ∷ []) ≡ short.list (values_over e rows ++ v ∷ []) }
     ensures left_out { (e : Expression) (rows : List Row) (row : Row) → value_of e row ≡ None → values_over e (rows ++ row ∷ []) ≡ values_over e rows }
 {}
 
@@ -65,7 +66,7 @@ pub fn values_of_four_classes()
 #[tactic(auto, using(crate::proofs::Worked::no_key, crate::proofs::Worked::a_fifth_option))]
 pub fn forms_that_are_refused()
     ensures no_key { group_in (short.doc (examples.by (codes "n") (codes "$sum") (short.int 1) ∷ [])) ≡ Err BadSpec }
-    ensures a_fifth_option { lookup_in (short.doc ((codes "from", short.text (codes "d")) ∷ (codes "localField", short.text (codes "p")) ∷ (codes "foreignField", short.text (codes "f")) ∷ (codes "as", short.text (codes "o")) ∷ (codes "pipeline", short.list []) ∷ [])) ≡ Err BadSpec }
+    ensures a_fifth_option { lookup_in examples.a_lookup_with_a_pipeline ≡ Err BadSpec }
 {}
 
 /// A sum of ones counts the rows.
@@ -104,12 +105,12 @@ pub fn what_comes_of_valid_rows_is_valid()
 /// Rows in three groups: two rows share a key, one has another key, and one has none.
 #[tactic(auto, using(crate::proofs::Worked::rows_in_groups))]
 pub fn rows_in_three_groups()
-    ensures { examples.after_group examples.a_group examples.group_rows ≡ Ok (examples.group_row null (short.int 2) (short.int 2 ∷ []) (short.int 2) ∷ examples.group_row (short.text (codes "a")) (short.int 3) (short.int 3 ∷ null ∷ []) (short.int 3) ∷ examples.group_row (short.text (codes "b")) null [] (short.int 0) ∷ []) }
+    ensures { examples.after_group examples.a_group examples.group_rows ≡ Ok examples.rows_of_three_groups }
 {}
 
 /// A row that lacks the field finds the document that lacks it, and a row with an array finds what its elements find, each
 /// once, but not a document whose array holds the same array.
 #[tactic(auto, using(crate::proofs::Worked::rows_looked_up))]
 pub fn two_rows_looked_up()
-    ensures { examples.after_lookup examples.a_lookup (((codes "_id", short.int 1) ∷ []) ∷ ((codes "_id", short.int 2) ∷ (codes "p", short.list (short.int 1 ∷ short.int 2 ∷ [])) ∷ []) ∷ []) (examples.seven ∷ examples.eight ∷ examples.nine ∷ examples.ten ∷ []) ≡ Ok (((codes "_id", short.int 1) ∷ (codes "o", short.list (short.doc examples.seven ∷ [])) ∷ []) ∷ ((codes "_id", short.int 2) ∷ (codes "p", short.list (short.int 1 ∷ short.int 2 ∷ [])) ∷ (codes "o", short.list (short.doc examples.eight ∷ short.doc examples.nine ∷ [])) ∷ []) ∷ []) }
+    ensures { examples.after_lookup examples.a_lookup examples.rows_to_look_up examples.documents_to_find ≡ Ok examples.rows_with_what_they_find }
 {}

@@ -42,7 +42,7 @@ impl Tally {
         row: &Document,
     ) -> Result<(), NoMemory>
         requires { AreWithin 0 most (tally_seen self.old).1 }
-        ensures tally { OnOk result (tally_seen self.new ≡ defined.taken (map accumulation fields.now) row.now (defined.started (map accumulation fields.now) (row_value key.entry) (tally_seen self.old))) }
+        ensures tally { OnOk result (tally_seen self.new ≡ defined.with_keyed_row (map accumulation fields.now) (row_value key.entry) row.now (tally_seen self.old)) }
         ensures within { OnOk result ((count : ℕ) → AreWithin 0 count (tally_seen self.old).1 → AreWithin 0 (suc count) (tally_seen self.new).1) }
     {
         self.start(alloc, key, fields)?;

@@ -53,6 +53,27 @@ nine = (codes "_id", int 9) ∷ (codes "f", list (int 1 ∷ int64 (pos 2) ∷ []
 abbrev pub ten : Row
 ten = (codes "_id", int 10) ∷ (codes "f", list (list (int 1 ∷ int 2 ∷ []) ∷ [])) ∷ []
 
+abbrev pub documents_to_find : List Row
+documents_to_find = seven ∷ eight ∷ nine ∷ ten ∷ []
+
 -- what a $lookup makes of rows
 abbrev pub after_lookup : Tree → List Row → List Row → Result (List Row) PipelineFault
 after_lookup v rows others = lookup_in v >>= λ l. Ok (looked_up l rows others)
+
+-- {_id: null, lo: 2, all: [2], s: 2}, {_id: "a", lo: 3, all: [3, null], s: 3}, {_id: "b", lo: null, all: [], s: 0}
+abbrev pub rows_of_three_groups : List Row
+rows_of_three_groups = group_row null (int 2) (int 2 ∷ []) (int 2) ∷ group_row (text (codes "a")) (int 3) (int 3 ∷ null ∷ []) (int 3) ∷ group_row (text (codes "b")) null [] (int 0) ∷ []
+
+-- {from: "d", localField: "p", foreignField: "f", as: "o", pipeline: []}
+abbrev pub a_lookup_with_a_pipeline : Tree
+a_lookup_with_a_pipeline = doc ((codes "from", text (codes "d")) ∷ (codes "localField", text (codes "p")) ∷ (codes "foreignField", text (codes "f")) ∷ (codes "as", text (codes "o")) ∷ (codes "pipeline", list []) ∷ [])
+
+-- {_id: 1}, {_id: 2, p: [1, 2]}
+abbrev pub rows_to_look_up : List Row
+rows_to_look_up = ((codes "_id", int 1) ∷ []) ∷ ((codes "_id", int 2) ∷ (codes "p", list (int 1 ∷ int 2 ∷ [])) ∷ []) ∷ []
+
+-- {_id: 1, o: [{_id: 7}]}, {_id: 2, p: [1, 2], o: [{_id: 8, f: 2}, {_id: 9, f: [1, 2L]}]}
+abbrev pub rows_with_what_they_find : List Row
+rows_with_what_they_find =
+    ((codes "_id", int 1) ∷ (codes "o", list (doc seven ∷ [])) ∷ [])
+    ∷ ((codes "_id", int 2) ∷ (codes "p", list (int 1 ∷ int 2 ∷ [])) ∷ (codes "o", list (doc eight ∷ doc nine ∷ [])) ∷ []) ∷ []

@@ -1,5 +1,5 @@
 -- Places of documents in their list, counted from 0: words of bodies.
-use Rattle.std.specs.Prelude.{◌≡◌, ℕ, zero, suc, ◌==◌, Bool, false, List, [], ◌∷◌, ◌++◌, Option, Some, None, Vec, map, slice_get, if◌then◌else◌}
+use Rattle.std.specs.Prelude.{◌≡◌, ℕ, zero, suc, ◌==◌, ◌&&◌, ◌||◌, Bool, false, List, [], ◌∷◌, ◌++◌, Option, Some, None, Vec, map, slice_get, if◌then◌else◌}
 use Rattle.std.specs.List.{list_any}
 use Rattle.std.specs.BTreeMap.{BTreeMap, get}
 use Rattle.dv_value.specs.Tree.{Tree, Field}
@@ -28,6 +28,10 @@ item_passes_at p (x ∷ xs) (suc i) = item_passes_at p xs i
 -- whether a document is found under the value of a key
 abbrev pub is_found : List (List ℕ) → KeyTree → List Field → Bool
 is_found path k d = is_some_key k (leaf_values path d)
+
+-- places with one more, under the keys that pass
+abbrev pub AddsPlace : {A : Type 0} → (KeyTree → Bool) → ℕ → BTreeMap KeyTree (Vec ℕ A) → BTreeMap KeyTree (Vec ℕ A) → Type 0
+AddsPlace passes place old new = (k : KeyTree) (i : ℕ) → is_under new k i ≡ (is_under old k i || (place == i && passes k))
 
 -- under each key are the places of the documents that are found under it
 abbrev pub ArePlaces : {A : Type 0} → BTreeMap KeyTree (Vec ℕ A) → List (List ℕ) → List (List Field) → Type 0

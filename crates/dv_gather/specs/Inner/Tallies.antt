@@ -44,6 +44,10 @@ started fields k t = started_from fields k t.0 t.1
 abbrev pub taken : List Accumulation → Row → Tallied → Tallied
 taken fields d t = (t.0, with_values fields d t.1)
 
+-- a group with a row more, which has this key
+abbrev pub with_keyed_row : List Accumulation → Tree → Row → Tallied → Tallied
+with_keyed_row fields k d t = taken fields d (started fields k t)
+
 -- a group with a row more
 abbrev pub with_tallied_row : Grouping → Row → Tallied → Tallied
 with_tallied_row g d t = taken g.fields d (started g.fields (key_in g d) t)
