@@ -67,6 +67,10 @@ abbrev pub is_source_named : List ℕ → Option (List ℕ) → Bool
 is_source_named namespace None = false
 is_source_named namespace (Some name) = bytes_eq namespace name
 
+-- whether a `$lookup` of a pipeline over a source reads a namespace
+abbrev pub is_looked_into : List Stage → List ℕ → List ℕ → Bool
+is_looked_into stages source namespace = list_any (λ s. is_source_named namespace (looked_into s source)) stages
+
 -- whether a pipeline over a source reads a namespace: it is the source, or a `$lookup` reads it
 abbrev pub is_read : List Stage → List ℕ → List ℕ → Bool
-is_read stages source namespace = bytes_eq source namespace || list_any (λ s. is_source_named namespace (looked_into s source)) stages
+is_read stages source namespace = bytes_eq source namespace || is_looked_into stages source namespace

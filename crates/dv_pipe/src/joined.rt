@@ -1,15 +1,12 @@
 //! The documents that a look-up finds, as a filter.
 
-ghost use Rattle.std.specs.Prelude.{◌≡◌, ◌++◌, ◌||◌, Bool, List as Sequence, filter as kept, map, IfOk, OnOk};
-ghost use Rattle.std.specs.List.{list_any};
+ghost use Rattle.std.specs.Prelude.{◌≡◌, ◌++◌, map, IfOk, OnOk};
 ghost use Rattle.dv_candidates.specs.Candidates.{or_null};
 ghost use Rattle.dv_candidates.specs.View.{seen};
 ghost use Rattle.dv_gather.specs.Joining.{joined_by, local_values};
-ghost use Rattle.dv_gather.specs.Lookups.{looked_up};
-ghost use Rattle.dv_match.specs.Match.{matches};
-ghost use Rattle.dv_pipe.specs.Inner.Joined.{having_one_of};
-ghost use Rattle.dv_pipe.specs.Sources.{Row, rows_referred};
-ghost use Rattle.dv_value.specs.Tree.{Tree};
+ghost use Rattle.dv_pipe.specs.Inner.Joined.{AddsToTests, having_one_of};
+ghost use Rattle.dv_pipe.specs.Laws.{MatchesAllJoined};
+ghost use Rattle.dv_pipe.specs.Sources.{rows_referred};
 ghost use Rattle.dv_value.specs.View.{tree};
 
 use dv_candidates::{Candidate, Path, fold_whole};
@@ -26,7 +23,7 @@ pub fn filter_of_joined(
     lookup: &Lookup,
     rows: &[&Document],
 ) -> Result<Filter, NoMemory>
-    ensures { IfOk result (λ filter. (others : Sequence Row) → looked_up lookup.now (rows_referred rows.now) (kept (matches filter) others) ≡ looked_up lookup.now (rows_referred rows.now) others) }
+    ensures { IfOk result (λ filter. MatchesAllJoined lookup.now (rows_referred rows.now) filter) }
 {
     let mut values = Vec::new(alloc);
     'rows: for row in rows {
@@ -48,7 +45,7 @@ fn has_one_of(alloc: Global, path: &Path, values: List) -> Result<Filter, NoMemo
 
 /// The values, and those by which a row is joined.
 fn with_values(values: Vec<Value>, local: &Path, row: &Document) -> Result<Vec<Value>, NoMemory>
-    ensures { IfOk result (λ all. (test : Tree → Bool) → list_any test (map tree all.items) ≡ (list_any test (map tree values.items) || list_any test (joined_by local.now row.now))) }
+    ensures { IfOk result (λ all. AddsToTests (joined_by local.now row.now) (map tree values.items) (map tree all.items)) }
 {
     let all = fold_whole(row, local, values, |values, candidate| {
         with_candidate(values, candidate)

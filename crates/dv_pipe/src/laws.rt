@@ -1,15 +1,15 @@
 //! What holds of stages and of pipelines, each the contract of a function that does nothing.
 
-ghost use Rattle.std.specs.Prelude.{◌≡◌, ◌++◌, ℕ, List, true, false, filter, min, Ok};
-ghost use Rattle.std.specs.List.{AllByRecursion, list_any};
-ghost use Rattle.dv_value.specs.Spelling.{AreFields, AreElements};
-ghost use Rattle.dv_value.specs.Tree.{Tree, elements_of, fields_of};
+ghost use Rattle.std.specs.Prelude.{◌≡◌, ◌++◌, ℕ, List, false, filter, min, Ok};
+ghost use Rattle.std.specs.List.{AllByRecursion};
+ghost use Rattle.dv_value.specs.Spelling.{AreElements};
+ghost use Rattle.dv_value.specs.Tree.{Tree, elements_of};
 ghost use Rattle.dv_match.specs.Filter.{Members};
 ghost use Rattle.dv_row.specs.declared.unwind.Unwind.{Unwind};
-ghost use Rattle.dv_pipe.specs.Laws.{both, HasNoArrayOnWay, has_value};
+ghost use Rattle.dv_pipe.specs.Laws.{AgreeWhere, AllSpellable, AreSpellable, HasNoArrayOnWay, both, has_value};
 ghost use Rattle.dv_pipe.specs.Sources.{Row};
 ghost use Rattle.dv_pipe.specs.StageParsing.{pipeline_of};
-ghost use Rattle.dv_pipe.specs.Stages.{Lists, evaluated, is_read, is_source_named, looked_into, stage, through};
+ghost use Rattle.dv_pipe.specs.Stages.{Lists, evaluated, is_looked_into, is_read, stage, through};
 
 use crate::stage::Stage;
 
@@ -22,13 +22,13 @@ pub fn one_part_after_the_other()
 /// What is under a namespace that a pipeline doesn't read does not matter to it.
 #[tactic(auto, using(crate::proofs::StageLaws::unread))]
 pub fn what_is_not_read_does_not_matter()
-    ensures { (stages : List Stage) (source : List ℕ) (lists others : Lists) → ((name : List ℕ) → is_read stages source name ≡ true → lists name ≡ others name) → evaluated stages source lists ≡ evaluated stages source others }
+    ensures { (stages : List Stage) (source : List ℕ) (lists others : Lists) → AgreeWhere (is_read stages source) lists others → evaluated stages source lists ≡ evaluated stages source others }
 {}
 
 /// What is under a namespace that stages don't look into does not matter to the rows that they return.
 #[tactic(auto, using(crate::proofs::StageLaws::through_same))]
 pub fn what_is_not_looked_into_does_not_matter()
-    ensures { (stages : List Stage) (source : List ℕ) (lists others : Lists) (rows : List Row) → ((name : List ℕ) → list_any (λ s. is_source_named name (looked_into s source)) stages ≡ true → lists name ≡ others name) → through stages source lists rows ≡ through stages source others rows }
+    ensures { (stages : List Stage) (source : List ℕ) (lists others : Lists) (rows : List Row) → AgreeWhere (is_looked_into stages source) lists others → through stages source lists rows ≡ through stages source others rows }
 {}
 
 /// A match of a match is the match of both filters.
@@ -52,5 +52,5 @@ pub fn unwind_without_arrays()
 /// What a pipeline makes of valid documents is valid, if its stages were read from valid values.
 #[tactic(auto, using(crate::proofs::Valid::comes_out_valid))]
 pub fn what_comes_out_is_valid()
-    ensures { (list : List Tree) (stages : List Stage) (source : List ℕ) (lists : Lists) → AreElements (elements_of list) → pipeline_of list ≡ Ok stages → ((name : List ℕ) → AllByRecursion (λ d. AreFields (fields_of d)) (lists name)) → AllByRecursion (λ d. AreFields (fields_of d)) (evaluated stages source lists) }
+    ensures { (list : List Tree) (stages : List Stage) (source : List ℕ) (lists : Lists) → AreElements (elements_of list) → pipeline_of list ≡ Ok stages → AllSpellable lists → AreSpellable (evaluated stages source lists) }
 {}

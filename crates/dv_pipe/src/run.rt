@@ -1,10 +1,10 @@
 //! Stages that rows go through one by one, and what becomes of all of them behind.
 
-ghost use Rattle.std.specs.Prelude.{◌≡◌, ◌∷◌, ◌⊎◌, ◌<◌, [], List, IfOk, length};
+ghost use Rattle.std.specs.Prelude.{◌≡◌, ◌∷◌, ◌⊎◌, ◌<◌, [], IfOk, length};
 ghost use Rattle.std.specs.List.{flat_map};
 ghost use Rattle.dv_sort.specs.Sorting.{stable, front};
-ghost use Rattle.dv_pipe.specs.Inner.Parts.{passed, wanted as wanted_by, ended, rows_of_part, rows_of_run};
-ghost use Rattle.dv_pipe.specs.Sources.{Row, lists_of, rows_referred};
+ghost use Rattle.dv_pipe.specs.Inner.Parts.{ComesToSame, passed, wanted as wanted_by, ended, rows_of_part, rows_of_run};
+ghost use Rattle.dv_pipe.specs.Sources.{lists_of, rows_referred};
 ghost use Rattle.dv_pipe.specs.Stages as defined;
 
 use crate::sources::Sources;
@@ -53,7 +53,7 @@ impl<'a> Run<'a> {
         source: &str,
         sources: &'a Sources<'a>,
     ) -> Result<Self, NoMemory>
-        ensures same { IfOk result (λ run. (rows : List Row) → defined.through run.later.now source.now (lists_of sources.now) (rows_of_run run rows) ≡ defined.through stages.now source.now (lists_of sources.now) rows) }
+        ensures same { IfOk result (λ run. ComesToSame source.now sources.now run.later.now (rows_of_run run) stages.now) }
         ensures shorter { IfOk result (λ run. (run.later.now ≡ []) ⊎ (length run.later.now < length stages.now)) }
     {
         let mut steps = Vec::new(alloc);
@@ -125,7 +125,7 @@ fn part_of<'a>(
     source: &str,
     sources: &'a Sources<'a>,
 ) -> Result<Part<'a>, NoMemory>
-    ensures { IfOk result (λ part. (rows : List Row) → defined.through later.now source.now (lists_of sources.now) (rows_of_part part rows) ≡ defined.through (stage.now ∷ later.now) source.now (lists_of sources.now) rows) }
+    ensures { IfOk result (λ part. ComesToSame source.now sources.now later.now (rows_of_part part) (stage.now ∷ later.now)) }
 {
     match stage {
         Stage::Match(filter) => Ok(Part::Step(Step::of(Work::Match(filter)))),

@@ -1,5 +1,5 @@
 -- Words that bodies need.
-use Rattle.std.specs.Prelude.{ℕ, List, [], ◌∷◌, Option, Some, None, if◌then◌else◌}
+use Rattle.std.specs.Prelude.{◌≡◌, ℕ, List, [], ◌∷◌, Option, Some, None, if◌then◌else◌}
 use Rattle.std.specs.List.{flat_map}
 use Rattle.dv_match.specs.Match.{matches}
 use Rattle.dv_sort.specs.Sorting.{stable, front}
@@ -17,7 +17,8 @@ use Rattle.dv_pipe.specs.declared.stage.Stage.TheVariants.{Limit}
 use Rattle.dv_pipe.specs.declared.step.Step.{Step}
 use Rattle.dv_pipe.specs.declared.step.Work as works
 use Rattle.dv_pipe.specs.declared.step.Work.TheVariants as work
-use Rattle.dv_pipe.specs.Sources.{Row}
+use Rattle.dv_pipe.specs.Sources.{Row, Source, lists_of}
+use Rattle.dv_pipe.specs.Stages.{through}
 
 -- how many of the first rows stages see, where there are more
 abbrev pub wanted : List Stage → Option ℕ
@@ -53,3 +54,7 @@ rows_of_part (by.End e) ds = ended e ds
 -- what a run makes of rows
 abbrev pub rows_of_run : Run → List Row → List Row
 rows_of_run r ds = ended r.end (flat_map (passed r.steps.items) ds)
+
+-- whatever the rows, the later stages return for what is made of them first what all the stages return for them
+abbrev pub ComesToSame : List ℕ → List Source → List Stage → (List Row → List Row) → List Stage → Type 0
+ComesToSame source sources later first stages = (rows : List Row) → through later source (lists_of sources) (first rows) ≡ through stages source (lists_of sources) rows
