@@ -4,4 +4,3 @@ pub mod Moving
 pub mod Links
 pub mod All
 pub mod Linked
-pub mod Since

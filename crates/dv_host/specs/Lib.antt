@@ -6,3 +6,5 @@ pub mod View
 pub mod Host
 -- words that only bodies need
 pub mod Stands
+-- what only bodies and proofs need
+pub mod Inner

@@ -5,6 +5,7 @@ ghost use Rattle.dv_host.specs.Schedule.{HappensBy};
 ghost use Rattle.dv_host.specs.View.{seen_by};
 ghost use Rattle.dv_host.specs.Host.{Settles, SettlesIn};
 ghost use Rattle.dv_host.specs.Stands.{Stands};
+ghost use Rattle.dv_host.specs.Inner.Serving.{Continues};
 
 use crate::channel::Channel;
 use crate::link::{Fate, Link, Told};
@@ -40,8 +41,8 @@ fn greet<O: Outside, S: Sessions>(
     outside: &mut O,
     links: &mut Vec<Link<O::Channel>>,
 ) -> bool
-    ensures { (first : _) (start : _) (count : _) → Stands (HappensBy S.opens S.feeds S.ends) S.next O.coming O.closed O.Channel.remaining O.Channel.contents first start count outside.old sessions.old links.old.items
-        → Stands (HappensBy S.opens S.feeds S.ends) S.next O.coming O.closed O.Channel.remaining O.Channel.contents first start (if result then count + 1 else count) outside.new sessions.new links.new.items }
+    ensures { Continues (HappensBy S.opens S.feeds S.ends) S.next O.coming O.closed O.Channel.remaining O.Channel.contents
+        (λ count. if result then count + 1 else count) outside.old sessions.old links.old.items outside.new sessions.new links.new.items }
 {
     if links.len() >= LIMIT {
         return false;
@@ -67,8 +68,8 @@ fn greet_all<O: Outside, S: Sessions>(
     links: &mut Vec<Link<O::Channel>>,
     most: u64,
 ) -> u64
-    ensures stands { (first : _) (start : _) (count : _) → Stands (HappensBy S.opens S.feeds S.ends) S.next O.coming O.closed O.Channel.remaining O.Channel.contents first start count outside.old sessions.old links.old.items
-        → Stands (HappensBy S.opens S.feeds S.ends) S.next O.coming O.closed O.Channel.remaining O.Channel.contents first start (count + result) outside.new sessions.new links.new.items }
+    ensures stands { Continues (HappensBy S.opens S.feeds S.ends) S.next O.coming O.closed O.Channel.remaining O.Channel.contents
+        (λ count. count + result) outside.old sessions.old links.old.items outside.new sessions.new links.new.items }
     ensures few { result ≤ most }
 {
     let mut count = 0;
@@ -109,8 +110,8 @@ fn turn_at<O: Outside, S: Sessions>(
 ) -> Told
     requires there { place < vec_len links.old }
     requires room { length piece.old ≡ 65536 }
-    ensures stands { (first : _) (start : _) (count : _) → Stands (HappensBy S.opens S.feeds S.ends) S.next O.coming O.closed O.Channel.remaining O.Channel.contents first start count outside.now sessions.old links.old.items
-        → Stands (HappensBy S.opens S.feeds S.ends) S.next O.coming O.closed O.Channel.remaining O.Channel.contents first start count outside.now sessions.new links.new.items }
+    ensures stands { Continues (HappensBy S.opens S.feeds S.ends) S.next O.coming O.closed O.Channel.remaining O.Channel.contents
+        (λ count. count) outside.now sessions.old links.old.items outside.now sessions.new links.new.items }
     ensures settles { (link : _) → slice_get links.new.items place ≡ Some link → SettlesIn result (seen_by O.Channel.remaining O.Channel.contents link) }
     ensures len { vec_len links.new ≡ vec_len links.old }
 {
@@ -129,8 +130,8 @@ fn finish<O: Outside, S: Sessions>(
 )
     requires there { place < vec_len links.old }
     requires settles { (link : _) → slice_get links.old.items place ≡ Some link → Settles fate (seen_by O.Channel.remaining O.Channel.contents link) }
-    ensures stands { (first : _) (start : _) (count : _) → Stands (HappensBy S.opens S.feeds S.ends) S.next O.coming O.closed O.Channel.remaining O.Channel.contents first start count outside.old sessions.old links.old.items
-        → Stands (HappensBy S.opens S.feeds S.ends) S.next O.coming O.closed O.Channel.remaining O.Channel.contents first start count outside.new sessions.new links.new.items }
+    ensures stands { Continues (HappensBy S.opens S.feeds S.ends) S.next O.coming O.closed O.Channel.remaining O.Channel.contents
+        (λ count. count) outside.old sessions.old links.old.items outside.new sessions.new links.new.items }
     ensures len { vec_len links.new + 1 ≡ vec_len links.old }
 {
     let link = links.remove(place);
@@ -147,8 +148,8 @@ fn serve_one<O: Outside, S: Sessions>(
     number: u64,
 )
     requires room { length piece.old ≡ 65536 }
-    ensures { (first : _) (start : _) (count : _) → Stands (HappensBy S.opens S.feeds S.ends) S.next O.coming O.closed O.Channel.remaining O.Channel.contents first start count outside.old sessions.old links.old.items
-        → Stands (HappensBy S.opens S.feeds S.ends) S.next O.coming O.closed O.Channel.remaining O.Channel.contents first start count outside.new sessions.new links.new.items }
+    ensures { Continues (HappensBy S.opens S.feeds S.ends) S.next O.coming O.closed O.Channel.remaining O.Channel.contents
+        (λ count. count) outside.old sessions.old links.old.items outside.new sessions.new links.new.items }
 {
     let Some(place) = place_of(links, number) else {
         return;
@@ -169,8 +170,8 @@ fn serve_ready<O: Outside, S: Sessions>(
     ready: usize,
 )
     requires room { length piece.old ≡ 65536 }
-    ensures { (first : _) (start : _) (count : _) → Stands (HappensBy S.opens S.feeds S.ends) S.next O.coming O.closed O.Channel.remaining O.Channel.contents first start count outside.old sessions.old links.old.items
-        → Stands (HappensBy S.opens S.feeds S.ends) S.next O.coming O.closed O.Channel.remaining O.Channel.contents first start count outside.new sessions.new links.new.items }
+    ensures { Continues (HappensBy S.opens S.feeds S.ends) S.next O.coming O.closed O.Channel.remaining O.Channel.contents
+        (λ count. count) outside.old sessions.old links.old.items outside.new sessions.new links.new.items }
 {
     'ready: for place in 0..ready {
         let number = outside.ready(place);
@@ -184,8 +185,8 @@ fn finish_all<O: Outside, S: Sessions>(
     outside: &mut O,
     links: &mut Vec<Link<O::Channel>>,
 )
-    ensures stands { (first : _) (start : _) (count : _) → Stands (HappensBy S.opens S.feeds S.ends) S.next O.coming O.closed O.Channel.remaining O.Channel.contents first start count outside.old sessions.old links.old.items
-        → Stands (HappensBy S.opens S.feeds S.ends) S.next O.coming O.closed O.Channel.remaining O.Channel.contents first start count outside.new sessions.new links.new.items }
+    ensures stands { Continues (HappensBy S.opens S.feeds S.ends) S.next O.coming O.closed O.Channel.remaining O.Channel.contents
+        (λ count. count) outside.old sessions.old links.old.items outside.new sessions.new links.new.items }
     ensures none { links.new.items ≡ [] }
 {
     'links: while !links.is_empty() {
@@ -205,8 +206,9 @@ fn rounds<O: Outside, S: Sessions>(
     turns: u64,
 ) -> Result<(), HostFault>
     requires room { length piece.old ≡ 65536 }
-    ensures { (first : _) (start : _) (count : _) → Stands (HappensBy S.opens S.feeds S.ends) S.next O.coming O.closed O.Channel.remaining O.Channel.contents first start count outside.old sessions.old links.old.items
-        → (more : _) × OnOk result (more ≡ connections) × Stands (HappensBy S.opens S.feeds S.ends) S.next O.coming O.closed O.Channel.remaining O.Channel.contents first start (count + more) outside.new sessions.new links.new.items }
+    ensures { let Stood = Stands (HappensBy S.opens S.feeds S.ends) S.next O.coming O.closed O.Channel.remaining O.Channel.contents in
+        (first : _) (start : _) (count : _) → Stood first start count outside.old sessions.old links.old.items
+        → (more : _) × OnOk result (more ≡ connections) × Stood first start (count + more) outside.new sessions.new links.new.items }
 {
     let mut left = connections;
     'turns: for _ in 0..turns {
@@ -247,7 +249,9 @@ pub fn host<O: Outside, S: Sessions>(
     connections: u64,
     turns: u64,
 ) -> Result<(), HostFault>
-    ensures { (count : _) × OnOk result (count ≡ connections) × Stands (HappensBy S.opens S.feeds S.ends) S.next O.coming O.closed O.Channel.remaining O.Channel.contents outside.old sessions.old count outside.new sessions.new [] }
+    ensures { (count : _) × OnOk result (count ≡ connections)
+        × Stands (HappensBy S.opens S.feeds S.ends) S.next O.coming O.closed O.Channel.remaining O.Channel.contents
+        outside.old sessions.old count outside.new sessions.new [] }
 {
     let Ok(mut piece) = room(alloc, PIECE) else {
         return Err(HostFault::NoMemory);

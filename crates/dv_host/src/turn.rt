@@ -1,9 +1,10 @@
 //! What a connection does in its turns.
 
-ghost use Rattle.std.specs.Prelude.{◌≡◌, ◌≤◌, ◌<◌, ◌+◌, ◌++◌, [], None, true, length, vec_capacity, vec_len, IfErr};
+ghost use Rattle.std.specs.Prelude.{◌≡◌, ◌≤◌, ◌<◌, ◌+◌, ◌++◌, [], true, length, vec_capacity, vec_len, IfErr};
 ghost use Rattle.dv_host.specs.Schedule.{PlaysBy, HappensBy, closed_by};
 ghost use Rattle.dv_host.specs.View.{pending_of, seen_by, unsent_of};
-ghost use Rattle.dv_host.specs.Host.{Fills, Gives, Moves, SettlesIn};
+ghost use Rattle.dv_host.specs.Host.{Fills, Gives, SettlesIn};
+ghost use Rattle.dv_host.specs.Inner.Serving.{LinkMoves, opened_link};
 
 use crate::channel::{Channel, Taken, give_on};
 use crate::link::{Fate, Link, Told};
@@ -22,7 +23,7 @@ pub(crate) const SHARE: usize = 262_144;
 impl<C: Channel> Link<C> {
     /// A connection whose session was just opened.
     pub(crate) fn new(alloc: Global, number: u64, session: u32, channel: C) -> Self
-        ensures { seen_by C.remaining C.contents result ≡ record { session = session; left = C.remaining channel; taken = C.contents channel; unsent = []; pending = []; closing = None } }
+        ensures { seen_by C.remaining C.contents result ≡ opened_link session (C.remaining channel) (C.contents channel) }
     {
         Link {
             number,
@@ -48,7 +49,7 @@ impl<C: Channel> Link<C> {
         full: bool,
     ) -> Told
         requires { length piece.old ≡ 65536 }
-        ensures moves { Moves (PlaysBy (HappensBy S.opens S.feeds S.ends)) sessions.old sessions.new (seen_by C.remaining C.contents self.old) (seen_by C.remaining C.contents self.new) }
+        ensures moves { LinkMoves (PlaysBy (HappensBy S.opens S.feeds S.ends)) C.remaining C.contents sessions.old sessions.new self.old self.new }
         ensures settles { SettlesIn result (seen_by C.remaining C.contents self.new) }
         ensures next { S.next sessions.new ≡ S.next sessions.old }
     {
@@ -187,7 +188,7 @@ impl<C: Channel> Link<C> {
     // Feeds the bytes that came, message by message, until all are fed, the session is closed, or enough is to be given.
     fn hear<S: Sessions>(&mut self, sessions: &mut S)
         requires given { unsent_of self.old ≡ [] }
-        ensures moves { Moves (PlaysBy (HappensBy S.opens S.feeds S.ends)) sessions.old sessions.new (seen_by C.remaining C.contents self.old) (seen_by C.remaining C.contents self.new) }
+        ensures moves { LinkMoves (PlaysBy (HappensBy S.opens S.feeds S.ends)) C.remaining C.contents sessions.old sessions.new self.old self.new }
         ensures next { S.next sessions.new ≡ S.next sessions.old }
     {
         self.drop_given();
@@ -212,7 +213,7 @@ impl<C: Channel> Link<C> {
     fn hear_front<S: Sessions>(&mut self, sessions: &mut S)
         requires some { 0 < length (pending_of self.old) }
         requires few { length (unsent_of self.old) < 65536 }
-        ensures moves { Moves (PlaysBy (HappensBy S.opens S.feeds S.ends)) sessions.old sessions.new (seen_by C.remaining C.contents self.old) (seen_by C.remaining C.contents self.new) }
+        ensures moves { LinkMoves (PlaysBy (HappensBy S.opens S.feeds S.ends)) C.remaining C.contents sessions.old sessions.new self.old self.new }
         ensures next { S.next sessions.new ≡ S.next sessions.old }
         ensures less { length (pending_of self.new) < length (pending_of self.old) }
     {

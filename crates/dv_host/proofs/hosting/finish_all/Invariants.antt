@@ -1,12 +1,12 @@
 use Rattle.std.proofs.Common.{vec_len}
 use Rattle.dv_host.specs.Schedule.{HappensBy}
-use Rattle.dv_host.proofs.Since.{StandsStill}
+use Rattle.dv_host.specs.Inner.Serving.{Continues}
 use Rattle.dv_host.proofs.hosting.finish_all.Given as goal
 
 abbrev pub invariant-links : goal.invariant-links
 invariant-links g l =
-    StandsStill (HappensBy g.S.Sessions.opens g.S.Sessions.feeds g.S.Sessions.ends) g.S.Sessions.next g.O.Outside.coming g.O.Outside.closed g.O.Channel.Channel.remaining g.O.Channel.Channel.contents
-    l.fn.outside l.fn.sessions l.fn.links.items l.outside l.sessions l.links.items
+    Continues (HappensBy g.S.Sessions.opens g.S.Sessions.feeds g.S.Sessions.ends) g.S.Sessions.next g.O.Outside.coming g.O.Outside.closed g.O.Channel.Channel.remaining g.O.Channel.Channel.contents
+    (λ count. count) l.fn.outside l.fn.sessions l.fn.links.items l.outside l.sessions l.links.items
 
 abbrev pub decreases-links : goal.decreases-links
 decreases-links g l = vec_len l.links

@@ -1,0 +1,23 @@
+-- What the parts of serving do: to all connections, and to one.
+use Rattle.std.specs.Prelude.{ℕ, List, [], Option, None}
+use Rattle.dv_host.specs.Outside.{Closed}
+use Rattle.dv_host.specs.Schedule.{Step}
+use Rattle.dv_host.specs.Host.{Moves}
+use Rattle.dv_host.specs.Stands.{Stands}
+use Rattle.dv_host.specs.View.{Seen, seen_by}
+use Rattle.dv_host.specs.declared.link.Link.{Link}
+
+-- Serving continues: however it began, if everything happened as `Hosts` says up to the old sessions and connections, it did so up to
+-- the new ones; `counted` gives the number of accepted connections, from that before.
+abbrev pub Continues : {W O C : Type 0} → (W → Step → W → Type 0) → (W → ℕ) → (O → Option (List (List ℕ))) → (O → Option (List Closed)) → (C → Option (List ℕ)) → (C → Option (List ℕ)) → (ℕ → ℕ) → O → W → List (Link C) → O → W → List (Link C) → Type 0
+Continues {W} {O} Happens next coming closed remaining contents counted outside_old sessions_old links_old outside sessions links =
+    (first : O) (start : W) (count : ℕ) → Stands Happens next coming closed remaining contents first start count outside_old sessions_old links_old
+    → Stands Happens next coming closed remaining contents first start (counted count) outside sessions links
+
+-- the progress of a connection in memory, as it appears from outside
+abbrev pub LinkMoves : {W C : Type 0} → (W → List Step → W → Type 0) → (C → Option (List ℕ)) → (C → Option (List ℕ)) → W → W → Link C → Link C → Type 0
+LinkMoves Plays remaining contents old new was now = Moves Plays old new (seen_by remaining contents was) (seen_by remaining contents now)
+
+-- a connection whose session was just opened, with the bytes of its input and those that it took, if they are known
+abbrev pub opened_link : ℕ → Option (List ℕ) → Option (List ℕ) → Seen
+opened_link session left taken = record { session = session; left = left; taken = taken; unsent = []; pending = []; closing = None }
