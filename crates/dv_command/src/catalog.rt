@@ -1,11 +1,11 @@
 //! Commands of what stands under namespaces: collections, views and indexes.
 
-ghost use Rattle.std.specs.Prelude.{◌≡◌, Ok, Err, MatchResult, map};
+ghost use Rattle.std.specs.Prelude.{map};
 ghost use Rattle.std.specs.Option.{option_map};
 ghost use Rattle.dv_command.specs.Asked as asking;
 ghost use Rattle.dv_command.specs.Entries as entered;
 ghost use Rattle.dv_command.specs.Inner.View.{asked_seen, index_seen, view_fields_seen, view_on_seen};
-ghost use Rattle.dv_refusal.specs.Refusals.{UnlessWanting};
+ghost use Rattle.dv_refusal.specs.Refusals.{Returns, UnlessWanting};
 ghost use Rattle.dv_value.specs.Results.{each};
 
 use crate::asking::{
@@ -45,7 +45,7 @@ pub(crate) fn create_of<'a>(
 /// The fields of a view that a body asks for; `None` where it has neither. Refused with `FailedToParse` where it has only
 /// one of them, and with `TypeMismatch` where one has another type than it has to.
 fn view_fields(body: &Document) -> Result<Option<ViewFields<'_>>, Refusal>
-    ensures { MatchResult result (λ fields. asking.view_fields body.now ≡ Ok (option_map view_fields_seen fields)) (λ refusal. asking.view_fields body.now ≡ Err refusal) }
+    ensures { Returns (option_map view_fields_seen) (asking.view_fields body.now) result }
 {
     match (body.get("viewOn"), body.get("pipeline")) {
         (None, None) => Ok(None),

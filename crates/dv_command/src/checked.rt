@@ -1,8 +1,9 @@
 //! The database of a command, whose fields are looked at.
 
-ghost use Rattle.std.specs.Prelude.{◌≡◌, Ok, Err, MatchResult, map};
+ghost use Rattle.std.specs.Prelude.{map};
 ghost use Rattle.dv_command.specs.Asked as asking;
 ghost use Rattle.dv_command.specs.Inner.RulesView.{rule_seen};
+ghost use Rattle.dv_refusal.specs.Refusals.{Returns};
 
 use crate::command::DocumentLists;
 use crate::lists::check_none;
@@ -13,7 +14,7 @@ use dv_value::Document;
 
 /// The database of a command, whose fields are looked at.
 pub(crate) fn looked_database<'a>(rules: &[Rule], body: &'a Document) -> Result<&'a str, Refusal>
-    ensures { MatchResult result (λ name. asking.looked_database (map rule_seen rules.now) body.now ≡ Ok name.now) (λ refusal. asking.looked_database (map rule_seen rules.now) body.now ≡ Err refusal) }
+    ensures { Returns (λ name. name.now) (asking.looked_database (map rule_seen rules.now) body.now) result }
 {
     let database = database(body)?;
     check_fields(Place::Command, rules, body)?;
@@ -26,7 +27,7 @@ pub(crate) fn checked_database<'a>(
     body: &'a Document,
     lists: &DocumentLists,
 ) -> Result<&'a str, Refusal>
-    ensures { MatchResult result (λ name. asking.checked_database (map rule_seen rules.now) body.now lists.now ≡ Ok name.now) (λ refusal. asking.checked_database (map rule_seen rules.now) body.now lists.now ≡ Err refusal) }
+    ensures { Returns (λ name. name.now) (asking.checked_database (map rule_seen rules.now) body.now lists.now) result }
 {
     let database = looked_database(rules, body)?;
     check_none(lists)?;

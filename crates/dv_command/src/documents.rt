@@ -1,11 +1,12 @@
 //! The documents of a command's array, or of a list beside its body.
 
-ghost use Rattle.std.specs.Prelude.{◌≡◌, Ok, Err, MatchResult, length};
+ghost use Rattle.std.specs.Prelude.{◌≡◌, length};
 ghost use Rattle.std.specs.Iterator.{YieldsFirstRef, item_count};
 ghost use Rattle.std.specs.List.{list_all};
 ghost use Rattle.dv_value.specs.Tree.{elements_of};
 ghost use Rattle.dv_command.specs.Fields as fields;
 ghost use Rattle.dv_command.specs.Inner.DocumentsView.{is_document};
+ghost use Rattle.dv_refusal.specs.Refusals.{Returns};
 
 use dv_refusal::Refusal;
 use dv_value::{Document, List, Value};
@@ -43,7 +44,7 @@ impl<'a> Model for Documents<'a> {
 impl<'a> Documents<'a> {
     /// The documents of an array. Refused with `TypeMismatch` if another value is among them.
     pub fn of(list: &'a List) -> Result<Self, Refusal>
-        ensures { MatchResult result (λ documents. fields.each_document (elements_of list.now) ≡ Ok documents) (λ refusal. fields.each_document (elements_of list.now) ≡ Err refusal) }
+        ensures { Returns (λ documents. documents) (fields.each_document (elements_of list.now)) result }
     {
         let values = list.as_slice();
         if are_documents(values) {

@@ -1,10 +1,10 @@
 //! The fields of commands and of their entries, by their names.
 
-ghost use Rattle.std.specs.Prelude.{◌≡◌, [], Some, None, Ok, Err, MatchResult};
+ghost use Rattle.std.specs.Prelude.{◌≡◌, [], Some, None, MatchResult};
 ghost use Rattle.dv_value.specs.Names.{value_under};
 ghost use Rattle.dv_value.specs.View.{tree};
 ghost use Rattle.dv_command.specs.Fields as defined;
-ghost use Rattle.dv_refusal.specs.Refusals.{UnlessWanting};
+ghost use Rattle.dv_refusal.specs.Refusals.{Returns, UnlessWanting};
 ghost use Rattle.dv_refusal.specs.declared.refusal.Refusal.TheVariants.{FailedToParse};
 
 use crate::documents::Documents;
@@ -28,7 +28,8 @@ pub fn first_name(fields: &Document) -> &str
 
 /// The value under a name. Refused with `FailedToParse` where there is no field of the name.
 fn required<'a>(fields: &'a Document, name: &str) -> Result<&'a Value, Refusal>
-    ensures { MatchResult result (λ value. value_under name.now fields.now ≡ Some (tree value.now)) (λ refusal. (value_under name.now fields.now ≡ None) × (refusal ≡ FailedToParse)) }
+    ensures { MatchResult result (λ value. value_under name.now fields.now ≡ Some (tree value.now))
+        (λ refusal. (value_under name.now fields.now ≡ None) × (refusal ≡ FailedToParse)) }
 {
     fields.get(name).ok_or(Refusal::FailedToParse)
 }
@@ -36,7 +37,7 @@ fn required<'a>(fields: &'a Document, name: &str) -> Result<&'a Value, Refusal>
 /// The text under a name. Refused with `FailedToParse` if there is no field of the name, and with `TypeMismatch` if there is
 /// another value.
 pub(crate) fn text_under<'a>(fields: &'a Document, name: &str) -> Result<&'a str, Refusal>
-    ensures { MatchResult result (λ text. defined.text_under name.now fields.now ≡ Ok text.now) (λ refusal. defined.text_under name.now fields.now ≡ Err refusal) }
+    ensures { Returns (λ text. text.now) (defined.text_under name.now fields.now) result }
 {
     text_of(required(fields, name)?)
 }
@@ -79,7 +80,7 @@ pub(crate) fn integers_under(
 /// The document under a name. Refused with `FailedToParse` if there is no field of the name, and with `TypeMismatch` if there is
 /// another value.
 pub(crate) fn document_under<'a>(fields: &'a Document, name: &str) -> Result<&'a Document, Refusal>
-    ensures { MatchResult result (λ document. defined.document_under name.now fields.now ≡ Ok document.now) (λ refusal. defined.document_under name.now fields.now ≡ Err refusal) }
+    ensures { Returns (λ document. document.now) (defined.document_under name.now fields.now) result }
 {
     document_of(required(fields, name)?)
 }
@@ -91,7 +92,7 @@ pub(crate) fn document_or<'a>(
     default: &'a Document,
 ) -> Result<&'a Document, Refusal>
     requires { default.now ≡ [] }
-    ensures { MatchResult result (λ document. defined.document_or_none name.now fields.now ≡ Ok document.now) (λ refusal. defined.document_or_none name.now fields.now ≡ Err refusal) }
+    ensures { Returns (λ document. document.now) (defined.document_or_none name.now fields.now) result }
 {
     match fields.get(name) {
         None => Ok(default),
@@ -105,7 +106,7 @@ pub(crate) fn documents_under<'a>(
     fields: &'a Document,
     name: &str,
 ) -> Result<Documents<'a>, Refusal>
-    ensures { MatchResult result (λ documents. defined.documents_under name.now fields.now ≡ Ok documents) (λ refusal. defined.documents_under name.now fields.now ≡ Err refusal) }
+    ensures { Returns (λ documents. documents) (defined.documents_under name.now fields.now) result }
 {
     documents_of(required(fields, name)?)
 }
@@ -113,7 +114,7 @@ pub(crate) fn documents_under<'a>(
 /// The list of the array under a name. Refused with `FailedToParse` if there is no field of the name, and with `TypeMismatch` if
 /// there is another value.
 pub(crate) fn array_under<'a>(fields: &'a Document, name: &str) -> Result<&'a List, Refusal>
-    ensures { MatchResult result (λ list. defined.array_under name.now fields.now ≡ Ok list.now) (λ refusal. defined.array_under name.now fields.now ≡ Err refusal) }
+    ensures { Returns (λ list. list.now) (defined.array_under name.now fields.now) result }
 {
     array_of(required(fields, name)?)
 }
@@ -130,7 +131,7 @@ pub(crate) fn only_first_under(fields: &Document, name: &str) -> Result<bool, Re
 /// The document of an update under a name. Refused with `FailedToParse` if there is no field of the name, or an array under it, and
 /// with `TypeMismatch` if there is another value.
 pub(crate) fn update_under<'a>(fields: &'a Document, name: &str) -> Result<&'a Document, Refusal>
-    ensures { MatchResult result (λ document. defined.update_under name.now fields.now ≡ Ok document.now) (λ refusal. defined.update_under name.now fields.now ≡ Err refusal) }
+    ensures { Returns (λ document. document.now) (defined.update_under name.now fields.now) result }
 {
     update_of(required(fields, name)?)
 }

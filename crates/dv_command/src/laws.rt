@@ -15,7 +15,8 @@ ghost use Rattle.dv_command.specs.Inner.Sound.{AreValidLists, IsSoundRequest, Is
 /// are, the names of its collections and of its indexes, its pipeline, and the ids of its cursors, of which there are no more than
 /// the body has bytes.
 pub fn what_is_asked_is_sound()
-    ensures { (body : List Field) (lists : CommandLists) (asked : Asked) → AreFields (fields_of body) → AreValidLists lists → asked_under (command_name body) body lists ≡ Ok asked → IsSoundRequest (length (spelling body)) asked }
+    ensures { (body : List Field) (lists : CommandLists) (asked : Asked) → AreFields (fields_of body) → AreValidLists lists
+        → asked_under (command_name body) body lists ≡ Ok asked → IsSoundRequest (length (spelling body)) asked }
 {
     dv_value::laws::what_a_field_adds();
 }

@@ -1,7 +1,8 @@
 //! Lists of documents beside a body.
 
-ghost use Rattle.std.specs.Prelude.{◌≡◌, Ok, Err, MatchResult};
+ghost use Rattle.std.specs.Prelude.{◌≡◌};
 ghost use Rattle.dv_command.specs.Lists as defined;
+ghost use Rattle.dv_refusal.specs.Refusals.{Returns};
 
 use crate::command::DocumentLists;
 use crate::documents::Documents;
@@ -40,7 +41,7 @@ pub(crate) fn documents_under<'a>(
     body: &'a Document,
     lists: &'a DocumentLists,
 ) -> Result<Documents<'a>, Refusal>
-    ensures { MatchResult result (λ documents. defined.listed_documents name.now body.now lists.now ≡ Ok documents) (λ refusal. defined.listed_documents name.now body.now lists.now ≡ Err refusal) }
+    ensures { Returns (λ documents. documents) (defined.listed_documents name.now body.now lists.now) result }
 {
     match (body.get(name), lists.under(name)) {
         (Some(value), None) => documents_of(value),

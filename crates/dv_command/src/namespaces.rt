@@ -1,9 +1,9 @@
 //! The names of databases and collections.
 
-ghost use Rattle.std.specs.Prelude.{◌≡◌, Ok, Err, IfOk, MatchResult};
+ghost use Rattle.std.specs.Prelude.{◌≡◌, IfOk};
 ghost use Rattle.std.specs.String.{string_bytes};
 ghost use Rattle.dv_command.specs.Namespaces as names;
-ghost use Rattle.dv_refusal.specs.Refusals.{UnlessWanting};
+ghost use Rattle.dv_refusal.specs.Refusals.{Returns, UnlessWanting};
 
 use dv_path::has_dot;
 use dv_refusal::Refusal;
@@ -15,7 +15,7 @@ const LONGEST_NAMESPACE: usize = 120;
 
 /// The database that a command names, in its field `$db`.
 pub fn database(body: &Document) -> Result<&str, Refusal>
-    ensures { MatchResult result (λ name. names.database body.now ≡ Ok name.now) (λ refusal. names.database body.now ≡ Err refusal) }
+    ensures { Returns (λ name. name.now) (names.database body.now) result }
 {
     match body.get("$db") {
         None => Err(Refusal::FailedToParse),

@@ -1,9 +1,9 @@
 //! Commands that answer rows, or how they are found, and those of cursors.
 
-ghost use Rattle.std.specs.Prelude.{◌≡◌, Ok, Err, MatchResult};
+ghost use Rattle.std.specs.Prelude.{◌≡◌};
 ghost use Rattle.dv_command.specs.Asked as asking;
 ghost use Rattle.dv_command.specs.Inner.View.{asked_seen, find_seen};
-ghost use Rattle.dv_refusal.specs.Refusals.{UnlessWanting};
+ghost use Rattle.dv_refusal.specs.Refusals.{Returns, UnlessWanting};
 
 use crate::asking::{Aggregate, Asked, Explain, Find, GetMore, KillCursors};
 use crate::checked::checked_database;
@@ -143,7 +143,7 @@ pub(crate) fn explain_of<'a>(
 /// The document that is explained. Refused with `CommandNotFound` where another value stands there, or a document that
 /// doesn't begin with `find`.
 fn explained(body: &Document) -> Result<&Document, Refusal>
-    ensures { MatchResult result (λ inside. asking.explained_command body.now ≡ Ok inside.now) (λ refusal. asking.explained_command body.now ≡ Err refusal) }
+    ensures { Returns (λ inside. inside.now) (asking.explained_command body.now) result }
 {
     match document_under(body, "explain") {
         Ok(inside) if first_name(inside) == "find" => Ok(inside),

@@ -1,9 +1,9 @@
 //! What the value of a field is, where it is of the type that is asked for.
 
-ghost use Rattle.std.specs.Prelude.{◌≡◌, Ok, Err, MatchResult, map};
+ghost use Rattle.std.specs.Prelude.{◌≡◌, map};
 ghost use Rattle.dv_value.specs.View.{tree};
 ghost use Rattle.dv_command.specs.Fields as defined;
-ghost use Rattle.dv_refusal.specs.Refusals.{UnlessWanting};
+ghost use Rattle.dv_refusal.specs.Refusals.{Returns, UnlessWanting};
 ghost use Rattle.dv_value.specs.Results.{each};
 
 use crate::documents::Documents;
@@ -13,7 +13,7 @@ use std::alloc::Global;
 
 /// The text that a value is. Refused with `TypeMismatch` if it is another value.
 pub(crate) fn text_of(value: &Value) -> Result<&str, Refusal>
-    ensures { MatchResult result (λ text. defined.text_field (tree value.now) ≡ Ok text.now) (λ refusal. defined.text_field (tree value.now) ≡ Err refusal) }
+    ensures { Returns (λ text. text.now) (defined.text_field (tree value.now)) result }
 {
     match value {
         Value::Text(text) => Ok(text.as_str()),
@@ -34,7 +34,7 @@ pub(crate) fn boolean_of(value: &Value) -> Result<bool, Refusal>
 /// The document that a value is. Refused with `TypeMismatch` if it is another value.
 #[tactic(auto, using(crate::proofs::Among::same_fields))]
 pub(crate) fn document_of(value: &Value) -> Result<&Document, Refusal>
-    ensures { MatchResult result (λ document. defined.document_in (tree value.now) ≡ Ok document.now) (λ refusal. defined.document_in (tree value.now) ≡ Err refusal) }
+    ensures { Returns (λ document. document.now) (defined.document_in (tree value.now)) result }
 {
     match value {
         Value::Doc(document) => Ok(document),
@@ -45,7 +45,7 @@ pub(crate) fn document_of(value: &Value) -> Result<&Document, Refusal>
 /// The documents of the array that a value is. Refused with `TypeMismatch` if it is another value, or an array with another value
 /// in it.
 pub(crate) fn documents_of(value: &Value) -> Result<Documents<'_>, Refusal>
-    ensures { MatchResult result (λ documents. defined.documents_in (tree value.now) ≡ Ok documents) (λ refusal. defined.documents_in (tree value.now) ≡ Err refusal) }
+    ensures { Returns (λ documents. documents) (defined.documents_in (tree value.now)) result }
 {
     match value {
         Value::Array(list) => Documents::of(list),
@@ -56,7 +56,7 @@ pub(crate) fn documents_of(value: &Value) -> Result<Documents<'_>, Refusal>
 /// The list that an array is. Refused with `TypeMismatch` if it is another value.
 #[tactic(auto, using(crate::proofs::Among::same_elements))]
 pub(crate) fn array_of(value: &Value) -> Result<&List, Refusal>
-    ensures { MatchResult result (λ list. defined.array_field (tree value.now) ≡ Ok list.now) (λ refusal. defined.array_field (tree value.now) ≡ Err refusal) }
+    ensures { Returns (λ list. list.now) (defined.array_field (tree value.now)) result }
 {
     match value {
         Value::Array(list) => Ok(list),
@@ -112,7 +112,7 @@ pub(crate) fn only_first_of(value: &Value) -> Result<bool, Refusal>
 /// where it is another value.
 #[tactic(auto, using(crate::proofs::Among::same_fields))]
 pub(crate) fn update_of(value: &Value) -> Result<&Document, Refusal>
-    ensures { MatchResult result (λ document. defined.update_in (tree value.now) ≡ Ok document.now) (λ refusal. defined.update_in (tree value.now) ≡ Err refusal) }
+    ensures { Returns (λ document. document.now) (defined.update_in (tree value.now)) result }
 {
     match value {
         Value::Doc(document) => Ok(document),

@@ -1,5 +1,5 @@
 -- Why commands are refused, and with which codes (MongoDB manual, "Error Codes"; the codes from 900 on are this server's own).
-use Rattle.std.specs.Prelude.{◌≡◌, ◌⊎◌, ℕ, List, ◌++◌, Result, Ok, Err, codes}
+use Rattle.std.specs.Prelude.{◌≡◌, ◌⊎◌, ℕ, List, ◌++◌, Result, Ok, Err, MatchResult, codes}
 use Rattle.dv_value.specs.declared.fault.BsonFault.{BsonFault}
 use Rattle.dv_value.specs.declared.fault.BsonFault.TheVariants.{NoMemory}
 use Rattle.dv_value.specs.Fault.{fault_text}
@@ -109,3 +109,7 @@ refused_by refusal (Err fault) = Err (refusal fault)
 abbrev pub UnlessWanting : {X Y : Type 0} → (X → Y) → Result Y Refusal → Result X Refusal → Type 0
 UnlessWanting view defined (Ok x) = defined ≡ Ok (view x)
 UnlessWanting view defined (Err refusal) = (defined ≡ Err refusal) ⊎ (refusal ≡ WantOfMemory)
+
+-- the call returned the defined result; `view` says what a value in memory represents
+abbrev pub Returns : {X Y : Type 0} → (X → Y) → Result Y Refusal → Result X Refusal → Type 0
+Returns view defined result = MatchResult result (λ x. defined ≡ Ok (view x)) (λ refusal. defined ≡ Err refusal)
