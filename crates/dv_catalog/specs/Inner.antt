@@ -16,6 +16,7 @@ pub mod SourceParts
 pub mod Fronts
 pub mod Behind
 pub mod CatalogParts
+pub mod ViewParts
 pub mod StateLaws
 pub mod ScanLaws
 pub mod EffectLaws

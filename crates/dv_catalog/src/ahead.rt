@@ -1,13 +1,13 @@
 //! The first rows of a sort, by the order of an index.
 
-ghost use Rattle.std.specs.Prelude.{◌≡◌, ◌∷◌, take, filter as kept, IfOk, IfSome, List};
-ghost use Rattle.dv_value.specs.Tree.{Field};
+ghost use Rattle.std.specs.Prelude.{◌≡◌, ◌∷◌, take, IfOk, IfSome, List};
 ghost use Rattle.dv_keyed.specs.Inner.Ahead as defined;
 ghost use Rattle.dv_path.specs.Parts.{part};
 ghost use Rattle.dv_path.specs.SortSpec.{Part};
 ghost use Rattle.dv_pipe.specs.Sources.{rows_referred};
 ghost use Rattle.dv_sort.specs.Sorting.{stable};
 ghost use Rattle.dv_catalog.specs.Scan.{matching};
+ghost use Rattle.dv_catalog.specs.Inner.ScanParts.{AreFirstAhead};
 
 use crate::scan::sorted;
 use dv_index::{Ahead, IndexedCollection, is_ahead};
@@ -62,7 +62,8 @@ fn first_of(
     most: usize,
 ) -> Result<Option<Vec<Document>>, NoMemory>
     requires { (parts : List Part) × (sort.now ≡ part by.now ∷ parts) }
-    ensures { IfOk result (λ found. IfSome found (λ first. (rows : List (List Field)) → kept (defined.is_ahead (part by.now) ahead.now.bar.now) (rows_referred ahead.now.documents.items) ≡ kept (defined.is_ahead (part by.now) ahead.now.bar.now) rows → first.items ≡ take most (stable sort.now rows))) }
+    ensures { IfOk result (λ found. IfSome found (λ first.
+        AreFirstAhead (part by.now) ahead.now.bar.now (rows_referred ahead.now.documents.items) sort.now most first.items)) }
 {
     let first = sorted(alloc, &ahead.documents, sort, Some(most))?;
     let Some(last) = first.last() else {

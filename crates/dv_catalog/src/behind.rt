@@ -3,7 +3,7 @@
 ghost use Rattle.std.specs.Prelude.{◌≡◌, ◌≤◌, length, take, true, IfOk};
 ghost use Rattle.std.specs.List.{list_all};
 ghost use Rattle.dv_catalog.specs.Inner.Behind.{looks_nowhere};
-ghost use Rattle.dv_catalog.specs.Inner.CatalogParts.{rows_kept};
+ghost use Rattle.dv_catalog.specs.Inner.CatalogParts.{lists_kept};
 ghost use Rattle.dv_catalog.specs.Inner.SearchedView.{searched};
 ghost use Rattle.dv_catalog.specs.State.{lists_of};
 ghost use Rattle.dv_gather.specs.Lookups.{looked_up};
@@ -34,7 +34,7 @@ pub(crate) fn rows_behind(
     rows: &[&Document],
 ) -> Result<Vec<Document>, NoMemory>
     requires { AreRight (lists_of collections.now) registry.now }
-    ensures { IfOk result (λ left. left.items ≡ through stages.now source.now (λ name. rows_kept name collections.now registry.now) (rows_referred rows.now)) }
+    ensures { IfOk result (λ left. left.items ≡ through stages.now source.now (lists_kept collections.now registry.now) (rows_referred rows.now)) }
 {
     let (before, from_lookup) = stages.split_at(first_lookup(stages));
     let Some((Stage::Lookup(lookup), later)) = from_lookup.split_first() else {
@@ -74,7 +74,7 @@ fn rows_at_once(
     source: &str,
     rows: &[&Document],
 ) -> Result<Vec<Document>, NoMemory>
-    ensures { IfOk result (λ left. left.items ≡ through stages.now source.now (λ name. rows_kept name collections.now registry.now) (rows_referred rows.now)) }
+    ensures { IfOk result (λ left. left.items ≡ through stages.now source.now (lists_kept collections.now registry.now) (rows_referred rows.now)) }
 {
     laws::what_is_not_looked_into_does_not_matter();
     let names = lookups_of(alloc, source, stages)?;

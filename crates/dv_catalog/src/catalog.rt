@@ -62,12 +62,12 @@ impl Catalog {
     ghost use Rattle.dv_catalog.specs.Effects as effects;
     ghost use Rattle.dv_catalog.specs.Inner.EffectView.{ArePlaced, StandsFor, changes_seen, effect_seen};
     ghost use Rattle.dv_catalog.specs.IndexMaking as indexing;
-    ghost use Rattle.dv_catalog.specs.Inner.IndexParts.{explained_seen};
-    ghost use Rattle.dv_catalog.specs.Marks.{AreMarkedBy, AreMarkedByDrop, all_gone, marks_made, names_of_new, nothing_marked, stats_of, stored_of};
-    ghost use Rattle.dv_catalog.specs.Inner.Parts.{Leaves, Makes, MakesSo, Reads, StandBehind, StandBy, StandMade, StandSo, one_changed};
+    ghost use Rattle.dv_catalog.specs.Inner.IndexParts.{explained_seen, index_counts};
+    ghost use Rattle.dv_catalog.specs.Marks.{AreMarkedByDrop, all_gone, nothing_marked, stats_of, stored_of};
+    ghost use Rattle.dv_catalog.specs.Inner.Parts.{AreMarkedFrom, Leaves, Makes, MakesCounted, MakesSo, Reads, StandBehind, StandBy, StandCreated, StandSo, one_changed};
     ghost use Rattle.dv_catalog.specs.Inner.StatsView.{stats_seen};
     ghost use Rattle.dv_catalog.specs.Scan as scans;
-    ghost use Rattle.dv_catalog.specs.State.{AreOrdered, documents_of, indexes_of, is_collection, is_there, is_view, lists_of, rows_of};
+    ghost use Rattle.dv_catalog.specs.State.{AreOrdered, documents_of, indexes_of, is_collection, is_there, is_view, rows_of};
     ghost use Rattle.dv_keyed.specs.Inner.View.{form_of_new};
     ghost use Rattle.dv_views.specs.Forms as forms;
     ghost use Rattle.dv_catalog.specs.Views as making;
@@ -116,7 +116,7 @@ impl Catalog {
     /// If memory runs out, the first so many changes, not all, are made. There is no view there.
     pub fn update(&mut self, namespace: &str, updating: &Updating) -> Result<Counted, Stopped>
         requires { is_view namespace.now self.old.state.views ≡ false }
-        ensures made { Makes (λ counted. counted) namespace.now (effects.update_chosen (updating_seen updating.now)) self.old.state.namespaces result self.new.state.namespaces }
+        ensures made { MakesCounted namespace.now (effects.update_chosen (updating_seen updating.now)) self.old result self.new }
         ensures views { self.new.state.views ≡ self.old.state.views }
         ensures marks { StandBehind namespace.now (effects.update_chosen (updating_seen updating.now)) self.old result self.new.marks }
     {
@@ -163,7 +163,7 @@ impl Catalog {
         ensures made { IfOk result (λ done. self.new.state.namespaces ≡ apply namespace.now (take done (changes_seen changes)) self.old.state.namespaces) }
         ensures kept { OnErr result (self.new ≡ self.old) }
         ensures views { self.new.state.views ≡ self.old.state.views }
-        ensures marks { IfOk result (λ done. AreMarkedBy namespace.now (take done (changes_seen changes)) (lists_of self.old.state.namespaces) self.old.state.views self.old.marks self.new.marks) }
+        ensures marks { IfOk result (λ done. AreMarkedFrom namespace.now (take done (changes_seen changes)) self.old self.new.marks) }
     {
         // Behind the first change nothing but another one may want memory.
         let mut told = told(self.alloc, &self.views, namespace, &changes)?;
@@ -273,7 +273,7 @@ impl Catalog {
     /// nothing is changed, except that if memory runs out some of these stale views may be recomputed.
     pub fn create(&mut self, create: Create) -> Result<(), Refusal>
         ensures made { let asked = create_seen create in Leaves (making.created asked.namespace asked.view self.old.state) self.old.state result self.new.state }
-        ensures marks { let asked = create_seen create in StandMade (names_of_new asked.view) (marks_made asked.view self.old.state.views self.old.marks) self.old result self.new.marks }
+        ensures marks { StandCreated (create_seen create).view self.old result self.new.marks }
     {
         let Create { namespace, view } = create;
         if self.collections.has(&namespace) || self.views.has(&namespace) {
@@ -292,7 +292,7 @@ impl Catalog {
     fn create_view(&mut self, namespace: &str, view: ViewOn) -> Result<(), Refusal>
         requires { is_there namespace.now self.old.state ≡ false }
         ensures made { Leaves (making.made namespace.now (Some (view_on_seen view)) self.old.state) self.old.state result self.new.state }
-        ensures marks { let asked = Some (view_on_seen view) in StandMade (names_of_new asked) (marks_made asked self.old.state.views self.old.marks) self.old result self.new.marks }
+        ensures marks { StandCreated (Some (view_on_seen view)) self.old result self.new.marks }
     {
         let ViewOn { source, pipeline } = view;
         let names = names_read(self.alloc, &source, &pipeline)?;
@@ -330,7 +330,7 @@ impl Catalog {
     fn remove_collection(&mut self, namespace: &str)
         requires { is_collection namespace.now self.old.state.namespaces ≡ true }
         ensures state { self.new.state ≡ record self.old.state { namespaces = finite.remove self.old.state.namespaces namespace.now } }
-        ensures marks { AreMarkedBy namespace.now (all_gone (documents_of namespace.now self.old.state.namespaces)) (lists_of self.old.state.namespaces) self.old.state.views self.old.marks self.new.marks }
+        ensures marks { AreMarkedFrom namespace.now (all_gone (documents_of namespace.now self.old.state.namespaces)) self.old self.new.marks }
     {
         told_changes_are_made();
         dv_views::laws::what_is_not_read_does_not_matter();
@@ -356,7 +356,7 @@ impl Catalog {
     ) -> Result<IndexCounts, Refusal>
         ensures made { Leaves (indexing.indexes_created namespace.now (map form_of_new entries.items) self.old.state) self.old.state result self.new.state }
         ensures marks { self.new.marks ≡ self.old.marks }
-        ensures counts { IfOk result (λ counts. counts ≡ record { before = length (indexes_of namespace.now self.old.state.namespaces); after = length (indexes_of namespace.now self.new.state.namespaces) }) }
+        ensures counts { IfOk result (λ counts. counts ≡ index_counts namespace.now self.old.state.namespaces self.new.state.namespaces) }
     {
         if self.views.has(namespace) {
             return Err(Refusal::OnView);

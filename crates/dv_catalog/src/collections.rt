@@ -1,7 +1,6 @@
 //! The collections by their namespaces.
 
-ghost use Rattle.std.specs.Prelude.{◌≡◌, ◌≤◌, [], None, length, map, take, OnErr, OnOk, IfOk, if◌then◌else◌};
-ghost use Rattle.dv_refusal.specs.declared.refusal.Refusal.TheVariants.{NamespaceNotFound};
+ghost use Rattle.std.specs.Prelude.{◌≡◌, ◌≤◌, [], None, length, map, take, OnErr, OnOk, IfOk};
 ghost use Rattle.std.specs.FinMap as finite;
 ghost use Rattle.std.specs.Option.{option_map};
 ghost use Rattle.dv_coll.specs.Collection.{HasId};
@@ -9,9 +8,9 @@ ghost use Rattle.dv_catalog.specs.Changes.{apply};
 ghost use Rattle.dv_catalog.specs.Effects as effects;
 ghost use Rattle.dv_catalog.specs.Inner.EffectView.{ArePlaced, StandsFor, changes_seen};
 ghost use Rattle.dv_catalog.specs.IndexMaking as making;
-ghost use Rattle.dv_catalog.specs.Inner.IndexParts.{namespaces_so};
+ghost use Rattle.dv_catalog.specs.Inner.IndexParts.{index_counts, indexes_created_in, indexes_dropped_in};
 ghost use Rattle.dv_catalog.specs.Inner.Parts.{Leaves, Makes, one_changed};
-ghost use Rattle.dv_catalog.specs.State.{AreOrdered, collection_of, documents_of, empty_state, indexes_of, is_collection, with_documents};
+ghost use Rattle.dv_catalog.specs.State.{AreOrdered, documents_of, empty_state, indexes_of, is_collection, with_documents};
 ghost use Rattle.dv_catalog.specs.Inner.View.{standing_seen};
 ghost use Rattle.dv_keyed.specs.Inner.View.{form_of_new};
 
@@ -154,8 +153,8 @@ impl Collections {
         namespace: &str,
         entries: Vec<NewIndex>,
     ) -> Result<IndexCounts, Refusal>
-        ensures made { Leaves (namespaces_so namespace.now (making.with_all (map form_of_new entries.items) (collection_of namespace.now self.old)) self.old) self.old result self.new }
-        ensures counts { IfOk result (λ counts. counts ≡ record { before = length (indexes_of namespace.now self.old); after = length (indexes_of namespace.now self.new) }) }
+        ensures made { Leaves (indexes_created_in namespace.now (map form_of_new entries.items) self.old) self.old result self.new }
+        ensures counts { IfOk result (λ counts. counts ≡ index_counts namespace.now self.old self.new) }
     {
         match self.collections.get_mut(namespace) {
             Some(collection) => create_each(self.alloc, collection, entries),
@@ -170,8 +169,8 @@ impl Collections {
         entries: Vec<NewIndex>,
     ) -> Result<IndexCounts, Refusal>
         requires { finite.get self.old namespace.now ≡ None }
-        ensures made { Leaves (namespaces_so namespace.now (making.with_all (map form_of_new entries.items) (collection_of namespace.now self.old)) self.old) self.old result self.new }
-        ensures counts { IfOk result (λ counts. counts ≡ record { before = length (indexes_of namespace.now self.old); after = length (indexes_of namespace.now self.new) }) }
+        ensures made { Leaves (indexes_created_in namespace.now (map form_of_new entries.items) self.old) self.old result self.new }
+        ensures counts { IfOk result (λ counts. counts ≡ index_counts namespace.now self.old self.new) }
     {
         let mut collection = IndexedCollection::new(self.alloc)?;
         let counts = create_each(self.alloc, &mut collection, entries)?;
@@ -184,7 +183,7 @@ impl Collections {
     /// there were. Refused with `NamespaceNotFound` where the collection isn't there, with `BadValue` for the index on `_id`,
     /// and with `IndexNotFound` where there is none of the name; then nothing is changed.
     pub(crate) fn drop_indexes(&mut self, namespace: &str, name: &str) -> Result<usize, Refusal>
-        ensures made { Leaves (if is_collection namespace.now self.old then namespaces_so namespace.now (making.without_named name.now (indexes_of namespace.now self.old)) self.old else Err NamespaceNotFound) self.old result self.new }
+        ensures made { Leaves (indexes_dropped_in namespace.now name.now self.old) self.old result self.new }
         ensures count { IfOk result (λ count. count ≡ length (indexes_of namespace.now self.old)) }
     {
         let Some(collection) = self.collections.get_mut(namespace) else {

@@ -1,13 +1,13 @@
 //! Pipelines whose first stages are a find.
 
-ghost use Rattle.std.specs.Prelude.{◌≡◌, ℕ, List, IfOk};
+ghost use Rattle.std.specs.Prelude.{◌≡◌, List, IfOk};
 ghost use Rattle.std.specs.Option.{option_map};
-ghost use Rattle.dv_catalog.specs.Inner.CatalogParts.{rows_kept};
-ghost use Rattle.dv_catalog.specs.Inner.Fronts.{matching_where, passed, sorted_where};
+ghost use Rattle.dv_catalog.specs.Inner.CatalogParts.{lists_kept};
+ghost use Rattle.dv_catalog.specs.Inner.Fronts.{IsFront, matching_where, passed, sorted_where};
 ghost use Rattle.dv_catalog.specs.Scan.{matching};
 ghost use Rattle.dv_match.specs.Filter.{no_members};
 ghost use Rattle.dv_pipe.specs.Sources.{Row};
-ghost use Rattle.dv_pipe.specs.Stages.{Lists, through};
+ghost use Rattle.dv_pipe.specs.Stages.{through};
 ghost use Rattle.dv_catalog.specs.State.{lists_of};
 ghost use Rattle.dv_sort.specs.Sorting.{front};
 ghost use Rattle.dv_views.specs.Inner.Views.{AreRight};
@@ -36,7 +36,7 @@ struct Front<'a> {
 impl<'a> Front<'a> {
     /// That of these stages.
     fn of(stages: &'a [Stage]) -> Self
-        ensures { (source : List ℕ) (lists : Lists) (rows : List Row) → through result.later.now source lists (passed (option_map (λ f. f.now) result.filter) (option_map (λ s. s.now) result.sort) result.most rows) ≡ through stages.now source lists rows }
+        ensures { IsFront (passed (option_map (λ f. f.now) result.filter) (option_map (λ s. s.now) result.sort) result.most) result.later.now stages.now }
     {
         let (filter, stages) = first_match(stages);
         let (sort, stages) = first_sort(stages);
@@ -52,7 +52,7 @@ impl<'a> Front<'a> {
 
 /// The filter of a `$match` that is the first stage, and the stages behind it.
 fn first_match(stages: &[Stage]) -> (Option<&Filter>, &[Stage])
-    ensures { (source : List ℕ) (lists : Lists) (rows : List Row) → through result.1.now source lists (matching_where (option_map (λ f. f.now) result.0) rows) ≡ through stages.now source lists rows }
+    ensures { IsFront (matching_where (option_map (λ f. f.now) result.0)) result.1.now stages.now }
 {
     match stages.split_first() {
         Some((Stage::Match(filter), later)) => (Some(filter), later),
@@ -62,7 +62,7 @@ fn first_match(stages: &[Stage]) -> (Option<&Filter>, &[Stage])
 
 /// The order of a `$sort` that is the first stage, and the stages behind it.
 fn first_sort(stages: &[Stage]) -> (Option<&SortSpec>, &[Stage])
-    ensures { (source : List ℕ) (lists : Lists) (rows : List Row) → through result.1.now source lists (sorted_where (option_map (λ s. s.now) result.0) rows) ≡ through stages.now source lists rows }
+    ensures { IsFront (sorted_where (option_map (λ s. s.now) result.0)) result.1.now stages.now }
 {
     match stages.split_first() {
         Some((Stage::Sort(spec), later)) => (Some(spec), later),
@@ -72,7 +72,7 @@ fn first_sort(stages: &[Stage]) -> (Option<&SortSpec>, &[Stage])
 
 /// How many rows a `$limit` leaves that is the first stage, and the stages behind it.
 fn first_limit(stages: &[Stage]) -> (Option<usize>, &[Stage])
-    ensures { (source : List ℕ) (lists : Lists) (rows : List Row) → through result.1.now source lists (front result.0 rows) ≡ through stages.now source lists rows }
+    ensures { IsFront (front result.0) result.1.now stages.now }
 {
     match stages.split_first() {
         Some((Stage::Limit(count), later)) => (Some(*count as usize), later),
@@ -101,7 +101,7 @@ pub(crate) fn rows_of_stages(
     source: &str,
 ) -> Result<Vec<Document>, NoMemory>
     requires { AreRight (lists_of collections.now) registry.now }
-    ensures { IfOk result (λ rows. rows.items ≡ through stages.now source.now (λ name. rows_kept name collections.now registry.now) (rows_kept source.now collections.now registry.now)) }
+    ensures { let kept = lists_kept collections.now registry.now in IfOk result (λ rows. rows.items ≡ through stages.now source.now kept (kept source.now)) }
 {
     let everything = Filter::of(Vec::new(alloc));
     let front = Front::of(stages);

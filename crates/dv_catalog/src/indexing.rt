@@ -61,7 +61,8 @@ fn fresh_among(
     there: &[Index],
     entries: Vec<NewIndex>,
 ) -> Result<Vec<NewIndex>, Refusal>
-    ensures { UnlessWanting (λ fresh. map form_of there.now ++ map form_of_new fresh.items) (making.with_entries (map form_of_new entries.items) (map form_of there.now)) result }
+    ensures { UnlessWanting (λ fresh. map form_of there.now ++ map form_of_new fresh.items)
+        (making.with_entries (map form_of_new entries.items) (map form_of there.now)) result }
 {
     let mut coming = Coming::new(alloc);
     'entries: for entry in entries {

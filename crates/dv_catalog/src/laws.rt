@@ -1,14 +1,14 @@
 //! What holds of changes, each the contract of a function that does nothing.
 
-ghost use Rattle.std.specs.Prelude.{◌≡◌, ◌<◌, ◌≤◌, ◌++◌, ◌∷◌, [], false, length, List, map, Ok, Err};
+ghost use Rattle.std.specs.Prelude.{◌≡◌, ◌<◌, ◌≤◌, ◌++◌, ◌∷◌, [], length, List, map, Ok, Err};
 ghost use Rattle.dv_value.specs.Tree.{Field};
 ghost use Rattle.dv_catalog.specs.Changes.{Change, with_change, with_changes};
 ghost use Rattle.dv_catalog.specs.Inner.EffectView.{AreAble, BeginsWithId};
-ghost use Rattle.dv_catalog.specs.State.{AreOrdered, is_view};
+ghost use Rattle.dv_catalog.specs.State.{AreOrdered};
 ghost use Rattle.dv_catalog.specs.Told.{told};
-ghost use Rattle.dv_catalog.specs.Views.{reads_name, with_view};
+ghost use Rattle.dv_catalog.specs.Views.{with_view};
+ghost use Rattle.dv_catalog.specs.Inner.ViewParts.{IfUnread};
 ghost use Rattle.dv_refusal.specs.declared.refusal.Refusal.TheVariants.{LimitReached};
-ghost use Rattle.dv_pipe.specs.Stages.{is_read};
 ghost use Rattle.dv_views.specs.Changed.{documents_changed};
 ghost use Rattle.dv_views.specs.Inner.Changed.{AreMade};
 ghost use Rattle.dv_views.specs.Forms.{ViewForm, height_over, heights};
@@ -39,7 +39,9 @@ pub(crate) fn told_changes_are_made()
 
 /// There may be a thousand views, of which none is higher than 8.
 pub fn there_may_be_a_thousand_views()
-    ensures room { (v : ViewForm) (views : List ViewForm) → length views ≡ 999 → is_view v.name views ≡ false → reads_name views v.name ≡ false → is_read v.stages v.source v.name ≡ false → height_over (heights views) v.stages v.source ≤ 8 → with_view v views ≡ Ok (views ++ v ∷ []) }
-    ensures full { (v : ViewForm) (views : List ViewForm) → length views ≡ 1000 → is_view v.name views ≡ false → reads_name views v.name ≡ false → is_read v.stages v.source v.name ≡ false → with_view v views ≡ Err LimitReached }
-    ensures high { (v : ViewForm) (views : List ViewForm) → is_view v.name views ≡ false → reads_name views v.name ≡ false → is_read v.stages v.source v.name ≡ false → 8 < height_over (heights views) v.stages v.source → with_view v views ≡ Err LimitReached }
+    ensures room { (v : ViewForm) (views : List ViewForm) → length views ≡ 999
+        → IfUnread v views (height_over (heights views) v.stages v.source ≤ 8 → with_view v views ≡ Ok (views ++ v ∷ [])) }
+    ensures full { (v : ViewForm) (views : List ViewForm) → length views ≡ 1000 → IfUnread v views (with_view v views ≡ Err LimitReached) }
+    ensures high { (v : ViewForm) (views : List ViewForm)
+        → IfUnread v views (8 < height_over (heights views) v.stages v.source → with_view v views ≡ Err LimitReached) }
 {}

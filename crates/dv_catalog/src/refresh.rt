@@ -104,8 +104,10 @@ fn is_stale(registry: &Registry, name: &str) -> bool
 
 /// A law: the rows that a right view shows are those that stand under its name.
 pub(crate) fn shown_rows_are_right(registry: &Registry)
-    ensures shown { (namespaces : Namespaces) (name : List ℕ) (rows : List (List Field)) → views.AreRight (lists_of namespaces) registry.now → views.rows_shown name registry.now ≡ Some rows → rows ≡ rows_of name (state_of namespaces registry.now) }
-    ensures kept { (namespaces : Namespaces) (name : List ℕ) → views.AreRight (lists_of namespaces) registry.now → AreLive (name ∷ []) registry.now → rows_kept name namespaces registry.now ≡ rows_of name (state_of namespaces registry.now) }
+    ensures shown { (namespaces : Namespaces) (name : List ℕ) (rows : List (List Field)) → views.AreRight (lists_of namespaces) registry.now
+        → views.rows_shown name registry.now ≡ Some rows → rows ≡ rows_of name (state_of namespaces registry.now) }
+    ensures kept { (namespaces : Namespaces) (name : List ℕ) → views.AreRight (lists_of namespaces) registry.now
+        → AreLive (name ∷ []) registry.now → rows_kept name namespaces registry.now ≡ rows_of name (state_of namespaces registry.now) }
 {
     dv_views::laws::what_is_shown_is_right();
     // No two views have one name.

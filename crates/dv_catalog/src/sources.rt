@@ -5,7 +5,7 @@ ghost use Rattle.std.specs.List.{AllByRecursion};
 ghost use Rattle.dv_pipe.specs.Sources as pipes;
 ghost use Rattle.dv_pipe.specs.Sources.{rows_referred};
 ghost use Rattle.dv_views.specs.Inner.Made.{AreAlike};
-ghost use Rattle.dv_catalog.specs.Inner.CatalogParts.{rows_kept};
+ghost use Rattle.dv_catalog.specs.Inner.CatalogParts.{lists_kept, rows_kept};
 ghost use Rattle.dv_catalog.specs.Inner.SourceParts.{with_list};
 ghost use Rattle.dv_catalog.specs.State.{AreOrdered, lists_of};
 
@@ -42,7 +42,7 @@ pub(crate) fn rows_under<'a>(
     registry: &'a Registry,
     names: &[Str],
 ) -> Result<Sources<'a>, NoMemory>
-    ensures { IfOk result (λ sources. AreAlike names.now (pipes.lists_of sources) (λ name. rows_kept name collections.now registry.now)) }
+    ensures { IfOk result (λ sources. AreAlike names.now (pipes.lists_of sources) (lists_kept collections.now registry.now)) }
 {
     let mut sources = Sources::new(alloc);
     'names: for name in names {

@@ -1,14 +1,14 @@
 //! Updating documents.
 
-ghost use Rattle.std.specs.Prelude.{◌≡◌, ◌≤◌, ◌++◌, ◌∷◌, ℕ, List, [], Some, codes, false, filter, if◌then◌else◌, length, map, take, IfOk, OnErr, OnOk};
+ghost use Rattle.std.specs.Prelude.{◌≡◌, ◌≤◌, ◌++◌, ℕ, List, Some, codes, false, filter, length, take, IfOk, OnErr, OnOk};
 ghost use Rattle.std.specs.Str.{bytes_eq};
 ghost use Rattle.dv_value.specs.Names.{has_zero};
 ghost use Rattle.dv_coll.specs.Collection.{HasId, found, id_key, replaced};
 ghost use Rattle.dv_refusal.specs.Refusals.{UnlessWanting};
 ghost use Rattle.dv_command.specs.Inner.View.{updating_seen};
-ghost use Rattle.dv_catalog.specs.Changes.{breaks, done_to, put, with_changes};
+ghost use Rattle.dv_catalog.specs.Changes.{breaks, done_to, with_changes};
 ghost use Rattle.dv_catalog.specs.Effects as effects;
-ghost use Rattle.dv_catalog.specs.Inner.EffectView.{ArePlaced, AreUpdatesOf, StandsFor, after_of, changes_seen, effect_seen};
+ghost use Rattle.dv_catalog.specs.Inner.EffectView.{ArePlaced, AreUpdatesOf, StandsFor, after_of, changes_seen, effect_seen, new_documents, old_documents, unless_it_stays, update_changes};
 ghost use Rattle.dv_catalog.specs.State.{AreOrdered};
 ghost use Rattle.dv_index.specs.Inner.Indexed.{with_documents};
 ghost use Rattle.dv_index.specs.Inner.View.{afters as documents_after, befores as documents_before};
@@ -95,8 +95,9 @@ fn changed_by(
     documents: &[&Document],
     whole: bool,
 ) -> Result<Vec<Updated>, Refusal>
-    ensures afters { UnlessWanting (λ changed. map (after_of (outcomes.sole_name (seen.update update.now))) changed.items) (effects.changed_by (seen.update update.now) (rows_referred documents.now)) result }
-    ensures befores { IfOk result (λ changed. map (λ u. u.before) changed.items ≡ filter (effects.changes (seen.update update.now)) (rows_referred documents.now)) }
+    ensures afters { UnlessWanting (λ changed. new_documents (outcomes.sole_name (seen.update update.now)) changed.items)
+        (effects.changed_by (seen.update update.now) (rows_referred documents.now)) result }
+    ensures befores { IfOk result (λ changed. old_documents changed.items ≡ filter (effects.changes (seen.update update.now)) (rows_referred documents.now)) }
 {
     let mut changed = Vec::new(alloc);
     'documents: for document in documents {
@@ -113,8 +114,9 @@ fn add_changed(
     document: &Document,
     mut outcome: Outcome,
 ) -> Result<(), NoMemory>
-    ensures afters { OnOk result ((name : List ℕ) → map (after_of name) changed.new.items ≡ map (after_of name) changed.old.items ++ (if outcomes.stays outcome then [] else outcomes.outcome_seen name document.now outcome ∷ [])) }
-    ensures befores { OnOk result (map (λ u. u.before) changed.new.items ≡ map (λ u. u.before) changed.old.items ++ (if outcomes.stays outcome then [] else document.now ∷ [])) }
+    ensures afters { OnOk result ((name : List ℕ) → new_documents name changed.new.items
+        ≡ new_documents name changed.old.items ++ unless_it_stays outcome (outcomes.outcome_seen name document.now outcome)) }
+    ensures befores { OnOk result (old_documents changed.new.items ≡ old_documents changed.old.items ++ unless_it_stays outcome document.now) }
 {
     if outcome.stays() {
         return Ok(());
@@ -134,7 +136,8 @@ fn outcome_of(
     document: &Document,
     whole: bool,
 ) -> Result<Outcome, UpdateFault>
-    ensures applied { Gives (λ outcome. outcomes.outcome_seen (outcomes.sole_name (seen.update update.now)) document.now outcome) result (applied (seen.update update.now) document.now) }
+    ensures applied { Gives (outcomes.outcome_seen (outcomes.sole_name (seen.update update.now)) document.now) result
+        (applied (seen.update update.now) document.now) }
     ensures same { IfOk result (λ outcome. outcomes.stays outcome ≡ outcomes.stays_so (outcomes.sole_name (seen.update update.now)) document.now outcome) }
 {
     if whole {
@@ -151,9 +154,9 @@ pub(crate) fn updates_clash(
     collection: &IndexedCollection,
     updates: &Updates,
 ) -> Result<bool, NoMemory>
-    requires placed { ArePlaced collection.now.documents (map put (map (after_of updates.now.name) updates.now.each.items)) }
+    requires placed { ArePlaced collection.now.documents (update_changes updates.now.name updates.now.each.items) }
     requires standing { AreUpdatesOf collection.now.documents updates.now.name updates.now.each.items }
-    ensures { IfOk result (λ clash. clash ≡ breaks collection.now.indexes (map put (map (after_of updates.now.name) updates.now.each.items)) collection.now.documents) }
+    ensures { IfOk result (λ clash. clash ≡ breaks collection.now.indexes (update_changes updates.now.name updates.now.each.items) collection.now.documents) }
 {
     if !collection.has_unique() {
         return Ok(false);
@@ -166,7 +169,7 @@ pub(crate) fn updates_clash(
 /// The documents that come in the places of those that are updated. Fails where memory is wanting.
 fn afters_of(alloc: Global, updates: &Updates) -> Result<Vec<Document>, NoMemory>
     requires whole { has_zero updates.now.name ≡ false }
-    ensures { IfOk result (λ afters. afters.items ≡ map (after_of updates.now.name) updates.now.each.items) }
+    ensures { IfOk result (λ afters. afters.items ≡ new_documents updates.now.name updates.now.each.items) }
 {
     let mut afters = Vec::with_capacity(alloc, updates.each.len())?;
     'documents: for document in &updates.each {
@@ -182,7 +185,7 @@ fn replacings<'d>(
     afters: &'d [Document],
 ) -> Result<Vec<Replacing<'d>>, NoMemory>
     requires { length afters.now ≡ length each.now }
-    ensures before { IfOk result (λ pairs. documents_before pairs.items ≡ map (λ u. u.before) each.now) }
+    ensures before { IfOk result (λ pairs. documents_before pairs.items ≡ old_documents each.now) }
     ensures after { IfOk result (λ pairs. documents_after pairs.items ≡ afters.now) }
 {
     let mut pairs = Vec::with_capacity(alloc, each.len())?;
@@ -196,10 +199,10 @@ fn replacings<'d>(
 /// Puts what documents become in their places, where they are, until memory is wanting, and answers how many were put. Where
 /// one field alone is changed, it is that under the name.
 pub(crate) fn put_each(collection: &mut IndexedCollection, name: &str, each: Vec<Updated>) -> usize
-    requires placed { ArePlaced collection.old.documents (map put (map (after_of name.now) each.items)) }
+    requires placed { ArePlaced collection.old.documents (update_changes name.now each.items) }
     requires standing { AreUpdatesOf collection.old.documents name.now each.items }
     ensures count { result ≤ length each.items }
-    ensures made { collection.new ≡ with_documents (with_changes collection.old.documents (take result (map put (map (after_of name.now) each.items)))) collection.old }
+    ensures made { collection.new ≡ with_documents (with_changes collection.old.documents (take result (update_changes name.now each.items))) collection.old }
 {
     laws::documents_stand_where_they_are_found();
     let count = each.len();

@@ -5,7 +5,7 @@ ghost use Rattle.std.specs.List.{AllByRecursion};
 ghost use Rattle.dv_value.specs.Names.{has_zero};
 ghost use Rattle.dv_coll.specs.Collection.{HasId};
 ghost use Rattle.dv_catalog.specs.Changes as changing;
-ghost use Rattle.dv_catalog.specs.Inner.EffectView.{BeginsWithId, HasWholeName, after_of, changes_seen};
+ghost use Rattle.dv_catalog.specs.Inner.EffectView.{BeginsWithId, HasWholeName, changes_seen, new_documents, update_changes};
 ghost use Rattle.dv_catalog.specs.Told as defined;
 ghost use Rattle.dv_catalog.specs.Inner.Told as defined_inner;
 
@@ -37,9 +37,9 @@ pub(crate) fn told(
 }
 
 fn all_put(alloc: Global, updates: &Updates) -> Result<Vec<Change>, NoMemory>
-    requires identified { AllByRecursion HasId (map (after_of updates.now.name) updates.now.each.items) }
+    requires identified { AllByRecursion HasId (new_documents updates.now.name updates.now.each.items) }
     requires whole { has_zero updates.now.name ≡ false }
-    ensures { IfOk result (λ all. all.items ≡ map defined.told (map changing.put (map (after_of updates.now.name) updates.now.each.items))) }
+    ensures { IfOk result (λ all. all.items ≡ map defined.told (update_changes updates.now.name updates.now.each.items)) }
 {
     let mut all = Vec::with_capacity(alloc, updates.each.len())?;
     'documents: for document in &updates.each {

@@ -2,6 +2,7 @@
 use Rattle.std.specs.Prelude.{◌≡◌, Bool, true, false, ℕ, List, map, Option, Some, None}
 use Rattle.std.specs.List.{AllByRecursion, list_any}
 use Rattle.dv_value.specs.Tree.{Field}
+use Rattle.dv_pipe.specs.Stages.{Lists}
 use Rattle.dv_views.specs.Forms.{is_name_among}
 use Rattle.dv_views.specs.Views as views
 use Rattle.dv_views.specs.Inner.Views as views_inner
@@ -34,6 +35,10 @@ rows_or (Some rows) others = rows
 -- the rows that a view of a name keeps, or else the documents under it
 abbrev pub rows_kept : List ℕ → Namespaces → views_inner.Views → List (List Field)
 rows_kept name namespaces registry = rows_or (views_inner.rows_shown name registry) (documents_of name namespaces)
+
+-- the same of each name
+abbrev pub lists_kept : Namespaces → views_inner.Views → Lists
+lists_kept namespaces registry name = rows_kept name namespaces registry
 
 -- the views of these names have their rows
 abbrev pub AreLive : List (List ℕ) → views_inner.Views → Type 0

@@ -1,10 +1,11 @@
 -- What stands in memory for the effect of a statement.
-use Rattle.std.specs.Prelude.{◌≡◌, ◌<◌, ◌⊎◌, ℕ, true, false, List, [], ◌∷◌, codes, length, map, take, is_some, ⊤}
+use Rattle.std.specs.Prelude.{◌≡◌, ◌<◌, ◌⊎◌, ℕ, true, false, List, [], ◌∷◌, codes, length, map, take, is_some, if◌then◌else◌, ⊤}
 use Rattle.std.specs.Str.{bytes_eq}
 use Rattle.dv_value.specs.Names.{has_zero}
 use Rattle.dv_value.specs.Tree.{Field}
 use Rattle.dv_coll.specs.Collection.{AreStanding, HasId, found, id_key}
-use Rattle.dv_update.specs.Outcome.{outcome_seen}
+use Rattle.dv_update.specs.Outcome.{outcome_seen, stays}
+use Rattle.dv_update.specs.declared.outcome.Outcome.{Outcome}
 use Rattle.dv_catalog.specs.declared.effect.Changes as memory
 use Rattle.dv_catalog.specs.declared.effect.Changes.TheVariants.{Put, Gone}
 use Rattle.dv_catalog.specs.declared.effect.Effect as memory_effect
@@ -15,8 +16,24 @@ use Rattle.dv_catalog.specs.Changes.{Change, Effect, put, gone, with_change}
 abbrev pub after_of : List ℕ → Updated → List Field
 after_of name u = outcome_seen name u.before u.outcome
 
+-- those that come in place of all that are updated
+abbrev pub new_documents : List ℕ → List Updated → List (List Field)
+new_documents name each = map (after_of name) each
+
+-- all that are updated, as they were
+abbrev pub old_documents : List Updated → List (List Field)
+old_documents each = map (λ u. u.before) each
+
+-- the changes that put those that come
+abbrev pub update_changes : List ℕ → List Updated → List Change
+update_changes name each = map put (new_documents name each)
+
+-- this alone, or nothing where an outcome leaves its document the same
+abbrev pub unless_it_stays : {A : Type 0} → Outcome → A → List A
+unless_it_stays outcome x = if stays outcome then [] else x ∷ []
+
 abbrev pub changes_seen : memory.Changes → List Change
-changes_seen (Put updates) = map put (map (after_of updates.name) updates.each.items)
+changes_seen (Put updates) = update_changes updates.name updates.each.items
 changes_seen (Gone keys) = map gone keys.items
 
 abbrev pub effect_seen : memory_effect.Effect → Effect

@@ -1,8 +1,10 @@
 -- What the stages in front of a pipeline leave, where a find does the same.
-use Rattle.std.specs.Prelude.{ℕ, List, Option, Some, None}
+use Rattle.std.specs.Prelude.{◌≡◌, ℕ, List, Option, Some, None}
 use Rattle.dv_match.specs.Filter.{Members}
 use Rattle.dv_path.specs.SortSpec.{Part}
 use Rattle.dv_pipe.specs.Sources.{Row}
+use Rattle.dv_pipe.specs.Stages.{Lists, through}
+use Rattle.dv_pipe.specs.declared.stage.Stage.{Stage}
 use Rattle.dv_sort.specs.Sorting.{front, stable}
 use Rattle.dv_catalog.specs.Scan.{matching}
 
@@ -17,3 +19,7 @@ sorted_where (Some parts) rows = stable parts rows
 -- the first rows of those that match, in the order of a sort
 abbrev pub passed : Option Members → Option (List Part) → Option ℕ → List Row → List Row
 passed form parts most rows = front most (sorted_where parts (matching_where form rows))
+
+-- the stages behind a front, over what the front leaves of some rows, give what all stages give
+abbrev pub IsFront : (List Row → List Row) → List Stage → List Stage → Type 0
+IsFront leaves later stages = (source : List ℕ) (lists : Lists) (rows : List Row) → through later source lists (leaves rows) ≡ through stages source lists rows

@@ -1,11 +1,12 @@
 -- What the parts of a write, and of other commands that change something, give.
-use Rattle.std.specs.Prelude.{◌≡◌, ◌<◌, ◌⊎◌, ℕ, List, length, take, Result, Ok, Err}
+use Rattle.std.specs.Prelude.{◌≡◌, ◌<◌, ◌⊎◌, ℕ, List, Option, length, take, Result, Ok, Err}
+use Rattle.dv_command.specs.Asked.{ViewOn}
 use Rattle.dv_refusal.specs.declared.refusal.Refusal.{Refusal}
 use Rattle.dv_refusal.specs.declared.refusal.Refusal.TheVariants.{WantOfMemory}
 use Rattle.dv_catalog.specs.declared.counts.Counted.{Counted}
 use Rattle.dv_catalog.specs.declared.failure.Stopped.{Stopped}
 use Rattle.dv_catalog.specs.State.{Namespaces, collection_of, lists_of}
-use Rattle.dv_catalog.specs.Marks.{AreMarkedBy, ArePartlyRead, Marked, Marks, marks_read}
+use Rattle.dv_catalog.specs.Marks.{AreMarkedBy, ArePartlyRead, Marked, Marks, marks_made, marks_read, names_of_new}
 use Rattle.dv_catalog.specs.Changes.{Change, Effect, Statement, apply, changes_of, done_to}
 
 -- a statement that is refused changes nothing
@@ -31,6 +32,10 @@ MakesSo counted namespace does old (Err stopped) new = IsRefused does old stoppe
 abbrev pub Makes : {B : Type 0} → (B → Counted) → List ℕ → Statement → Namespaces → Result B Stopped → Namespaces → Type 0
 Makes counted namespace statement old result new = MakesSo counted namespace (done_to (collection_of namespace old) statement) old result new
 
+-- the same where the counts are what is told, of the collections beside the views
+abbrev pub MakesCounted : List ℕ → Statement → Marked → Result Counted Stopped → Marked → Type 0
+MakesCounted namespace statement old result new = Makes (λ counted. counted) namespace statement old.state.namespaces result new.state.namespaces
+
 -- one document and one change
 abbrev pub one_changed : Counted
 one_changed = record { matched = 1; changed = 1 }
@@ -47,9 +52,13 @@ abbrev pub changes_made : {B : Type 0} → Result Effect Refusal → Result B St
 changes_made does (Ok x) = changes_of does
 changes_made does (Err stopped) = take stopped.done (changes_of does)
 
+-- behind changes of the documents of a namespace
+abbrev pub AreMarkedFrom : List ℕ → List Change → Marked → Marks → Type 0
+AreMarkedFrom namespace changes old after = AreMarkedBy namespace changes (lists_of old.state.namespaces) old.state.views old.marks after
+
 -- behind what a statement does to the collection of a namespace
 abbrev pub StandBy : {B : Type 0} → List ℕ → Result Effect Refusal → Marked → Result B Stopped → Marks → Type 0
-StandBy namespace does old result after = AreMarkedBy namespace (changes_made does result) (lists_of old.state.namespaces) old.state.views old.marks after
+StandBy namespace does old result after = AreMarkedFrom namespace (changes_made does result) old after
 
 -- behind a statement on them
 abbrev pub StandBehind : {B : Type 0} → List ℕ → Statement → Marked → Result B Stopped → Marks → Type 0
@@ -76,3 +85,7 @@ Reads names old (Err e) new = (new.state ≡ old.state) × ArePartlyRead names o
 abbrev pub StandMade : {B : Type 0} → List (List ℕ) → Marks → Marked → Result B Refusal → Marks → Type 0
 StandMade names made old (Ok x) after = after ≡ made
 StandMade names made old (Err refusal) after = ((refusal ≡ WantOfMemory) × ArePartlyRead names old.state.views old.marks after) ⊎ (after ≡ old.marks)
+
+-- behind the create of a view, or of an empty collection where none is given
+abbrev pub StandCreated : {B : Type 0} → Option ViewOn → Marked → Result B Refusal → Marks → Type 0
+StandCreated view old result after = StandMade (names_of_new view) (marks_made view old.state.views old.marks) old result after

@@ -3,7 +3,7 @@
 ghost use Rattle.std.specs.Prelude.{◌≡◌, false};
 ghost use Rattle.dv_command.specs.Inner.View.{deletion_seen};
 ghost use Rattle.dv_catalog.specs.Effects.{delete_chosen};
-ghost use Rattle.dv_catalog.specs.Inner.Parts.{Cuts, Makes, StandBehind};
+ghost use Rattle.dv_catalog.specs.Inner.Parts.{Cuts, MakesCounted, StandBehind};
 ghost use Rattle.dv_catalog.specs.State.{is_view};
 
 use crate::catalog::Catalog;
@@ -27,7 +27,7 @@ impl Catalog {
     /// many, not all, are taken out. There is no view there.
     pub fn delete(&mut self, namespace: &str, deletion: &Deletion) -> Result<Counted, Stopped>
         requires { is_view namespace.now self.old.state.views ≡ false }
-        ensures made { Makes (λ counted. counted) namespace.now (delete_chosen (deletion_seen deletion.now)) self.old.state.namespaces result self.new.state.namespaces }
+        ensures made { MakesCounted namespace.now (delete_chosen (deletion_seen deletion.now)) self.old result self.new }
         ensures views { self.new.state.views ≡ self.old.state.views }
         ensures marks { StandBehind namespace.now (delete_chosen (deletion_seen deletion.now)) self.old result self.new.marks }
     {
@@ -45,7 +45,7 @@ impl Catalog {
     /// The same, of which all is prepared before the first document goes.
     fn delete_all(&mut self, namespace: &str, deletion: &Deletion) -> Result<Counted, Stopped>
         requires { is_view namespace.now self.old.state.views ≡ false }
-        ensures made { Makes (λ counted. counted) namespace.now (delete_chosen (deletion_seen deletion.now)) self.old.state.namespaces result self.new.state.namespaces }
+        ensures made { MakesCounted namespace.now (delete_chosen (deletion_seen deletion.now)) self.old result self.new }
         ensures views { self.new.state.views ≡ self.old.state.views }
         ensures marks { StandBehind namespace.now (delete_chosen (deletion_seen deletion.now)) self.old result self.new.marks }
     {
