@@ -1,5 +1,5 @@
 -- The marks of views after a command: the ticks of each live view, and which views are stale.
-use Rattle.std.specs.Prelude.{◌≡◌, ◌⊎◌, ℕ, Bool, true, false, List, [], ◌∷◌, take, Result, Ok, Err, if◌then◌else◌}
+use Rattle.std.specs.Prelude.{◌≡◌, ◌⊎◌, ℕ, Bool, true, false, List, [], ◌∷◌, length, take, Result, Ok, Err, if◌then◌else◌}
 use Rattle.dv_command.specs.Asked.{Asked, find, aggregate, create, drop, explain}
 use Rattle.dv_command.specs.Asked as asking
 use Rattle.dv_catalog.specs.Changes.{Change, Statement}
@@ -12,6 +12,10 @@ use Rattle.dv_views.specs.Forms.{ViewForm, names_read}
 use Rattle.dv_core.specs.State.{State}
 use Rattle.dv_core.specs.Statements.{AreCut, WriteCounts, Written, is_due, next_changes, nothing_written, with_all, with_next}
 use Rattle.dv_core.specs.Writes.{write_by}
+
+-- each view has its mark, and there are no other marks
+abbrev pub HasItsMarks : State → Type 0
+HasItsMarks state = length state.marks ≡ length state.catalog.views
 
 -- ---- writes: statements one after the other
 

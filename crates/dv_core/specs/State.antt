@@ -1,5 +1,5 @@
 -- The state of the store: collections, views and their marks, and the cursors of all sessions.
-use Rattle.std.specs.Prelude.{[]}
+use Rattle.std.specs.Prelude.{◌≡◌, ℕ, List, []}
 use Rattle.dv_catalog.specs.Marks.{Marks, Marked}
 use Rattle.dv_catalog.specs.State as stored
 use Rattle.dv_cursor.specs.Cursors.{Cursors, no_cursors}
@@ -22,3 +22,7 @@ marked state = record { state = state.catalog; marks = state.marks }
 -- the state with these marks
 abbrev pub standing : Marks → State → State
 standing marks state = record state { marks = marks }
+
+-- a namespace has the same documents in both states
+abbrev pub HasSameDocuments : List ℕ → State → State → Type 0
+HasSameDocuments namespace old new = stored.documents_of namespace new.catalog.namespaces ≡ stored.documents_of namespace old.catalog.namespaces

@@ -4,7 +4,7 @@ ghost use Rattle.std.specs.Prelude.{◌≡◌, ◌<◌, ◌^◌, List as Sequenc
 ghost use Rattle.std.specs.String.{string_bytes};
 ghost use Rattle.dv_catalog.specs.Scan.{limited};
 ghost use Rattle.dv_core.specs.Find as finding;
-ghost use Rattle.dv_core.specs.Inner.StepParts.{GivesAndLeaves, reply_told};
+ghost use Rattle.dv_core.specs.Inner.StepParts.{GivesBatch};
 ghost use Rattle.dv_core.specs.Told.{batch_told};
 ghost use Rattle.dv_command.specs.Replies.{document_of};
 ghost use Rattle.dv_cursor.specs.Batch.{batch, rows_behind};
@@ -50,7 +50,8 @@ pub(crate) fn first_batch(
     first: First,
     rows: Vec<Document>,
 ) -> Result<Batch, Refusal>
-    ensures reply { GivesAndLeaves (finding.first_batch first.session (string_bytes first.namespace) first.count first.single rows.items cursors.old) cursors.old (reply_told result) cursors.new }
+    ensures reply { GivesBatch (finding.first_batch first.session (string_bytes first.namespace) first.count first.single rows.items)
+        cursors.old result cursors.new }
     ensures id { IfOk result (λ batch. batch.id < 2 ^ 63) }
 {
     let First {

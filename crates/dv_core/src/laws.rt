@@ -17,10 +17,11 @@ ghost use Rattle.dv_core.specs.declared.outcome.Outcome.TheVariants.{Reply, Want
 ghost use Rattle.dv_core.specs.Inner.Examples as examples;
 ghost use Rattle.dv_core.specs.Find.{are_too_large, first_batch};
 ghost use Rattle.dv_core.specs.Load.{IsLoaded, insert_alone, loaded, namespace_in};
+ghost use Rattle.dv_core.specs.Marks.{HasItsMarks};
 ghost use Rattle.dv_core.specs.Part.{IsPart};
 ghost use Rattle.dv_core.specs.Sound.{HasSpelling, IsOrderly, IsSound, IsSoundCommand, IsSoundDocument, IsTold};
 ghost use Rattle.dv_catalog.specs.State.{Namespaces, documents_of, is_view, rows_of};
-ghost use Rattle.dv_core.specs.State.{State, empty_store_state};
+ghost use Rattle.dv_core.specs.State.{HasSameDocuments, State, empty_store_state};
 ghost use Rattle.std.specs.Str.{bytes_eq};
 ghost use Rattle.dv_core.specs.Runs.{Move, Shows, carries, stands, wants, rows_told, state_behind_all, tells_last};
 ghost use Rattle.dv_cursor.specs.Batch.{rows_behind};
@@ -46,8 +47,8 @@ pub fn a_refused_command_changes_nothing()
 /// nothing changes nothing, as it is refused. Of the first a write and what makes and drops indexes leave the views, a create and
 /// indexes the documents of each namespace, and a drop those of each other namespace.
 pub fn only_writes_change_documents()
-    ensures others { (old new : State) (session : ℕ) (command : Command) (asked : Asked) (outcome : Outcome) → asked_by command ≡ Ok asked → asked_write asked ≡ None → makes asked ≡ false
-        → MemoryStep old session command outcome new → new.catalog ≡ old.catalog }
+    ensures others { (old new : State) (session : ℕ) (command : Command) (asked : Asked) (outcome : Outcome) → asked_by command ≡ Ok asked
+        → asked_write asked ≡ None → makes asked ≡ false → MemoryStep old session command outcome new → new.catalog ≡ old.catalog }
     ensures cursors { (old new : State) (session : ℕ) (command : Command) (asked : Asked) (outcome : Outcome) → asked_by command ≡ Ok asked → moves asked ≡ false
         → MemoryStep old session command outcome new → new.cursors ≡ old.cursors }
     ensures refused { (old new : State) (session : ℕ) (command : Command) (refusal : Refusal) (outcome : Outcome) → asked_by command ≡ Err refusal
@@ -55,11 +56,11 @@ pub fn only_writes_change_documents()
     ensures views { (old new : State) (session : ℕ) (command : Command) (asked : Asked) (outcome : Outcome) → asked_by command ≡ Ok asked → makes asked ≡ false
         → MemoryStep old session command outcome new → new.catalog.views ≡ old.catalog.views }
     ensures created { (old new : State) (session : ℕ) (command : Command) (asked : Create) (outcome : Outcome) → asked_by command ≡ Ok (create asked)
-        → MemoryStep old session command outcome new → (namespace : List ℕ) → documents_of namespace new.catalog.namespaces ≡ documents_of namespace old.catalog.namespaces }
+        → MemoryStep old session command outcome new → (namespace : List ℕ) → HasSameDocuments namespace old new }
     ensures dropped { (old new : State) (session : ℕ) (command : Command) (asked : Drop) (outcome : Outcome) → asked_by command ≡ Ok (drop asked)
-        → MemoryStep old session command outcome new → (namespace : List ℕ) → bytes_eq asked.namespace namespace ≡ false → documents_of namespace new.catalog.namespaces ≡ documents_of namespace old.catalog.namespaces }
+        → MemoryStep old session command outcome new → (namespace : List ℕ) → bytes_eq asked.namespace namespace ≡ false → HasSameDocuments namespace old new }
     ensures indexed { (old new : State) (session : ℕ) (command : Command) (asked : Asked) (outcome : Outcome) → asked_by command ≡ Ok asked → indexes asked ≡ true
-        → MemoryStep old session command outcome new → (new.catalog.views ≡ old.catalog.views) × ((namespace : List ℕ) → documents_of namespace new.catalog.namespaces ≡ documents_of namespace old.catalog.namespaces) }
+        → MemoryStep old session command outcome new → (new.catalog.views ≡ old.catalog.views) × ((namespace : List ℕ) → HasSameDocuments namespace old new) }
 {}
 
 /// If memory runs out for no view, a step leaves views as they are counted: so this is one of the steps that are allowed.
@@ -71,17 +72,18 @@ pub fn the_counted_step_is_allowed()
 /// Each view has its mark, and no other marks are there: so it is before the first command, and so after each command, each
 /// load and each end of a session.
 pub fn each_view_has_its_mark()
-    ensures before { length empty_store_state.marks ≡ length empty_store_state.catalog.views }
-    ensures after { (old new : State) (session : ℕ) (command : Command) (outcome : Outcome) → length old.marks ≡ length old.catalog.views
-        → MemoryStep old session command outcome new → length new.marks ≡ length new.catalog.views }
-    ensures loaded { (old new : State) (namespace : List ℕ) (d : List Field) → length old.marks ≡ length old.catalog.views → IsLoaded namespace d old new → length new.marks ≡ length new.catalog.views }
-    ensures ended { (session : ℕ) (state : State) → length state.marks ≡ length state.catalog.views → length (end_session session state).marks ≡ length (end_session session state).catalog.views }
+    ensures before { HasItsMarks empty_store_state }
+    ensures after { (old new : State) (session : ℕ) (command : Command) (outcome : Outcome) → HasItsMarks old
+        → MemoryStep old session command outcome new → HasItsMarks new }
+    ensures loaded { (old new : State) (namespace : List ℕ) (d : List Field) → HasItsMarks old → IsLoaded namespace d old new → HasItsMarks new }
+    ensures ended { (session : ℕ) (state : State) → HasItsMarks state → HasItsMarks (end_session session state) }
 {}
 
 /// A delete leaves some of the documents of each namespace, in their order, whatever it is answered.
 pub fn a_delete_leaves_a_part()
-    ensures { (old new : State) (session : ℕ) (command : Command) (asked : asking.Write) (outcome : Outcome) → asked_by command ≡ Ok (asking.write asked) → asked.kind ≡ Delete
-        → MemoryStep old session command outcome new → (namespace : List ℕ) → IsPart (documents_of namespace new.catalog.namespaces) (documents_of namespace old.catalog.namespaces) }
+    ensures { (old new : State) (session : ℕ) (command : Command) (asked : asking.Write) (outcome : Outcome) → asked_by command ≡ Ok (asking.write asked)
+        → asked.kind ≡ Delete → MemoryStep old session command outcome new → (namespace : List ℕ)
+        → IsPart (documents_of namespace new.catalog.namespaces) (documents_of namespace old.catalog.namespaces) }
 {}
 
 /// What every store keeps, whatever commands and loads bring: the documents of each namespace are in the order of their `_id`s, no
@@ -89,7 +91,8 @@ pub fn a_delete_leaves_a_part()
 /// index is in two of them. So it is before the first command, and so after each command, each load and each end of a session.
 pub fn states_stay_orderly()
     ensures before { IsOrderly empty_store_state }
-    ensures after { (old new : State) (session : ℕ) (command : Command) (outcome : Outcome) → IsOrderly old → MemoryStep old session command outcome new → IsOrderly new }
+    ensures after { (old new : State) (session : ℕ) (command : Command) (outcome : Outcome) → IsOrderly old
+        → MemoryStep old session command outcome new → IsOrderly new }
     ensures loaded { (old new : State) (namespace : List ℕ) (d : List Field) → IsOrderly old → IsLoaded namespace d old new → IsOrderly new }
     ensures ended { (session : ℕ) (state : State) → IsOrderly state → IsOrderly (end_session session state) }
 {
@@ -146,8 +149,10 @@ pub fn states_stay_sound()
 /// under a namespace are valid then; that to one that ran out of memory, also if it was cut among its statements; and that to one
 /// that is refused.
 pub fn replies_have_a_spelling()
-    ensures answered { (state : State) (session : ℕ) (command : Command) (asked : Asked) → IsSoundCommand command → IsSound state → asked_by command ≡ Ok asked → HasSpelling (step state session command).reply }
-    ensures wanting { (old new : State) (session : ℕ) (command : Command) (reply : List Field) → IsSoundCommand command → MemoryStep old session command (Wanting reply) new → HasSpelling reply }
+    ensures answered { (state : State) (session : ℕ) (command : Command) (asked : Asked) → IsSoundCommand command → IsSound state
+        → asked_by command ≡ Ok asked → HasSpelling (step state session command).reply }
+    ensures wanting { (old new : State) (session : ℕ) (command : Command) (reply : List Field) → IsSoundCommand command
+        → MemoryStep old session command (Wanting reply) new → HasSpelling reply }
     ensures rows { (state : State) → IsSound state → (namespace : List ℕ) → AreSpellable (rows_of namespace state.catalog) }
     ensures refused { (refusal : Refusal) → IsTold refusal → HasSpelling (refusal_reply refusal) }
 {
@@ -172,15 +177,19 @@ pub fn an_ordered_write_ends_at_its_first_error()
 pub fn a_cursors_batches_are_a_front()
     ensures find { (before : List Move) (session : ℕ) (command : Command) (asked : Find) → asked_by command ≡ Ok (find asked)
         → let state = state_behind_all before empty_store_state in
-        Shows session asked.namespace asked.batch_size asked.single_batch (scan asked.filter asked.sort asked.skip asked.limit (rows_of asked.namespace state.catalog)) state (step state session command) }
+        Shows session asked.namespace asked.batch_size asked.single_batch
+        (scan asked.filter asked.sort asked.skip asked.limit (rows_of asked.namespace state.catalog)) state (step state session command) }
     ensures pipeline { (before : List Move) (session : ℕ) (command : Command) (asked : Aggregate) → asked_by command ≡ Ok (aggregate asked)
         → let state = state_behind_all before empty_store_state in
         Shows session asked.namespace asked.batch_size false (aggregated asked.stages asked.namespace state.catalog) state (step state session command) }
-    ensures replies { (state : State) (session id : ℕ) (command : Command) (asked : GetMore) (rows : List (List Field)) → asked_by command ≡ Ok (get_more asked) → asked.id ≡ pos id
-        → rows_to_come session asked.namespace id state.cursors ≡ Some rows
-        → (step state session command).reply ≡ next_batch_reply asked.namespace (if tells_last session id (carries session command) state then 0 else id) (map document_of (rows_told session id (carries session command) state)) }
+    ensures replies { (state : State) (session id : ℕ) (command : Command) (asked : GetMore) (rows : List (List Field)) → asked_by command ≡ Ok (get_more asked)
+        → asked.id ≡ pos id → rows_to_come session asked.namespace id state.cursors ≡ Some rows
+        → (step state session command).reply
+        ≡ next_batch_reply asked.namespace (if tells_last session id (carries session command) state then 0 else id)
+        (map document_of (rows_told session id (carries session command) state)) }
     ensures moves { (old new : State) (session : ℕ) (command : Command) (outcome : Outcome) → MemoryStep old session command outcome new
-        → (new ≡ state_behind_all (carries session command ∷ stands new.marks ∷ []) old) ⊎ ((catalog : stored.State) × (new ≡ state_behind_all (wants catalog ∷ stands new.marks ∷ []) old)) }
+        → (new ≡ state_behind_all (carries session command ∷ stands new.marks ∷ []) old)
+        ⊎ ((catalog : stored.State) × (new ≡ state_behind_all (wants catalog ∷ stands new.marks ∷ []) old)) }
 {
     dv_cursor::laws::a_batch_is_a_front();
     dv_cursor::laws::a_change_leaves_other_cursors();
@@ -195,13 +204,16 @@ pub fn the_end_of_a_session_leaves_documents()
 /// refused, an insert on a view is refused for that, and any other one reports that error of its statement. The text that names a
 /// namespace is the namespace.
 pub fn a_load_is_an_insert_of_one_document()
-    ensures stored { (state new : State) (session : ℕ) (command : Command) (asked : asking.Write) (d : List Field) → asked_by command ≡ Ok (asking.write asked) → asked.kind ≡ Insert → asked.entries ≡ d ∷ []
-        → insert_alone asked.namespace d state ≡ Ok new → step state session command ≡ record { reply = write_reply 1 []; state = new } }
-    ensures refused { (state : State) (session : ℕ) (command : Command) (asked : asking.Write) (d : List Field) (refusal : Refusal) → asked_by command ≡ Ok (asking.write asked) → asked.kind ≡ Insert → asked.entries ≡ d ∷ []
+    ensures stored { (state new : State) (session : ℕ) (command : Command) (asked : asking.Write) (d : List Field)
+        → asked_by command ≡ Ok (asking.write asked) → asked.kind ≡ Insert → asked.entries ≡ d ∷ [] → insert_alone asked.namespace d state ≡ Ok new
+        → step state session command ≡ record { reply = write_reply 1 []; state = new } }
+    ensures refused { (state : State) (session : ℕ) (command : Command) (asked : asking.Write) (d : List Field) (refusal : Refusal)
+        → asked_by command ≡ Ok (asking.write asked) → asked.kind ≡ Insert → asked.entries ≡ d ∷ []
         → is_view asked.namespace state.catalog.views ≡ false → insert_alone asked.namespace d state ≡ Err refusal
         → step state session command ≡ record { reply = write_reply 0 (document_of (write_error 0 refusal) ∷ []); state = state } }
     ensures on_view { (state : State) (session : ℕ) (command : Command) (asked : asking.Write) (d : List Field) → asked_by command ≡ Ok (asking.write asked)
-        → is_view asked.namespace state.catalog.views ≡ true → (insert_alone asked.namespace d state ≡ Err OnView) × (step state session command ≡ record { reply = refusal_reply OnView; state = state }) }
+        → is_view asked.namespace state.catalog.views ≡ true → (insert_alone asked.namespace d state ≡ Err OnView)
+        × (step state session command ≡ record { reply = refusal_reply OnView; state = state }) }
     ensures named { (text namespace : List ℕ) → namespace_in text ≡ Ok namespace → namespace ≡ text }
 {}
 
@@ -263,6 +275,8 @@ pub fn wants_by_example()
 /// A row over the limits refuses the command, wherever it is, also after the first batch; that there is no room for a cursor is
 /// reported before it.
 pub fn each_row_is_within_the_limits()
-    ensures refused { (session count : ℕ) (single : Bool) (namespace : List ℕ) (rows : List (List Field)) (cursors : Cursors) → are_too_large rows ≡ true → IsSome (free_id cursors) → first_batch session namespace count single rows cursors ≡ Err TooLarge }
-    ensures behind { (session count : ℕ) (namespace : List ℕ) (row : List Field) (rows rest : List (List Field)) (cursors : Cursors) → rows_behind count rows ≡ row ∷ rest → free_id cursors ≡ None → first_batch session namespace count false rows cursors ≡ Err LimitReached }
+    ensures refused { (session count : ℕ) (single : Bool) (namespace : List ℕ) (rows : List (List Field)) (cursors : Cursors)
+        → are_too_large rows ≡ true → IsSome (free_id cursors) → first_batch session namespace count single rows cursors ≡ Err TooLarge }
+    ensures behind { (session count : ℕ) (namespace : List ℕ) (row : List Field) (rows rest : List (List Field)) (cursors : Cursors)
+        → rows_behind count rows ≡ row ∷ rest → free_id cursors ≡ None → first_batch session namespace count false rows cursors ≡ Err LimitReached }
 {}

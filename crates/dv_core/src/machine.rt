@@ -46,16 +46,13 @@ impl Model for Machine {
 }
 
 impl Machine {
-    ghost use Rattle.std.specs.Prelude.{◌≡◌, ◌<◌, ◌^◌, ℕ, [], Ok, IfErr, IfOk, OnErr, OnOk};
-    ghost use Rattle.dv_cursor.specs.Cursors.{Cursors as CursorsSeen};
+    ghost use Rattle.std.specs.Prelude.{◌≡◌, ◌<◌, ◌^◌, Ok, IfErr, IfOk, OnErr, OnOk};
     ghost use Rattle.dv_value.specs.declared.fault.BsonFault.TheVariants.{NoMemory};
-    ghost use Rattle.dv_catalog.specs.Marks.{AreMarkedByDrop, marks_made, names_of_new, stored_of};
-    ghost use Rattle.dv_catalog.specs.Inner.Parts.{StandMade, StandSo};
-    ghost use Rattle.dv_catalog.specs.Views as views;
+    ghost use Rattle.dv_catalog.specs.Marks.{AreMarkedByDrop, stored_of};
+    ghost use Rattle.dv_catalog.specs.Inner.Parts.{StandCreated, StandSo};
     ghost use Rattle.dv_command.specs.declared.command.Command.TheVariants.{Invalid};
     ghost use Rattle.dv_refusal.specs.Refusals.{UnlessWanting};
     ghost use Rattle.dv_command.specs.Asked as asking;
-    ghost use Rattle.dv_command.specs.Replies as replies;
     ghost use Rattle.dv_command.specs.Inner.View.{aggregate_seen, create_indexes_seen, create_seen, drop_indexes_seen, drop_seen, explain_seen, find_seen, get_more_seen, kill_cursors_seen, view_stats_seen, write_seen};
     ghost use Rattle.dv_core.specs.Find as finding;
     ghost use Rattle.dv_core.specs.Indexes as indexing;
@@ -64,8 +61,8 @@ impl Machine {
     ghost use Rattle.dv_core.specs.Sound.{AreWithinLimits};
     ghost use Rattle.dv_core.specs.State.{empty_store_state, marked, standing};
     ghost use Rattle.dv_core.specs.Stats as telling;
-    ghost use Rattle.dv_core.specs.Step.{MemoryStep, TellsOfWant, end_session, replying};
-    ghost use Rattle.dv_core.specs.Inner.StepParts.{Ends, GivesAndLeaves, LoadsOne, StandRead, reply_told};
+    ghost use Rattle.dv_core.specs.Step.{MemoryStep, TellsOfWant, end_session};
+    ghost use Rattle.dv_core.specs.Inner.StepParts.{AreAnsweredAlike, Ends, GivesAndLeaves, GivesBatch, LoadsOne, StandRead, reply_to_create, reply_to_drop};
     ghost use Rattle.dv_core.specs.Told.{HasId, batch_told, outcome_told};
     ghost use Rattle.dv_core.specs.Inner.WriteParts.{WritesOn};
     ghost use Rattle.dv_core.specs.Writes.{write_by};
@@ -148,7 +145,7 @@ impl Machine {
     fn find(&mut self, session: u32, find: Find) -> Result<Batch, Refusal>
         requires { AreWithinLimits self.old }
         ensures catalog { self.new.catalog ≡ self.old.catalog }
-        ensures reply { GivesAndLeaves (finding.reply_to_find session (find_seen find) self.old.catalog self.old.cursors) self.old.cursors (reply_told result) self.new.cursors }
+        ensures reply { GivesBatch (finding.reply_to_find session (find_seen find) self.old.catalog) self.old.cursors result self.new.cursors }
         ensures id { IfOk result (λ batch. batch.id < 2 ^ 63) }
         ensures marks { StandRead (asking.find (find_seen find)) self.old result self.new.marks }
     {
@@ -173,7 +170,7 @@ impl Machine {
     /// the limits, for which the find would be refused.
     fn with_rows_needed(&self, mut find: Find) -> Find
         requires { AreWithinLimits self.now }
-        ensures reply { (session : ℕ) (cursors : CursorsSeen) → finding.reply_to_find session (find_seen result) self.now.catalog cursors ≡ finding.reply_to_find session (find_seen find) self.now.catalog cursors }
+        ensures reply { AreAnsweredAlike (find_seen result) (find_seen find) self.now.catalog }
         ensures namespace { (find_seen result).namespace ≡ (find_seen find).namespace }
     {
         if find.single_batch && !self.catalog.is_view(&find.namespace) {
@@ -185,7 +182,7 @@ impl Machine {
 
     fn aggregate(&mut self, session: u32, aggregate: Aggregate) -> Result<Batch, Refusal>
         ensures catalog { self.new.catalog ≡ self.old.catalog }
-        ensures reply { GivesAndLeaves (finding.reply_to_aggregate session (aggregate_seen aggregate) self.old.catalog self.old.cursors) self.old.cursors (reply_told result) self.new.cursors }
+        ensures reply { GivesBatch (finding.reply_to_aggregate session (aggregate_seen aggregate) self.old.catalog) self.old.cursors result self.new.cursors }
         ensures id { IfOk result (λ batch. batch.id < 2 ^ 63) }
         ensures marks { StandRead (asking.aggregate (aggregate_seen aggregate)) self.old result self.new.marks }
     {
@@ -206,7 +203,7 @@ impl Machine {
 
     fn get_more(&mut self, session: u32, asked: GetMore) -> Result<Batch, Refusal>
         ensures catalog { self.new.catalog ≡ self.old.catalog }
-        ensures reply { GivesAndLeaves (more.next_batch session (get_more_seen asked) self.old.cursors) self.old.cursors (reply_told result) self.new.cursors }
+        ensures reply { GivesBatch (more.next_batch session (get_more_seen asked)) self.old.cursors result self.new.cursors }
         ensures id { IfOk result (λ batch. batch.id < 2 ^ 63) }
         ensures marks { self.new.marks ≡ self.old.marks }
     {
@@ -223,8 +220,8 @@ impl Machine {
 
     fn create(&mut self, create: Create) -> Result<Document, Refusal>
         ensures cursors { self.new.cursors ≡ self.old.cursors }
-        ensures reply { let asked = create_seen create in GivesAndLeaves (replying (replies.reply_of []) (views.created asked.namespace asked.view self.old.catalog)) self.old.catalog result self.new.catalog }
-        ensures marks { let view = (create_seen create).view in StandMade (names_of_new view) (marks_made view self.old.catalog.views self.old.marks) (marked self.old) result self.new.marks }
+        ensures reply { GivesAndLeaves (reply_to_create (create_seen create) self.old.catalog) self.old.catalog result self.new.catalog }
+        ensures marks { StandCreated (create_seen create).view (marked self.old) result self.new.marks }
     {
         // Behind the change nothing may want memory.
         let reply = reply_of(Document::new(self.alloc))?;
@@ -234,7 +231,7 @@ impl Machine {
 
     fn drop_namespace(&mut self, drop: DropNamespace) -> Result<Document, Refusal>
         ensures cursors { self.new.cursors ≡ self.old.cursors }
-        ensures reply { let asked = drop_seen drop in GivesAndLeaves (replying (replies.drop_reply asked.namespace) (views.dropped asked.namespace self.old.catalog)) self.old.catalog result self.new.catalog }
+        ensures reply { GivesAndLeaves (reply_to_drop (drop_seen drop) self.old.catalog) self.old.catalog result self.new.catalog }
         ensures marks { StandSo (AreMarkedByDrop (drop_seen drop).namespace self.old.catalog self.old.marks) self.old.marks result self.new.marks }
     {
         let DropNamespace { namespace } = drop;

@@ -5,7 +5,7 @@ ghost use Rattle.std.specs.Option.{option_map};
 ghost use Rattle.dv_command.specs.Inner.View.{get_more_seen, kill_cursors_seen};
 ghost use Rattle.dv_core.specs.More as more;
 ghost use Rattle.dv_command.specs.Replies as replies;
-ghost use Rattle.dv_core.specs.Inner.StepParts.{Ends, GivesAndLeaves, reply_told};
+ghost use Rattle.dv_core.specs.Inner.StepParts.{Ends, GivesBatch};
 
 use crate::answers::{refuse, told};
 use crate::outcome::{Batch, Outcome};
@@ -23,7 +23,7 @@ pub(crate) fn next_batch(
     session: u32,
     asked: GetMore,
 ) -> Result<Batch, Refusal>
-    ensures reply { GivesAndLeaves (more.next_batch session (get_more_seen asked) cursors.old) cursors.old (reply_told result) cursors.new }
+    ensures reply { GivesBatch (more.next_batch session (get_more_seen asked)) cursors.old result cursors.new }
     ensures id { IfOk result (λ batch. batch.id < 2 ^ 63) }
 {
     let GetMore {

@@ -1,11 +1,11 @@
 //! Documents as they are stored.
 
-ghost use Rattle.std.specs.Prelude.{◌≡◌, ◌∷◌, Ok, Err, Some, IfOk, MatchResult, codes};
+ghost use Rattle.std.specs.Prelude.{◌≡◌, ◌∷◌, Some, IfOk, codes};
 ghost use Rattle.dv_value.specs.Names.{value_under, without};
 ghost use Rattle.dv_value.specs.View.{tree};
 ghost use Rattle.dv_coll.specs.Collection.{HasId};
 ghost use Rattle.dv_core.specs.Storable as stored;
-ghost use Rattle.dv_refusal.specs.Refusals.{UnlessWanting};
+ghost use Rattle.dv_refusal.specs.Refusals.{Returns, UnlessWanting};
 
 use dv_command::Refusal;
 use dv_command::replies::add;
@@ -36,7 +36,7 @@ pub(crate) fn storable(alloc: Global, document: &Document) -> Result<Document, R
 
 /// The value under `_id`. Refused with `BadValue` where there is none or it is an array.
 fn id_of(document: &Document) -> Result<&Value, Refusal>
-    ensures { MatchResult result (λ id. stored.id_in (value_under (codes "_id") document.now) ≡ Ok (tree id.now)) (λ refusal. stored.id_in (value_under (codes "_id") document.now) ≡ Err refusal) }
+    ensures { Returns (λ id. tree id.now) (stored.id_in (value_under (codes "_id") document.now)) result }
 {
     match document.get(ID) {
         None | Some(Value::Array(_)) => Err(Refusal::BadValue),

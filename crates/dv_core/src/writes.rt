@@ -6,9 +6,9 @@ ghost use Rattle.dv_value.specs.View.{tree};
 ghost use Rattle.dv_command.specs.Asked.{statement_limit};
 ghost use Rattle.dv_command.specs.Inner.View.{write_seen};
 ghost use Rattle.dv_core.specs.Statements.{is_due};
-ghost use Rattle.dv_catalog.specs.Inner.Parts.{Makes, StandBehind};
+ghost use Rattle.dv_catalog.specs.Inner.Parts.{MakesCounted, StandBehind};
 ghost use Rattle.dv_catalog.specs.State.{is_view};
-ghost use Rattle.dv_core.specs.Inner.WriteParts.{written_seen, outcome_of, NextStep, WritesOrCuts};
+ghost use Rattle.dv_core.specs.Inner.WriteParts.{WritesNext, WritesOrCuts, outcome_of};
 ghost use Rattle.dv_core.specs.Writes.{statement_of, write_by};
 
 use crate::next::Next;
@@ -93,7 +93,7 @@ fn write_next(
     requires room { written.old.statements < statement_limit }
     requires due { is_due ordered (map tree written.old.errors.items) ≡ true }
     requires collection { is_view namespace.now catalog.old.state.views ≡ false }
-    ensures step { NextStep namespace.now ordered catalog.old.state.views (written_seen written.old catalog.old.state.namespaces) (statement_of kind entry.now) catalog.old.marks result (written_seen written.new catalog.new.state.namespaces) catalog.new.marks }
+    ensures step { WritesNext namespace.now ordered (statement_of kind entry.now) written.old catalog.old result written.new catalog.new }
     ensures views { catalog.new.state.views ≡ catalog.old.state.views }
 {
     match write_one(alloc, catalog, kind, namespace, entry) {
@@ -118,7 +118,7 @@ fn write_one(
     entry: &Document,
 ) -> Result<Counted, Stopped>
     requires { is_view namespace.now catalog.old.state.views ≡ false }
-    ensures makes { Makes (λ counted. counted) namespace.now (statement_of kind entry.now) catalog.old.state.namespaces result catalog.new.state.namespaces }
+    ensures makes { MakesCounted namespace.now (statement_of kind entry.now) catalog.old result catalog.new }
     ensures views { catalog.new.state.views ≡ catalog.old.state.views }
     ensures marks { StandBehind namespace.now (statement_of kind entry.now) catalog.old result catalog.new.marks }
 {

@@ -1,14 +1,19 @@
 -- What the parts of a step give.
-use Rattle.std.specs.Prelude.{◌≡◌, ◌≢◌, ◌⊎◌, ℕ, List, Result, Ok, Err, ⊤}
+use Rattle.std.specs.Prelude.{◌≡◌, ◌≢◌, ◌⊎◌, ℕ, List, [], Result, Ok, Err, ⊤}
 use Rattle.dv_value.specs.Tree.{Field}
 use Rattle.dv_refusal.specs.declared.refusal.Refusal.{Refusal}
 use Rattle.dv_refusal.specs.declared.refusal.Refusal.TheVariants.{WantOfMemory}
-use Rattle.dv_command.specs.Asked.{Asked}
-use Rattle.dv_command.specs.Replies.{refusal_reply}
+use Rattle.dv_command.specs.Asked.{Asked, Create, Drop, Find}
+use Rattle.dv_command.specs.Replies.{drop_reply, refusal_reply, reply_of}
+use Rattle.dv_cursor.specs.Cursors.{Cursors}
 use Rattle.dv_catalog.specs.Marks.{ArePartlyRead, Marks}
+use Rattle.dv_catalog.specs.State as stored
+use Rattle.dv_catalog.specs.Views.{created, dropped}
+use Rattle.dv_core.specs.Find.{reply_to_find}
 use Rattle.dv_core.specs.Load.{IsLoaded, loaded}
 use Rattle.dv_core.specs.Marks.{marks_where_read, read_by}
 use Rattle.dv_core.specs.State.{State}
+use Rattle.dv_core.specs.Step.{replying}
 use Rattle.dv_core.specs.Told.{batch_told}
 use Rattle.dv_core.specs.declared.outcome.Batch.{Batch}
 use Rattle.dv_core.specs.declared.outcome.Outcome.{Outcome}
@@ -37,6 +42,22 @@ reply_told (Err refusal) = Err refusal
 abbrev pub GivesAndLeaves : {S : Type 0} → Result (List Field × S) Refusal → S → Result (List Field) Refusal → S → Type 0
 GivesAndLeaves defined old (Ok reply) new = defined ≡ Ok (reply, new)
 GivesAndLeaves defined old (Err refusal) new = ((defined ≡ Err refusal) ⊎ (refusal ≡ WantOfMemory)) × (new ≡ old)
+
+-- the same of a command that is answered with a batch and changes cursors
+abbrev pub GivesBatch : (Cursors → Result (List Field × Cursors) Refusal) → Cursors → Result Batch Refusal → Cursors → Type 0
+GivesBatch defined old result new = GivesAndLeaves (defined old) old (reply_told result) new
+
+-- the reply to a create, and the collections and views after it
+abbrev pub reply_to_create : Create → stored.State → Result (List Field × stored.State) Refusal
+reply_to_create asked state = replying (reply_of []) (created asked.namespace asked.view state)
+
+-- the reply to a drop, and the collections and views after it
+abbrev pub reply_to_drop : Drop → stored.State → Result (List Field × stored.State) Refusal
+reply_to_drop asked state = replying (drop_reply asked.namespace) (dropped asked.namespace state)
+
+-- two finds get the same reply in each session, whatever cursors there are
+abbrev pub AreAnsweredAlike : Find → Find → stored.State → Type 0
+AreAnsweredAlike one other state = (session : ℕ) (cursors : Cursors) → reply_to_find session one state cursors ≡ reply_to_find session other state cursors
 
 -- a command whose reply may find no memory behind what it changes: it is carried out, be its reply given or not; or it is refused
 abbrev pub TellsOrNot : List Field → Outcome → Type 0

@@ -84,6 +84,11 @@ module _ (namespace : List ℕ) (ordered : Bool) (views : List ViewForm) where
   NextStep so_far statement before (Ok Cut) now after = CutsNext so_far statement before now after
   NextStep so_far statement before (Err e) now after = (cuts : Written) × CutsNext so_far statement before cuts after × (now.namespaces ≡ cuts.namespaces)
 
+-- the same of the store, and of what statements did so far in memory
+abbrev pub WritesNext : List ℕ → Bool → Statement → declared.Written → Marked → Result Next AllocError → declared.Written → Marked → Type 0
+WritesNext namespace ordered statement so_far old result now new =
+    NextStep namespace ordered old.state.views (written_seen so_far old.state.namespaces) statement old.marks result (written_seen now new.state.namespaces) new.marks
+
 -- the statements of a write as they are defined
 pub record CarriesOutWrite (write : WriteCounts) (old new : Marked) : Type 0 where
   pub leaves : new.state.namespaces ≡ (carry_out write old.state.namespaces).namespaces
