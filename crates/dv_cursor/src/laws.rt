@@ -41,11 +41,16 @@ pub fn ids_are_given_once()
 /// others.
 pub fn a_change_leaves_other_cursors()
     ensures added { (session id other : ℕ) (namespace : List ℕ) (rows : List (List Field)) (cursors : Cursors)
-        → finite.get (added other namespace rows cursors).kept (session, id) ≡ (if is_cursor_place other cursors.next session id then Some (record { namespace = namespace; rows = rows }) else finite.get cursors.kept (session, id)) }
+        → finite.get (added other namespace rows cursors).kept (session, id)
+        ≡ (if is_cursor_place other cursors.next session id then Some (record { namespace = namespace; rows = rows })
+        else finite.get cursors.kept (session, id)) }
     ensures advanced { (session id other number count : ℕ) (cursors : Cursors)
-        → finite.get (advanced other number count cursors).kept (session, id) ≡ (if is_cursor_place other number session id then cursor_behind count (finite.get cursors.kept (other, number)) else finite.get cursors.kept (session, id)) }
+        → finite.get (advanced other number count cursors).kept (session, id)
+        ≡ (if is_cursor_place other number session id then cursor_behind count (finite.get cursors.kept (other, number))
+        else finite.get cursors.kept (session, id)) }
     ensures closed { (session id other number : ℕ) (cursors : Cursors)
-        → finite.get (closed other number cursors).kept (session, id) ≡ (if is_cursor_place other number session id then None else finite.get cursors.kept (session, id)) }
+        → finite.get (closed other number cursors).kept (session, id)
+        ≡ (if is_cursor_place other number session id then None else finite.get cursors.kept (session, id)) }
     ensures ended { (session id other : ℕ) (cursors : Cursors)
         → finite.get (without_session other cursors).kept (session, id) ≡ (if session == other then None else finite.get cursors.kept (session, id)) }
     ensures next { (session id count : ℕ) (cursors : Cursors) → (advanced session id count cursors).next ≡ cursors.next }

@@ -14,7 +14,8 @@ pub fn a_script_is_a_schedule()
     ensures line { (old new : OpenSessions) (line : Line) (text : List ℕ) → DoesOneLine old line text new
         → (all : List Said) × Plays old.hub (events_of old line) all new.hub × TellsEvents line all text }
     ensures script { (old new : OpenSessions) (script text : List ℕ) → (runs : Runs old script text new)
-        → (all : List Said) × Plays old.hub (schedule_of old new (slice_split is_lf script) text runs) all new.hub × TellsLines old new (slice_split is_lf script) text runs all }
+        → (all : List Said) × Plays old.hub (schedule_of old new (slice_split is_lf script) text runs) all new.hub
+        × TellsLines old new (slice_split is_lf script) text runs all }
 {
     dv_wire::laws::schedules_may_be_joined();
 }
