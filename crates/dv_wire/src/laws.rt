@@ -46,8 +46,8 @@ pub fn cuts_do_not_matter()
 /// left: the whole piece may answer what its two parts may answer one after the other, and what is said of the second part may be
 /// said of the whole.
 pub fn a_piece_may_come_in_two()
-    ensures { (old new : World) (before after : List Event) (session : SessionId) (piece more : List ℕ) (answers behind : List Said) (told : Fed) (bytes : List ℕ) → length before ≡ length answers
-        → Plays old (before ++ events.Piece session (piece ++ more) ∷ after) (answers ++ said.Fed told bytes ∷ behind) new
+    ensures { (old new : World) (before after : List Event) (session : SessionId) (piece more : List ℕ) (answers behind : List Said) (told : Fed) (bytes : List ℕ)
+        → length before ≡ length answers → Plays old (before ++ events.Piece session (piece ++ more) ∷ after) (answers ++ said.Fed told bytes ∷ behind) new
         ↔ ComesInTwo old before session piece more after answers told bytes behind new }
 {
     splitting_goes_on();
@@ -82,7 +82,8 @@ pub fn a_whole_session_is_a_schedule()
 /// leave the same state, however their bytes are cut and interleaved. Such a run is one of those that are allowed.
 pub fn only_the_order_counts()
     ensures state { (world : World) (all : List Event) → (plain_play world all).world.state ≡ state_left world.state (order world.next world.sessions all) }
-    ensures answers { (session : ℕ) (world : World) (all : List Event) → answers session all (plain_play world all).said ≡ replies_behind session world.state (order world.next world.sessions all) }
+    ensures answers { (session : ℕ) (world : World) (all : List Event)
+        → answers session all (plain_play world all).said ≡ replies_behind session world.state (order world.next world.sessions all) }
     ensures equal { (world : World) (one two : List Event) → order world.next world.sessions one ≡ order world.next world.sessions two
         → ((plain_play world one).world.state ≡ (plain_play world two).world.state)
         × ((session : ℕ) → answers session one (plain_play world one).said ≡ answers session two (plain_play world two).said) }
@@ -101,7 +102,8 @@ pub fn a_play_without_want_of_memory_is_the_plain_one()
     ensures order { (old new : World) (all : List Event) (told : List Said) → PlaysBy LiveStep old all told new → AllByRecursion (λ s. SaysWant s → ⊥) told
         → (new.state ≡ state_left old.state (order old.next old.sessions all))
         × ((session : ℕ) → answers session all told ≡ replies_behind session old.state (order old.next old.sessions all)) }
-    ensures such { (world : World) (all : List Event) → AreAllLive world.state.marks → PlaysBy LiveStep world all (plain_play world all).said (plain_play world all).world }
+    ensures such { (world : World) (all : List Event) → AreAllLive world.state.marks
+        → PlaysBy LiveStep world all (plain_play world all).said (plain_play world all).world }
 {
     dv_core::laws::the_counted_step_is_allowed();
 }
@@ -133,17 +135,20 @@ pub fn the_plain_run_is_allowed()
 /// What moreToCome leaves unanswered was done: if a session goes on after such a message, the message was carried out by its step,
 /// and nothing is answered. The states of views after it are left open here, as memory may have run out for one.
 pub fn what_is_untold_is_done()
-    ensures { (session : ℕ) (old : State) (message : wire.Message) (kept : List ℕ) (run : Run) → message.more_to_come ≡ true → CarriesOutMessages session old (message ∷ []) (wire.reading kept) run
-        → run.conversation ≡ wire.reading kept → run ≡ unanswered (standing run.state.marks (step old session (command_of message)).state) (wire.reading kept) }
+    ensures { (session : ℕ) (old : State) (message : wire.Message) (kept : List ℕ) (run : Run) → message.more_to_come ≡ true
+        → CarriesOutMessages session old (message ∷ []) (wire.reading kept) run → run.conversation ≡ wire.reading kept
+        → run ≡ unanswered (standing run.state.marks (step old session (command_of message)).state) (wire.reading kept) }
 {}
 
 /// No number is used again: sessions ascend by their numbers, which are below the next one. So it is before the first session is
 /// opened, and so after each event, and the next number grows if a session is opened and otherwise stays.
 pub fn numbers_are_never_used_again()
     ensures before { (state : State) → IsNumbered (world_of state) }
-    ensures opened { (old new : World) (session : SessionId) → IsNumbered old → Opens old (Ok session) new → IsNumbered new × (session.number ≡ old.next) × (new.next ≡ suc old.next) }
+    ensures opened { (old new : World) (session : SessionId) → IsNumbered old → Opens old (Ok session) new
+        → IsNumbered new × (session.number ≡ old.next) × (new.next ≡ suc old.next) }
     ensures refused { (old new : World) (fault : HubFault) → Opens old (Err fault) new → new ≡ old }
-    ensures fed { (old new : World) (session : ℕ) (piece bytes : List ℕ) (answer : Fed) → IsNumbered old → Feeds old session piece bytes answer new → IsNumbered new × (new.next ≡ old.next) }
+    ensures fed { (old new : World) (session : ℕ) (piece bytes : List ℕ) (answer : Fed) → IsNumbered old
+        → Feeds old session piece bytes answer new → IsNumbered new × (new.next ≡ old.next) }
     ensures ended { (old : World) (session : ℕ) → IsNumbered old → IsNumbered (end session old) × ((end session old).next ≡ old.next) }
 {}
 
@@ -168,8 +173,8 @@ pub fn sessions_keep_to_themselves()
 pub fn only_open_sessions_change_documents()
     ensures opened { (old new : World) (result : Result SessionId HubFault) → Opens old result new → new.state ≡ old.state }
     ensures ended { (old : World) (session : ℕ) → (end session old).state.catalog ≡ old.state.catalog }
-    ensures closed { (old new : World) (session : ℕ) (piece bytes : List ℕ) (answer : Fed) (fault : CloseFault) → conversation_of session old.sessions ≡ Some (wire.closed fault)
-        → Feeds old session piece bytes answer new
+    ensures closed { (old new : World) (session : ℕ) (piece bytes : List ℕ) (answer : Fed) (fault : CloseFault)
+        → conversation_of session old.sessions ≡ Some (wire.closed fault) → Feeds old session piece bytes answer new
         → (bytes ≡ []) × (answer ≡ fed.Closed fault) × (new.state ≡ old.state) × (conversation_of session new.sessions ≡ Some (wire.closed fault)) }
     ensures unknown { (old new : World) (session : ℕ) (piece bytes : List ℕ) (answer : Fed) → conversation_of session old.sessions ≡ None
         → Feeds old session piece bytes answer new → (bytes ≡ []) × (answer ≡ fed.Unknown) × (new ≡ old) }
@@ -180,7 +185,8 @@ pub fn only_open_sessions_change_documents()
 pub fn worlds_stay_sound()
     ensures before { (state : State) → IsSound state → IsSoundWorld (world_of state) }
     ensures opened { (old new : World) (session : SessionId) → IsSoundWorld old → Opens old (Ok session) new → IsSoundWorld new }
-    ensures fed { (old new : World) (session : ℕ) (piece bytes : List ℕ) (answer : Fed) → IsSoundWorld old → IsBytes piece → Feeds old session piece bytes answer new → IsSoundWorld new }
+    ensures fed { (old new : World) (session : ℕ) (piece bytes : List ℕ) (answer : Fed) → IsSoundWorld old → IsBytes piece
+        → Feeds old session piece bytes answer new → IsSoundWorld new }
     ensures ended { (old : World) (session : ℕ) → IsSoundWorld old → IsSoundWorld (end session old) }
 {
     bytes_bring_bytes();

@@ -81,7 +81,8 @@ fn serve<R: ByteIn, W: ByteOut>(
 ) -> Result<(Counts, Option<CloseFault>), RunFault>
     requires room { length piece.old ≡ 65536 }
     requires there { conversation_of session.number hub.old.sessions ≡ Some (reading []) }
-    ensures talked { TalksTo result session.number hub.old hub.new (R.remaining reader.old) (R.remaining reader.new) (W.contents writer.old) (W.contents writer.new) }
+    ensures talked { TalksTo result session.number hub.old hub.new
+        (R.remaining reader.old) (R.remaining reader.new) (W.contents writer.old) (W.contents writer.new) }
     ensures reader { R.failures reader.new ≡ failures_read_in result (R.failures reader.old) }
     ensures writer { W.failures writer.new ≡ failures_written_in result (W.failures writer.old) }
     ensures reads { AsksInRun result (R.reads reader.old) (R.reads reader.new) }

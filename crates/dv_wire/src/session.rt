@@ -9,7 +9,7 @@ ghost use Rattle.dv_core.specs.Step.{MemoryStep};
 ghost use Rattle.dv_core.specs.Told.{outcome_told};
 ghost use Rattle.dv_message.specs.Message.{message_spelling, split, stream_front};
 ghost use Rattle.dv_message.specs.Inner.View.{front_seen, message_seen};
-ghost use Rattle.dv_wire.specs.Inner.View.{kept_or_closed, left_or_closed, body_seen, bytes_seen, Answered, Carries};
+ghost use Rattle.dv_wire.specs.Inner.View.{Answered, Carries, RunAnswered, body_seen, bytes_seen, kept_or_closed, left_or_closed};
 
 use crate::hub::Fed;
 use crate::reply::Body;
@@ -99,7 +99,7 @@ pub(crate) struct Session {
 impl Session {
     ghost use Rattle.dv_wire.specs.Schedule.{Hears, fed_of};
     ghost use Rattle.dv_wire.specs.View.{conversation_seen};
-    ghost use Rattle.dv_wire.specs.Inner.View.{Answered};
+    ghost use Rattle.dv_wire.specs.Inner.View.{RunAnswered};
 
     /// Takes the next piece of the session's bytes. A closed session takes none.
     pub(crate) fn hear(
@@ -110,7 +110,8 @@ impl Session {
         out: &mut Vec<u8>,
         counts: &mut Counts,
     ) -> Fed
-        ensures heard { Answered out.old.items out.new.items counts.old counts.new (λ answers. Hears self.old.number store.old (conversation_seen self.old.conversation) piece.now (record { answers = answers; state = store.new; conversation = conversation_seen self.new.conversation })) }
+        ensures heard { RunAnswered out.old.items out.new.items counts.old counts.new store.new (conversation_seen self.new.conversation)
+            (Hears self.old.number store.old (conversation_seen self.old.conversation) piece.now) }
         ensures answer { result ≡ fed_of (conversation_seen self.new.conversation) }
         ensures number { self.new.number ≡ self.old.number }
     {
@@ -145,7 +146,8 @@ fn take_in(
     out: &mut Vec<u8>,
     counts: &mut Counts,
 ) -> Result<(), CloseFault>
-    ensures { Answered out.old.items out.new.items counts.old counts.new (λ answers. TakesSplit session store.old (split (kept.old.items ++ piece.now)) (record { answers = answers; state = store.new; conversation = kept_or_closed result kept.new.items })) }
+    ensures { RunAnswered out.old.items out.new.items counts.old counts.new store.new (kept_or_closed result kept.new.items)
+        (TakesSplit session store.old (split (kept.old.items ++ piece.now))) }
 {
     keep(store, kept, piece)?;
     let taken = carry_out_all(alloc, store, session, shapes, kept, out, counts)?;
@@ -192,7 +194,8 @@ fn carry_out_all(
     counts: &mut Counts,
 ) -> Result<usize, CloseFault>
     ensures taken { IfOk result (λ taken. taken ≤ length stream.now) }
-    ensures carried { Answered out.old.items out.new.items counts.old counts.new (λ answers. TakesSplit session store.old (split stream.now) (record { answers = answers; state = store.new; conversation = left_or_closed result stream.now })) }
+    ensures carried { RunAnswered out.old.items out.new.items counts.old counts.new store.new (left_or_closed result stream.now)
+        (TakesSplit session store.old (split stream.now)) }
 {
     laws::streams_split_by_their_fronts();
     let mut rest = stream;
@@ -235,7 +238,8 @@ fn carry_out(
     out: &mut Vec<u8>,
     counts: &mut Counts,
 ) -> Result<(), NoMemory>
-    ensures { Answered out.old.items out.new.items counts.old counts.new (λ answers. Carries session store.old (message_seen message.now) answers store.new result) }
+    ensures { Answered out.old.items out.new.items counts.old counts.new
+        (λ answers. Carries session store.old (message_seen message.now) answers store.new result) }
 {
     let outcome = step(alloc, store, session, shapes, message);
     counts.messages = counts.messages.saturating_add(1);

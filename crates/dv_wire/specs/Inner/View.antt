@@ -62,6 +62,11 @@ Counted before answers after =
 abbrev pub Answered : List ℕ → List ℕ → Counts → Counts → (List (List ℕ) → Type 0) → Type 0
 Answered old new before after AreAnswered = (answers : List (List ℕ)) × (new ≡ old ++ concat answers) × Counted before answers after × AreAnswered answers
 
+-- the same of a run, with these answers, that leaves this state and this conversation
+abbrev pub RunAnswered : List ℕ → List ℕ → Counts → Counts → State → Conversation → (Run → Type 0) → Type 0
+RunAnswered old new before after state conversation IsRun =
+    Answered old new before after (λ answers. IsRun (record { answers = answers; state = state; conversation = conversation }))
+
 -- ---- a whole session, while it is open
 
 -- the session takes what is read, and its answers are written, all but the last of them that are left unwritten
