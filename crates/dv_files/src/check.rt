@@ -81,7 +81,8 @@ pub fn check<R: ByteIn, W: TextOut>(
     ensures refused { (number at : ℕ) (fault : BsonFault) → result ≡ Err (CheckFault.Document number at fault)
         → IfSome (R.remaining reader.old) (λ file. FirstFault file number at fault × (length file ≤ 1073741824)) }
     ensures large { result ≡ Err CheckFault.TooLarge → IfSome (R.remaining reader.old) (λ file. 1073741824 < length file) }
-    ensures tried { result ≡ Err CheckFault.Write → IfSome (R.remaining reader.old) (λ file. (documents : List (List Field)) × Holds documents file × (length file ≤ 1073741824)) }
+    ensures tried { result ≡ Err CheckFault.Write → IfSome (R.remaining reader.old) (λ file. (documents : List (List Field))
+        × Holds documents file × (length file ≤ 1073741824)) }
     ensures unwritten { IfErr result (λ e. (e ≡ CheckFault.Write) ⊎ Keeps (W.contents writer.old) (W.contents writer.new)) }
     ensures reader { R.failures reader.new ≡ failures_told check_read_failed result (R.failures reader.old) }
     ensures writer { W.failures writer.new ≡ failures_told check_write_failed result (W.failures writer.old) }

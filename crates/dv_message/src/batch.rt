@@ -30,7 +30,8 @@ pub fn append_batch(
     rows: &[Document],
     out: &mut Vec<u8>,
 ) -> Result<(), NoMemory>
-    ensures ok { OnOk result (out.new.items ≡ out.old.items ++ message_spelling 0 request_id 0 (0 ∷ spelling (batch_reply name.now namespace.now id (map document_of rows.now)))) }
+    ensures ok { OnOk result (out.new.items ≡ out.old.items
+        ++ message_spelling 0 request_id 0 (0 ∷ spelling (batch_reply name.now namespace.now id (map document_of rows.now)))) }
     ensures err { OnErr result (out.new.items ≡ out.old.items) }
 {
     let start = out.len();

@@ -121,7 +121,8 @@ pub fn serve_on<L: Listener, W: TextOut>(
     connections: u32,
     writer: &mut W,
 ) -> Result<(), ServeFault>
-    ensures all { OnOk result ((text : List ℕ) × Served connections (L.coming listener.old) (L.coming listener.new) (L.closed listener.old) (L.closed listener.new) hub.old text hub.new
+    ensures all { OnOk result ((text : List ℕ)
+        × Served connections (L.coming listener.old) (L.coming listener.new) (L.closed listener.old) (L.closed listener.new) hub.old text hub.new
         × Appends (W.contents writer.old) (W.contents writer.new) text × MoreBy connections (W.flushes writer.old) (W.flushes writer.new)) }
     ensures accept { result ≡ Err ServeFault.Accept → (count : ℕ) × (text : List ℕ) × (count < connections)
         × Served count (L.coming listener.old) (L.coming listener.new) (L.closed listener.old) (L.closed listener.new) hub.old text hub.new
