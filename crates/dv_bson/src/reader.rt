@@ -112,7 +112,8 @@ fn element_of<'a>(
 ) -> Result<(Value, &'a [u8]), ReadError>
     requires at { at + length bytes.now < 16777216 }
     requires levels { levels ≤ 100 }
-    ensures { Gives (λ x. ((decimal (length before.now), tree x.0), x.1.now)) result (field_at (body_at levels) true at (numbered 0 (map tree before.now)) bytes.now) }
+    ensures { Gives (λ x. ((decimal (length before.now), tree x.0), x.1.now)) result
+        (field_at (body_at levels) true at (numbered 0 (map tree before.now)) bytes.now) }
 {
     let (kind, behind) = front_kind_of(bytes, at)?;
     let rest = behind_index(before.len(), behind)?;

@@ -96,7 +96,8 @@ pub(crate) fn front_kind_of(bytes: &[u8], at: usize) -> Result<(Kind, &[u8]), Re
 
 /// The bytes as a text; refused with `BadUtf8`.
 fn utf8_of(bytes: &[u8]) -> Result<&str, ReadError>
-    ensures { MatchResult result (λ text. (text.now ≡ bytes.now) × (is_utf8 bytes.now ≡ true)) (λ e. (e ≡ ReadError.Fault BsonFault.BadUtf8) × (is_utf8 bytes.now ≡ false)) }
+    ensures { MatchResult result (λ text. (text.now ≡ bytes.now) × (is_utf8 bytes.now ≡ true))
+        (λ e. (e ≡ ReadError.Fault BsonFault.BadUtf8) × (is_utf8 bytes.now ≡ false)) }
 {
     match str::from_utf8(bytes) {
         Ok(text) => Ok(text),

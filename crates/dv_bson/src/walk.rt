@@ -99,7 +99,8 @@ fn behind_element(
     bytes: &[u8],
 ) -> Result<&[u8], ReadError>
     requires { at + length bytes.now < 16777216 }
-    ensures { (seen : Entries Field) → length seen ≡ place → GivesPart (λ rest. rest.now) (λ made. made.1) result (field_at (body_at levels) true at seen bytes.now) }
+    ensures { (seen : Entries Field) → length seen ≡ place
+        → GivesPart (λ rest. rest.now) (λ made. made.1) result (field_at (body_at levels) true at seen bytes.now) }
 {
     let (kind, behind) = front_kind_of(bytes, at)?;
     let rest = behind_index(place, behind)?;
