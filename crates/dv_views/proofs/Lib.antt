@@ -24,3 +24,6 @@ pub mod Removing
 pub mod ById
 pub mod Based
 pub mod Ranges
+pub mod ReadBy
+pub mod Listed
+pub mod Walked

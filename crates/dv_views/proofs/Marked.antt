@@ -16,7 +16,7 @@ use Rattle.dv_views.specs.Inner.Ground.{IsLive, IsLiveView}
 use Rattle.dv_views.specs.Inner.Keeping.{Turns, kept_seen}
 use Rattle.dv_views.specs.Inner.Older.{Entries, told_before, told_else, told_found, told_named, told_over, views, views_before}
 use Rattle.dv_views.specs.Inner.Passing.{IsTakenAt}
-use Rattle.dv_views.specs.Inner.Seen.{IsWellKept, view_seen, entry_view, telling}
+use Rattle.dv_views.specs.Inner.Seen.{AreSilent, IsWellKept, view_seen, entry_view, telling}
 use Rattle.dv_views.specs.Inner.Turned.{AreTakenBy, HaveTaken, IsTakenBy}
 use Rattle.dv_views.specs.Views.{ViewMark, View, live, stale}
 use Rattle.dv_views.specs.Inner.Views.{AreNamedApart, Views, distance, distances_of, no_distance, view_under, with_distance}
@@ -68,9 +68,9 @@ take_count (n ∷ ns) (suc i) h = let less : suc i < suc (length ns) = h in ap s
 module _ {Y : Type 0} where
   -- ---- one after the other
 
-  -- the first n views have taken in what was told, and the others are as they were
+  -- the first n views have taken in what was told, and the others are as they were and tell nothing
   abbrev pub HaveFirst : ℕ → Told → (List ℕ → ℕ) → Views → Entries Y → Type 0
-  HaveFirst zero come distances before es = views es ≡ before
+  HaveFirst zero come distances before es = (views es ≡ before) × AreSilent es
   HaveFirst (suc n) come distances [] es = es ≡ []
   HaveFirst (suc n) come distances (v ∷ before) [] = ⊥
   HaveFirst (suc n) come distances (v ∷ before) (e ∷ es) = IsTakenBy come distances v (telling e) × HaveFirst n (flow_with_told v.name e.1.told come) (with_distance (entry_view e) distances) before es
@@ -80,12 +80,13 @@ module _ {Y : Type 0} where
         → ((name : List ℕ) → IsTakenBy (told_over come (take n es)) (fold (λ below v. with_distance v below) distances (views (take n es))) (view_seen name old) (record { view = view_seen name new; told = new.told }))
         → HaveFirst (suc n) come distances before (set_value_at es n new)
     next zero come distances before [] first there taken = absurd cc
-    next zero come distances [] (e ∷ es) first there taken = absurd cc
+    next zero come distances [] (e ∷ es) first there taken = let same : views (e ∷ es) ≡ [] = first.0 in absurd cc
     next zero come distances (v ∷ before) (e ∷ es) first there taken =
         let was : e.1 ≡ old = cc in
+        let all : views (e ∷ es) ≡ v ∷ before = first.0 in
         let same : entry_view e ≡ v = cc in
         let rest : views es ≡ before = cc in
-        (subst (λ (u : View). IsTakenBy come distances u (record { view = view_seen (string_bytes e.0) new; told = new.told })) (ap (view_seen (string_bytes e.0)) (sym was) ∙ same) (taken (string_bytes e.0)), rest)
+        (subst (λ (u : View). IsTakenBy come distances u (record { view = view_seen (string_bytes e.0) new; told = new.told })) (ap (view_seen (string_bytes e.0)) (sym was) ∙ same) (taken (string_bytes e.0)), (rest, first.1.1))
     next (suc n) come distances [] es first there taken = absurd (none es first there)
       where
         none : (es : Entries Y) → es ≡ [] → slice_get (values_of es) (suc n) ≡ Some old → ⊥
@@ -109,7 +110,7 @@ module _ {Y : Type 0} where
       (subst (λ (m : ℕ). HaveFirst m (told_at namespace changes) no_distance before (set_value_at es n at.new)) more (next at.old at.new n (told_at namespace changes) no_distance before es first at.there at.taken))
 
   all-taken : (come : Told) (distances : List ℕ → ℕ) (before : Views) (es : Entries Y) → HaveFirst (length before) come distances before es → AreTakenBy come distances before (map telling es)
-  all-taken come distances [] es first = subst (λ (fs : Entries Y). AreTakenBy come distances [] (map telling fs)) (sym (none es first)) tt
+  all-taken come distances [] es first = subst (λ (fs : Entries Y). AreTakenBy come distances [] (map telling fs)) (sym (none es first.0)) tt
     where
       none : (es : Entries Y) → views es ≡ [] → es ≡ []
       none [] is = refl

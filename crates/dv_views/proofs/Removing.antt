@@ -10,12 +10,14 @@ use Rattle.std.proofs.lemmas.Slice.Eq.{bytes_eq-Decides}
 use Rattle.dv_pipe.specs.Stages.{is_read}
 use Rattle.dv_views.specs.Forms.{AreFounded, ViewForm, height_over, heights, is_name_among, names_read, with_height}
 use Rattle.dv_views.specs.Inner.Older.{Entries, is_called, views}
-use Rattle.dv_views.specs.Inner.Seen.{HaveHeights}
+use Rattle.dv_views.specs.Inner.Readers.{AreReaders, Listing}
+use Rattle.dv_views.specs.Inner.Seen.{AreSilent, AreSoundEntries, HaveHeights}
 use Rattle.dv_views.specs.Views.{View}
-use Rattle.dv_views.specs.Inner.Views.{AreNamedApart, AreOverLive, Views, distance, view_form, reads, reads_name, with_distance, views_without}
-use Rattle.dv_views.proofs.Entries.{AreOthers, others}
+use Rattle.dv_views.specs.Inner.Views.{AreNamedApart, AreOverLive, Views, distance, view_form, no_distance, reads, reads_name, with_distance, views_without}
+use Rattle.dv_views.proofs.Entries.{AreOthers, others, taken_out}
 use Rattle.dv_views.proofs.Heights.{forms_of}
 use Rattle.dv_views.proofs.Right.{either-way, neither, read_among}
+use Rattle.dv_views.proofs.WellKept.{AreWellKept, kept_removed, silent_removed}
 
 -- ---- the others are no farther from being live than before
 
@@ -117,3 +119,22 @@ module _ (gone : List ℕ) where
 pub heights_removed : {Y : Type 0} (gone : List ℕ) (es : Entries Y) → AreNamedApart (views es) → reads_name (views es) gone ≡ false → HaveHeights (heights (forms_of es)) es
     → HaveHeights (heights (map view_form (views_without gone (views es)))) (remove_entry (is_called gone) es)
 heights_removed gone es apart away kept = kept-out gone (heights (forms_of es)) (heights (map view_form (views_without gone (views es)))) (heights-without gone (views es) (λ name. 0) (λ name. 0) (λ name off. refl) away) es apart kept
+
+-- what holds of views in memory holds without one that none reads, if the lists of readers hold
+pub sound_without : {Y : Type 0} (gone : List ℕ) (es left : Entries Y) (listing less : Listing) → left ≡ remove_entry (is_called gone) es → AreNamedApart (views left) → reads_name (views es) gone ≡ false → AreSoundEntries es listing → AreReaders (forms_of left) less
+    → AreSoundEntries left less
+sound_without gone es left listing less is apart away sound readers =
+    let same : views_without gone (views es) ≡ views left = taken_out gone es sound.views.apart ∙ sym (ap views is) in
+    record {
+      views = record {
+        apart = apart;
+        kept = subst AreWellKept (sym is) (kept_removed (is_called gone) es sound.views.kept);
+        live = subst (λ (vs : Views). AreOverLive no_distance vs) same (live_without gone (views es) no_distance away sound.views.live);
+        founded = subst (λ (vs : Views). AreFounded (map view_form vs)) same (founded_without gone (views es) sound.views.founded);
+      };
+      heights =
+          subst (λ (vs : Views). HaveHeights (heights (map view_form vs)) left) same
+          (subst (HaveHeights (heights (map view_form (views_without gone (views es))))) (sym is) (heights_removed gone es sound.views.apart away sound.heights));
+      silent = subst AreSilent (sym is) (silent_removed (is_called gone) es sound.silent);
+      readers = readers;
+    }

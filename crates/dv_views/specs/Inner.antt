@@ -19,3 +19,5 @@ pub mod Seen
 pub mod Based
 pub mod MarkView
 pub mod Inside
+pub mod Readers
+pub mod Handing

@@ -4,6 +4,7 @@
 
 mod by_id;
 mod fault;
+mod handing;
 mod keeping;
 pub mod laws;
 mod lookups;
@@ -11,6 +12,7 @@ mod making;
 mod older;
 mod passing;
 mod places;
+mod readers;
 mod registry;
 mod rows;
 mod stage_operator;

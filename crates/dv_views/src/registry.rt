@@ -20,10 +20,11 @@ mod by_id;
 mod gone;
 
 use crate::fault::ViewFault;
+use crate::handing::take_each;
 use crate::laws;
 use crate::lookups::{is_listed, lookups_of, names_read, push_names_read};
 use crate::making::{Ground, made};
-use crate::passing::take_at;
+use crate::readers::Readers;
 use crate::rows::Rows;
 use crate::state::ViewState;
 use crate::view::View;
@@ -41,11 +42,13 @@ const MOST_VIEWS: usize = 1000;
 /// How high a view stands at most: one over collections alone stands at 1, and another one higher than all that it reads.
 const MOST_HEIGHT: usize = 8;
 
-/// Views in creation order, each under a name of its own. A view is found by its name in constant time.
+/// Views in creation order, each under a name of its own. A view is found by its name in constant time, and so are the views to
+/// which a change of a namespace comes.
 #[derive(Debug, Drop)]
 pub struct Registry {
     alloc: Global,
     views: IndexMap<String, View>,
+    readers: Readers,
 }
 
 impl Model for Registry {
@@ -57,11 +60,12 @@ impl Model for Registry {
 
     ghost coded = { coded_views };
 
+    ghost use Rattle.dv_views.specs.Inner.Readers.{listing_seen};
     ghost use Rattle.dv_views.specs.Inner.Seen.{AreSoundEntries, entry_view};
 
     ghost view = { λ r. map entry_view r.views.entries };
 
-    ghost invariant = { λ r. AreSoundEntries r.views.entries };
+    ghost invariant = { λ r. AreSoundEntries r.views.entries (listing_seen r.readers.lists.entries) };
 }
 
 impl Registry {
@@ -72,6 +76,7 @@ impl Registry {
         Registry {
             alloc,
             views: IndexMap::new(alloc),
+            readers: Readers::new(alloc),
         }
     }
 
@@ -153,16 +158,10 @@ impl Registry {
     }
 
     /// Whether some view reads the namespace. Takes no memory.
-    #[tactic(auto, using(crate::proofs::Entries::read_seen))]
     pub fn is_read(&self, namespace: &str) -> bool
         ensures { result ≡ reads_name self.now namespace.now }
     {
-        'views: for view in self.views.values() {
-            if view.reads(namespace) {
-                return true;
-            }
-        }
-        false
+        !self.readers.under(namespace).is_empty()
     }
 
     /// The names that are needed for these: these, and after them what each view that is needed reads. Fails with `NoMemory` when
@@ -256,8 +255,10 @@ impl Registry {
         let rows = made(self.alloc, &ground, &pipeline, source, &lookups)?;
         let source = Str::of(String::from_str(self.alloc, source)?);
         let view = View::new(source, pipeline, lookups, height, rows);
+        let readers = self.readers.with(self.alloc, &self.views, &view)?;
         let name = String::from_str(self.alloc, name)?;
         self.views.insert(name, view)?;
+        self.readers = readers;
         Ok(())
     }
 
@@ -268,7 +269,11 @@ impl Registry {
         ensures there { result ≡ has_view name.now self.old }
         ensures views { self.new ≡ views_without name.now self.old }
     {
-        self.views.shift_remove(name).is_some()
+        let Some((place, _, _)) = self.views.shift_remove_full(name) else {
+            return false;
+        };
+        self.readers.take_out(place);
+        true
     }
 
     /// Passes changes that were made to the documents under the namespace to the views that depend on it. Each change goes to each
@@ -289,25 +294,13 @@ impl Registry {
         }
     }
 
-    /// Hands a change on to each view, in creation order.
+    /// Hands a change on to each view to which it comes, in creation order.
     fn take(&mut self, namespace: &str, change: &[Change])
         ensures taken { HaveTaken (told_at namespace.now change.now) self.old self.new }
         ensures sound { IsSoundRegistry self.new }
     {
-        'views: for place in 0..self.views.len() {
-            take_at(self.alloc, &mut self.views, place, namespace, change);
-        }
-        self.fall_silent();
-    }
-
-    /// Lets go what views told of a change.
-    fn fall_silent(&mut self)
-        ensures { self.new ≡ self.old }
-    {
-        'views: for place in 0..self.views.len() {
-            let view = &mut self.views[place];
-            view.leave();
-        }
+        let places = self.readers.under(namespace);
+        take_each(self.alloc, &mut self.views, places, namespace, change);
     }
 
     /// Recomputes the stale views of these names, in creation order, over older views and `sources`, each in the order of its

@@ -1,11 +1,12 @@
 -- What views in memory stand for, and what holds of them.
-use Rattle.std.specs.Prelude.{◌≡◌, ℕ, List, map, ⊤}
+use Rattle.std.specs.Prelude.{◌≡◌, ℕ, List, None, map, ⊤}
 use Rattle.std.specs.List.{AllByRecursion}
 use Rattle.std.specs.declared.string.String.{String}
 use Rattle.std.specs.String.{string_bytes}
 use Rattle.dv_change.specs.Inner.Changes.{IsPositioned}
 use Rattle.dv_pipe.specs.declared.stage.Stage.{Stage}
 use Rattle.dv_views.specs.Inner.Body.{Body}
+use Rattle.dv_views.specs.Inner.Readers.{AreReaders, Listing}
 use Rattle.dv_views.specs.Inner.Turned.{Telling, turned_rows}
 use Rattle.dv_views.specs.Forms.{AreFounded, heights}
 use Rattle.dv_views.specs.Views.{ViewMark, View, live, stale}
@@ -37,7 +38,13 @@ pub record IsSoundRegistry (views : Views) : Type 0 where
 abbrev pub HaveHeights : {Y : Type 0} → (List ℕ → ℕ) → List (String Y × Body) → Type 0
 HaveHeights high es = AllByRecursion (λ e. e.1.height ≡ high (string_bytes e.0)) es
 
--- entries of such views, each with its height
-pub record AreSoundEntries {Y : Type 0} (es : List (String Y × Body)) : Type 0 where
+-- no entry tells of a change
+abbrev pub AreSilent : {Y : Type 0} → List (String Y × Body) → Type 0
+AreSilent es = AllByRecursion (λ e. e.1.told ≡ None) es
+
+-- entries of such views, each with its height, none of which tells of a change; and the lists of their readers
+pub record AreSoundEntries {Y : Type 0} (es : List (String Y × Body)) (listing : Listing) : Type 0 where
   pub views : IsSoundRegistry (map entry_view es)
   pub heights : HaveHeights (heights (map view_form (map entry_view es))) es
+  pub silent : AreSilent es
+  pub readers : AreReaders (map view_form (map entry_view es)) listing

@@ -14,8 +14,8 @@ ghost use Rattle.dv_views.specs.Inner.Seen.{IsSoundRegistry};
 ghost use Rattle.dv_views.specs.Inner.Turned.{HaveLost, HaveTaken};
 ghost use Rattle.dv_views.specs.Inner.Views.{AreRight, view_form};
 
+use crate::handing::lose_each;
 use crate::laws;
-use crate::passing::lose_at;
 use crate::places::gone_of;
 use crate::registry::Registry;
 use dv_coll::Iter;
@@ -43,8 +43,7 @@ impl Registry {
         }
     }
 
-    /// Hands on to each view, in creation order, that a document goes; where memory is wanting for that, each view that it comes
-    /// to is stale.
+    /// Hands on, in creation order, that a document goes; where memory is wanting for that, each view that it comes to is stale.
     fn take_gone(&mut self, namespace: &str, document: &Document)
         requires { HasId document.now }
         ensures taken { HaveTaken (told_at namespace.now (Gone (own_position document.now) ∷ [])) self.old self.new }
@@ -56,14 +55,12 @@ impl Registry {
         }
     }
 
-    /// Hands a change for which memory was wanting on to each view: each that it comes to is stale.
+    /// Hands a change for which memory was wanting on: each view that it comes to is stale.
     fn lose(&mut self, namespace: &str)
         ensures taken { HaveLost namespace.now self.old self.new }
         ensures sound { IsSoundRegistry self.new }
     {
-        'views: for place in 0..self.views.len() {
-            lose_at(self.alloc, &mut self.views, place, namespace);
-        }
-        self.fall_silent();
+        let places = self.readers.under(namespace);
+        lose_each(self.alloc, &mut self.views, places, namespace);
     }
 }

@@ -1,21 +1,24 @@
 use Rattle.std.proofs.Common.{◌≡◌, ◌++◌, ◌∷◌, ◌||◌, [], false, List, ℕ, map, ap, subst, sym, ◌∙◌}
 use Rattle.std.specs.List.{AllByRecursion}
+use Rattle.std.proofs.lemmas.List.{map-append}
 use Rattle.std.specs.String.{string_bytes, string_eq}
 use Rattle.indexmap.proofs.CallerLemmas.{insert_entry-new}
 use Rattle.dv_pipe.specs.Sources.{lists_of}
 use Rattle.dv_pipe.specs.Stages.{is_read}
 use Rattle.dv_views.specs.Inner.Body.{Body}
-use Rattle.dv_views.specs.Forms.{height_over, heights, is_read_by, names_read}
+use Rattle.dv_views.specs.Forms.{ViewForm, height_over, heights, is_read_by, names_read}
 use Rattle.dv_views.specs.Inner.Ground.{IsBuilt}
 use Rattle.dv_views.specs.Inner.Made.{IsAdded, IsNoStale}
 use Rattle.dv_views.specs.Inner.Keeping.{kept_seen}
 use Rattle.dv_views.specs.Inner.Older.{Entries, views}
-use Rattle.dv_views.specs.Inner.Seen.{HaveHeights, IsSoundRegistry, view_seen, entry_view}
+use Rattle.dv_views.specs.Inner.Readers.{AreReaders, listing_seen}
+use Rattle.dv_views.specs.Inner.Seen.{AreSilent, HaveHeights, IsSoundRegistry, view_seen, entry_view}
 use Rattle.dv_views.specs.Views.{View, live}
 use Rattle.dv_views.specs.Inner.Views.{AreNamedApart, AreRight, Views, view_form, has_view, view_under}
 use Rattle.dv_views.proofs.Entries.{named_apart, none_there, seen_last}
 use Rattle.dv_views.proofs.Heights.{forms_of, heights_added}
 use Rattle.dv_views.proofs.Refreshing.{is_added, right_added, sound_added, views_all}
+use Rattle.dv_views.proofs.WellKept.{silent_last}
 use Rattle.dv_views.proofs.registry.Registry.add.Goals as goal
 
 pub made-requires-clause-live : goal.made-requires-clause-live
@@ -52,6 +55,11 @@ invariant_of-self-2 c =
           (subst (λ (vs : Views). AreNamedApart vs) whole (named_apart c.insert.new.self.entries c.in_ok-insert.ensures.unique))
           (subst (λ (vs : Views). is_read_by (map view_form vs) name || is_read stages source name ≡ false) (sym c.self.view_is) c.requires.unread));
       heights = subst (λ (fs : Entries _). HaveHeights (heights (forms_of fs)) fs) (sym left) (heights_added es (key, body) new high c.self.invariant.heights);
+      silent = subst (λ (fs : Entries _). AreSilent fs) (sym left) (silent_last es (key, body) c.self.invariant.silent (ap (λ (b : Body). b.told) c.new-view.ensures));
+      readers =
+          subst (λ (fs : Entries _). AreReaders (forms_of fs) (listing_seen c.in_ok-readers.readers.lists.entries)) (sym left)
+          (subst (λ (vs : Views). AreReaders (map view_form vs) (listing_seen c.in_ok-readers.readers.lists.entries)) (sym (seen_last es (key, body)))
+          (subst (λ (fs : List ViewForm). AreReaders fs (listing_seen c.in_ok-readers.readers.lists.entries)) (sym (map-append view_form (views es) (entry_view (key, body) ∷ []))) (c.in_ok-readers.ensures (string_bytes key))));
     }
 
 pub returns-clause-ok : goal.returns-clause-ok

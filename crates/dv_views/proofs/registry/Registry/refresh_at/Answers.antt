@@ -10,12 +10,14 @@ use Rattle.dv_views.specs.Inner.Ground.{IsBuilt}
 use Rattle.dv_views.specs.Inner.Made.{IsNoStale, IsRefreshedAt}
 use Rattle.dv_views.specs.Inner.Keeping.{IsSoundLive, kept_seen}
 use Rattle.dv_views.specs.Inner.Older.{views, views_before}
+use Rattle.dv_views.specs.Inner.Readers.{AreReaders, listing_seen}
 use Rattle.dv_views.specs.Inner.Seen.{HaveHeights, IsSoundRegistry, view_seen}
 use Rattle.dv_views.specs.Views.{live}
 use Rattle.dv_views.specs.Inner.Views.{AreInOrder, AreRight, Views, view_form, view_under, is_stale}
 use Rattle.dv_views.proofs.Heights.{heights_written}
 use Rattle.dv_views.proofs.Joining.{fresh_built}
 use Rattle.dv_views.proofs.Refreshing.{forms_set, fresh_reads, keeping, left_at, ordered_reads, reads_listed, refreshed_at, replaces, right_refreshed, same_there, sound_set, view_there, views_kept, views_take}
+use Rattle.dv_views.proofs.WellKept.{silent_kept}
 use Rattle.dv_views.proofs.registry.Registry.refresh_at.Goals as goal
 use Rattle.dv_views.proofs.registry.Registry.refresh_at.Goals.{then-not-is_stale-via-then-not-is_stale, then-not-is_stale-via-else-not-is_stale+then-not-is_listed}
 
@@ -95,6 +97,8 @@ invariant_of-self c =
       heights =
           subst (λ (fs : List ViewForm). HaveHeights (heights fs) (set_value_at es n c.keep.new.self)) (sym forms)
           (heights_written (heights (map view_form (views es))) n es c.index_mut-view.result.now c.keep.new.self c.index_mut-view.ensures.value (ap (λ (y : Body). y.height) c.keep.ensures) c.self.invariant.heights);
+      silent = silent_kept n es c.index_mut-view.result.now c.keep.new.self c.index_mut-view.ensures.value (ap (λ (y : Body). y.told) c.keep.ensures) c.self.invariant.silent;
+      readers = subst (λ (fs : List ViewForm). AreReaders fs (listing_seen c.self.inside.readers.lists.entries)) (sym forms) c.self.invariant.readers;
     }
 
 pub returns-clause-ok : goal.returns-clause-ok

@@ -1,0 +1,13 @@
+-- The lists so far have the view.
+use Rattle.std.proofs.Common.{◌≡◌, ◌++◌, ◌∷◌, ◌||◌, [], true, List, ℕ}
+use Rattle.std.specs.List.{AllByRecursion}
+use Rattle.dv_views.specs.Forms.{is_read_by}
+use Rattle.dv_views.specs.Inner.Readers.{has_list, listing_seen, readers_of}
+use Rattle.dv_views.specs.Inner.Seen.{view_seen}
+use Rattle.dv_views.specs.Inner.Views.{view_form}
+use Rattle.dv_views.proofs.Heights.{forms_of}
+use Rattle.dv_views.proofs.Listed.{HaveView}
+use Rattle.dv_views.proofs.readers.Readers.lists_with.Given as goal
+
+abbrev pub invariant-lists : goal.invariant-lists
+invariant-lists l = (name : List ℕ) → HaveView (forms_of l.views.entries) (view_form (view_seen name l.view)) (listing_seen l.namespace-iterator) (listing_seen l.lists.entries)

@@ -1,0 +1,63 @@
+//! A change of what stands under a namespace, which goes to the views to which it comes, in creation order.
+
+ghost use Rattle.std.specs.Prelude.{◌≡◌, ◌<◌, List, length, map};
+ghost use Rattle.std.specs.List.{AllByRecursion};
+ghost use Rattle.dv_change.specs.declared.change.Change.{Change};
+ghost use Rattle.dv_views.specs.Inner.Handing.{AreSilentBut, IsHandedOn, silenced};
+ghost use Rattle.dv_views.specs.Inner.Readers.{readers_of};
+ghost use Rattle.dv_views.specs.Inner.Seen.{AreSilent, entry_view};
+ghost use Rattle.dv_views.specs.Inner.Views.{AreNamedApart, view_form};
+
+use crate::passing::{lose_at, take_at};
+use crate::view::View;
+use dv_change::Change;
+use indexmap::IndexMap;
+use std::alloc::Global;
+
+/// Hands a change on to the views at these places, in their order: to all that it comes to.
+pub(crate) fn take_each(
+    alloc: Global,
+    views: &mut IndexMap<String, View>,
+    places: &[usize],
+    namespace: &str,
+    changes: &[Change],
+)
+    requires places { places.now ≡ readers_of namespace.now (map view_form (map entry_view views.old.entries)) }
+    requires apart { AreNamedApart (map entry_view views.old.entries) }
+    requires silent { AreSilent views.old.entries }
+    ensures { IsHandedOn namespace.now changes.now views.old.entries views.new.entries }
+{
+    'views: for place in places {
+        take_at(alloc, views, *place, namespace, changes);
+    }
+    fall_silent(views, places);
+}
+
+/// Hands a change for which memory was wanting on to the views at these places: to all that it comes to. Takes no memory.
+pub(crate) fn lose_each(
+    alloc: Global,
+    views: &mut IndexMap<String, View>,
+    places: &[usize],
+    namespace: &str,
+)
+    requires places { places.now ≡ readers_of namespace.now (map view_form (map entry_view views.old.entries)) }
+    requires apart { AreNamedApart (map entry_view views.old.entries) }
+    requires silent { AreSilent views.old.entries }
+    ensures { (changes : List Change) → IsHandedOn namespace.now changes views.old.entries views.new.entries }
+{
+    'views: for place in places {
+        lose_at(alloc, views, *place, namespace);
+    }
+    fall_silent(views, places);
+}
+
+/// Lets go what the views at these places told of a change; the others tell nothing.
+fn fall_silent(views: &mut IndexMap<String, View>, places: &[usize])
+    requires places { AllByRecursion (λ place. place < length views.old.entries) places.now }
+    requires others { AreSilentBut places.now 0 views.old.entries }
+    ensures { views.new.entries ≡ map silenced views.old.entries }
+{
+    'views: for place in places {
+        views[*place].leave();
+    }
+}

@@ -1,0 +1,143 @@
+//! Which views a change of a namespace comes to.
+
+ghost use Rattle.std.specs.Prelude.{◌≡◌, ◌∷◌, ◌++◌, [], ℕ, List, map, OnOk, IfOk};
+ghost use Rattle.dv_views.specs.Inner.Readers as defined;
+ghost use Rattle.dv_views.specs.Inner.Readers.{AreListed, AreReaders, listing_seen, listing_without, places_under, with_list, without};
+ghost use Rattle.dv_views.specs.Inner.Seen.{entry_view, view_seen};
+ghost use Rattle.dv_views.specs.Inner.Views.{view_form};
+
+use crate::view::View;
+use dv_value::NoMemory;
+use indexmap::IndexMap;
+use std::alloc::Global;
+
+/// For each namespace that a view reads, the places of the views to which a change of it comes, ascending: of those that read it,
+/// and of those that read one of these.
+#[derive(Debug, Drop)]
+pub(crate) struct Readers {
+    lists: IndexMap<String, Vec<usize>>,
+}
+
+impl Readers {
+    /// Of no views. Memory for lists will be allocated by `alloc`.
+    pub(crate) fn new(alloc: Global) -> Self
+        ensures { listing_seen result.lists.entries ≡ [] }
+    {
+        Readers {
+            lists: IndexMap::new(alloc),
+        }
+    }
+
+    /// The places of the views to which a change of the namespace comes. Takes no memory.
+    pub(crate) fn under(&self, namespace: &str) -> &[usize]
+        ensures { result.now ≡ places_under namespace.now (listing_seen self.now.lists.entries) }
+    {
+        match self.lists.get(namespace) {
+            Some(places) => places.as_slice(),
+            None => &[],
+        }
+    }
+
+    /// The lists with a view more, which will stand behind the others. Fails where memory is wanting.
+    pub(crate) fn with(
+        &self,
+        alloc: Global,
+        views: &IndexMap<String, View>,
+        view: &View,
+    ) -> Result<Readers, NoMemory>
+        requires { AreReaders (map view_form (map entry_view views.now.entries)) (listing_seen self.now.lists.entries) }
+        ensures { (name : List ℕ) → IfOk result (λ readers. AreReaders (map view_form (map entry_view views.now.entries) ++ view_form (view_seen name view.now) ∷ []) (listing_seen readers.lists.entries)) }
+    {
+        let mut lists = self.lists_with(alloc, views, view)?;
+        list_under(alloc, &mut lists, view.source(), views.len())?;
+        'names: for name in view.lookups() {
+            list_under(alloc, &mut lists, name.as_str(), views.len())?;
+        }
+        Ok(Readers { lists })
+    }
+
+    /// Each list with a view more, where a change of its namespace comes to that.
+    fn lists_with(
+        &self,
+        alloc: Global,
+        views: &IndexMap<String, View>,
+        view: &View,
+    ) -> Result<IndexMap<String, Vec<usize>>, NoMemory>
+        requires { AreReaders (map view_form (map entry_view views.now.entries)) (listing_seen self.now.lists.entries) }
+        ensures { (name : List ℕ) → IfOk result (λ lists. AreListed (map view_form (map entry_view views.now.entries)) (view_form (view_seen name view.now)) [] (listing_seen lists.entries)) }
+    {
+        let mut lists = IndexMap::new(alloc);
+        'lists: for (namespace, places) in &self.lists {
+            let more = places_with(alloc, places.as_slice(), namespace.as_str(), views, view)?;
+            lists.insert(String::from_str(alloc, namespace.as_str())?, more)?;
+        }
+        Ok(lists)
+    }
+
+    /// Takes a place out of the lists; those behind it stand one lower. Takes no memory.
+    pub(crate) fn take_out(&mut self, place: usize)
+        ensures { listing_seen self.new.lists.entries ≡ listing_without place (listing_seen self.old.lists.entries) }
+    {
+        self.lists.retain(|_, places| {
+            take_out_of(places, place);
+            !places.is_empty()
+        });
+    }
+}
+
+/// The places with that of a view more, where a change of the namespace comes to it. Fails where memory is wanting.
+fn places_with(
+    alloc: Global,
+    places: &[usize],
+    namespace: &str,
+    views: &IndexMap<String, View>,
+    view: &View,
+) -> Result<Vec<usize>, NoMemory>
+    ensures { IfOk result (λ more. more.items ≡ defined.places_with namespace.now view.now.stages view.now.source views.now.entries places.now) }
+{
+    let mut more = Vec::from_slice(alloc, places)?;
+    if view.reads(namespace) || reads_one(view, views, places) {
+        more.push(views.len())?;
+    }
+    Ok(more)
+}
+
+/// Whether the view reads one of those at these places.
+fn reads_one(view: &View, views: &IndexMap<String, View>, places: &[usize]) -> bool
+    ensures { result ≡ defined.reads_one view.now.stages view.now.source views.now.entries places.now }
+{
+    places.iter().any(|place| match views.get_index(*place) {
+        Some((name, _)) => view.reads(name.as_str()),
+        None => false,
+    })
+}
+
+/// Lists this place under the name, where nothing is listed. Fails where memory is wanting.
+fn list_under(
+    alloc: Global,
+    lists: &mut IndexMap<String, Vec<usize>>,
+    name: &str,
+    place: usize,
+) -> Result<(), NoMemory>
+    ensures { OnOk result (listing_seen lists.new.entries ≡ with_list name.now place (listing_seen lists.old.entries)) }
+{
+    if lists.contains_key(name) {
+        return Ok(());
+    }
+    let mut places = Vec::with_capacity(alloc, 1)?;
+    places.push(place)?;
+    lists.insert(String::from_str(alloc, name)?, places)?;
+    Ok(())
+}
+
+/// Takes a place out of the list; those behind it stand one lower.
+fn take_out_of(places: &mut Vec<usize>, place: usize)
+    ensures { places.new.items ≡ without place places.old.items }
+{
+    places.retain(|other| *other != place);
+    'places: for other in places.iter_mut() {
+        if *other > place {
+            *other -= 1;
+        }
+    }
+}
