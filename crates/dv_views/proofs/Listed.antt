@@ -1,8 +1,8 @@
 -- Lists of places in memory: what looking up, adding and taking out make of them.
-use Rattle.std.proofs.Common.{◌≡◌, ◌<◌, ◌+◌, ◌||◌, ℕ, zero, suc, Bool, true, false, not, List, [], ◌∷◌, ◌++◌, map, filter, take, drop, length, Option, Some, None, is_some, cond, get_or, set, refl, ap, sym, subst, ◌∙◌, arith, Vec}
+use Rattle.std.proofs.Common.{◌≡◌, ◌<◌, ◌+◌, ◌||◌, ℕ, zero, suc, Bool, true, false, not, List, [], ◌∷◌, ◌++◌, map, take, drop, length, Option, Some, None, is_some, cond, get_or, set, refl, ap, sym, subst, ◌∙◌, arith, Vec}
 use Rattle.std.specs.Prelude.{◌==◌}
 use Rattle.std.specs.Bool.{if◌then◌else◌}
-use Rattle.std.specs.List.{AllByRecursion, list_any}
+use Rattle.std.specs.List.{AllByRecursion}
 use Rattle.std.specs.Map.{lookup}
 use Rattle.std.proofs.lemmas.Bool.Decides.{nat_tests}
 use Rattle.std.specs.Map.Calls.{RetainsPairs}
@@ -13,7 +13,7 @@ use Rattle.std.proofs.lemmas.Slice.Eq.{bytes_eq-Decides}
 use Rattle.indexmap.specs.IndexMap.{insert_entry}
 use Rattle.dv_views.specs.Forms.{ViewForm, is_read_by}
 use Rattle.dv_views.specs.Inner.Older.{Entries}
-use Rattle.dv_views.specs.Inner.Readers.{AreListed, Listing, has_list, listing_seen, listing_without, lowered, listed_before, places_under, places_with, readers_of, without}
+use Rattle.dv_views.specs.Inner.Readers.{AreListed, Listing, has_list, listing_seen, listing_without, listed_before, places_under, places_with, readers_of, without}
 use Rattle.dv_views.proofs.Heights.{forms_of}
 use Rattle.dv_views.proofs.ReadBy.{places_more}
 

@@ -1,20 +1,19 @@
 -- Which views a change of a namespace comes to: where they are none, where one more comes behind them, and where one goes.
-use Rattle.std.proofs.Common.{◌≡◌, ◌≤◌, ◌<◌, ◌+◌, ◌-◌, ◌||◌, ◌++◌, ℕ, zero, suc, Bool, true, false, not, List, [], ◌∷◌, map, drop, length, Option, Some, None, cond, filter, slice_get, append-nil, refl, ap, sym, subst, ◌∙◌, arith}
+use Rattle.std.proofs.Common.{◌≡◌, ◌≤◌, ◌<◌, ◌+◌, ◌-◌, ◌||◌, ◌++◌, ℕ, zero, suc, Bool, true, false, not, List, [], ◌∷◌, map, drop, length, Option, Some, None, cond, filter, slice_get, append-nil, refl, ap, sym, ◌∙◌, arith}
 use Rattle.std.specs.Prelude.{◌==◌, nat_lt}
 use Rattle.std.specs.Bool.{if◌then◌else◌}
-use Rattle.std.specs.List.{AllByRecursion, IsDistinct, list_any}
+use Rattle.std.specs.List.{AllByRecursion, list_any}
 use Rattle.std.specs.Map.{remove_entry}
 use Rattle.std.specs.Option.{option_map}
 use Rattle.std.specs.Str.{bytes_eq}
 use Rattle.std.specs.String.{string_bytes}
-use Rattle.std.specs.declared.string.String.{String}
 use Rattle.std.proofs.lemmas.Bool.Decides.{nat_tests}
 use Rattle.std.proofs.lemmas.Slice.Eq.{bytes_eq-Decides}
 use Rattle.dv_pipe.specs.Stages.{is_read}
 use Rattle.dv_pipe.specs.declared.stage.Stage.{Stage}
 use Rattle.dv_views.specs.Forms.{ViewForm, is_name_among, is_read_by, names_read}
 use Rattle.dv_views.specs.Placed.{lookups_of}
-use Rattle.dv_views.specs.Inner.Older.{Entries, is_called, place_of_name, views}
+use Rattle.dv_views.specs.Inner.Older.{Entries, is_called, place_of_name}
 use Rattle.dv_views.specs.Inner.Readers.{AreListed, AreReaders, Listing, has_list, is_entry_read, listed_before, listing_without, lowered, places_under, places_with, readers_from, readers_of, reads_any, reads_one, with_list, without}
 use Rattle.dv_views.specs.Inner.Seen.{entry_view}
 use Rattle.dv_views.specs.Inner.Views.{view_form}

@@ -1,5 +1,5 @@
 -- What a change that is handed on makes of all views in memory: words of bodies.
-use Rattle.std.specs.Prelude.{◌≡◌, ℕ, suc, ◌==◌, Bool, false, List, [], ◌∷◌, None, map, ⊤}
+use Rattle.std.specs.Prelude.{◌≡◌, ℕ, suc, ◌==◌, Bool, false, List, [], ◌∷◌, None, ⊤}
 use Rattle.std.specs.List.{AllByRecursion, list_any}
 use Rattle.std.specs.declared.string.String.{String}
 use Rattle.dv_change.specs.declared.change.Change.{Change}

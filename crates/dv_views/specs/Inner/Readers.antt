@@ -1,5 +1,5 @@
 -- Which views a change of a namespace comes to, as lists in memory: words of bodies.
-use Rattle.std.specs.Prelude.{◌≡◌, ℕ, suc, ◌+◌, ◌-◌, ◌==◌, ◌||◌, Bool, true, false, not, List, [], ◌∷◌, ◌++◌, Option, None, Some, Vec, length, map, filter, nat_lt, slice_get, if◌then◌else◌}
+use Rattle.std.specs.Prelude.{◌≡◌, ℕ, suc, ◌-◌, ◌==◌, ◌||◌, Bool, true, false, not, List, [], ◌∷◌, ◌++◌, Option, None, Some, Vec, length, map, filter, nat_lt, slice_get, if◌then◌else◌}
 use Rattle.std.specs.List.{AllByRecursion, list_any}
 use Rattle.std.specs.Str.{bytes_eq}
 use Rattle.std.specs.String.{string_bytes}
@@ -46,7 +46,7 @@ pub record AreReaders (views : List ViewForm) (listing : Listing) : Type 0 where
 
 -- ---- a view more
 
--- behind views there is one more, which the lists have, and there is one for each of the names and of those that are read before
+-- lists with one view more, which stands behind the others: there is one for each namespace that these read, and for each of the names
 pub record AreListed (views : List ViewForm) (more : ViewForm) (names : List (List ℕ)) (listing : Listing) : Type 0 where
   pub right : AllByRecursion (λ l. l.1 ≡ readers_of l.0 (views ++ more ∷ [])) listing
   pub whole : (name : List ℕ) → is_read_by views name || is_name_among name names ≡ true → has_list name listing ≡ true

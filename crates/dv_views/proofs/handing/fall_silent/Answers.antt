@@ -1,7 +1,7 @@
-use Rattle.std.proofs.Common.{◌≡◌, ◌<◌, ◌∙◌, ℕ, List, Some, ap, get_or, length, map, refl, slice_get, subst, sym, arith}
+use Rattle.std.proofs.Common.{◌<◌, ◌∙◌, ℕ, List, ap, get_or, length, refl, subst, sym, arith}
 use Rattle.std.proofs.lemmas.List.{drop_all}
 use Rattle.dv_views.specs.Inner.Body.{Body}
-use Rattle.dv_views.specs.Inner.Handing.{AreSilentBut, silenced}
+use Rattle.dv_views.specs.Inner.Handing.{AreSilentBut}
 use Rattle.dv_views.proofs.Marked.{length_written}
 use Rattle.dv_views.proofs.Walked.{all_at, all_silent, silenced_written, silent_next, there_place}
 use Rattle.dv_views.proofs.handing.fall_silent.Goals as goal

@@ -1,4 +1,4 @@
-use Rattle.std.proofs.Common.{◌≡◌, ◌<◌, [], Some, get_or, length, refl, slice_get}
+use Rattle.std.proofs.Common.{[], get_or, refl}
 use Rattle.dv_views.proofs.Walked.{place_within, there_place, walk_begins, walk_below, walk_ends, walk_goes, walk_quiet}
 use Rattle.dv_views.proofs.handing.lose_each.Goals as goal
 

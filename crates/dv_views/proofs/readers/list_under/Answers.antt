@@ -2,7 +2,7 @@ use Rattle.std.proofs.Common.{◌≡◌, ◌++◌, ◌∷◌, [], Bool, true, fa
 use Rattle.std.specs.Bool.{if◌then◌else◌}
 use Rattle.std.specs.String.{string_bytes, string_eq}
 use Rattle.indexmap.proofs.CallerLemmas.{insert_entry-new}
-use Rattle.dv_views.specs.Inner.Readers.{Listing, has_list, listing_seen}
+use Rattle.dv_views.specs.Inner.Readers.{has_list, listing_seen}
 use Rattle.dv_views.proofs.Listed.{absent_under, seen_more, there_under}
 use Rattle.dv_views.proofs.readers.list_under.Goals as goal
 

@@ -1,8 +1,8 @@
-use Rattle.std.proofs.Common.{◌≡◌, ◌<◌, ◌≤◌, ◌+◌, ◌++◌, [], not, length, map, filter, take, drop, append-nil, ℕ, List, arith, ap, sym, ◌∙◌, rules}
+use Rattle.std.proofs.Common.{◌≡◌, ◌≤◌, ◌++◌, not, length, map, filter, take, drop, append-nil, ℕ, List, arith, ap, sym, ◌∙◌, rules}
 use Rattle.std.specs.Prelude.{◌==◌}
 use Rattle.std.proofs.lemmas.Fn.{filter_same}
 use Rattle.std.proofs.lemmas.List.{drop_all, take_all}
-use Rattle.dv_views.specs.Inner.Readers.{lowered, without}
+use Rattle.dv_views.specs.Inner.Readers.{lowered}
 use Rattle.dv_views.proofs.readers.take_out_of.Goals as goal
 
 pub returns : goal.returns

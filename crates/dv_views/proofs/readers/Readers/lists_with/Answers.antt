@@ -1,4 +1,4 @@
-use Rattle.std.proofs.Common.{◌≡◌, ◌∙◌, [], List, ℕ, subst, sym}
+use Rattle.std.proofs.Common.{◌∙◌, subst, sym}
 use Rattle.std.specs.String.{string_bytes}
 use Rattle.dv_views.specs.Inner.Readers.{listing_seen, places_with}
 use Rattle.dv_views.specs.Inner.Seen.{view_seen}

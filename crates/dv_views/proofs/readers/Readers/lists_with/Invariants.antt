@@ -1,8 +1,6 @@
 -- The lists so far have the view.
-use Rattle.std.proofs.Common.{◌≡◌, ◌++◌, ◌∷◌, ◌||◌, [], true, List, ℕ}
-use Rattle.std.specs.List.{AllByRecursion}
-use Rattle.dv_views.specs.Forms.{is_read_by}
-use Rattle.dv_views.specs.Inner.Readers.{has_list, listing_seen, readers_of}
+use Rattle.std.proofs.Common.{List, ℕ}
+use Rattle.dv_views.specs.Inner.Readers.{listing_seen}
 use Rattle.dv_views.specs.Inner.Seen.{view_seen}
 use Rattle.dv_views.specs.Inner.Views.{view_form}
 use Rattle.dv_views.proofs.Heights.{forms_of}

@@ -1,4 +1,4 @@
-use Rattle.std.proofs.Common.{sym, ◌∙◌}
+use Rattle.std.proofs.Common.{◌∙◌}
 use Rattle.dv_views.proofs.Listed.{found_under, none_under}
 use Rattle.dv_views.proofs.readers.Readers.under.Goals as goal
 

@@ -1,4 +1,4 @@
-use Rattle.std.proofs.Common.{◌≡◌, ◌∙◌, List, ℕ, ap, not, length, sym}
+use Rattle.std.proofs.Common.{◌∙◌, List, ℕ, ap, not, length}
 use Rattle.std.specs.Prelude.{◌==◌}
 use Rattle.dv_views.specs.Inner.Readers.{listing_seen}
 use Rattle.dv_views.specs.Inner.Older.{views}

@@ -1,4 +1,4 @@
-use Rattle.std.proofs.Common.{◌≡◌, [], subst, ◌∙◌}
+use Rattle.std.proofs.Common.{[], subst, ◌∙◌}
 use Rattle.dv_views.specs.Flow.{told_at}
 use Rattle.dv_views.specs.Inner.Older.{views}
 use Rattle.dv_views.specs.Inner.Readers.{listing_seen}

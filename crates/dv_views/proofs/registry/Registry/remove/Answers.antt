@@ -1,4 +1,4 @@
-use Rattle.std.proofs.Common.{◌≡◌, List, false, sym, subst, ap, is_some, ◌∙◌}
+use Rattle.std.proofs.Common.{◌≡◌, false, sym, subst, ap, is_some, ◌∙◌}
 use Rattle.dv_views.specs.Inner.Older.{Entries, views}
 use Rattle.dv_views.specs.Inner.Readers.{AreReaders, Listing, listing_seen, listing_without}
 use Rattle.dv_views.specs.Inner.Views.{Views, reads_name}

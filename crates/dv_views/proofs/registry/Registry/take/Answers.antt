@@ -1,14 +1,11 @@
-use Rattle.std.proofs.Common.{◌≡◌, List, ap, subst, sym, map, ◌∙◌}
+use Rattle.std.proofs.Common.{subst, ◌∙◌}
 use Rattle.dv_views.specs.Flow.{told_at}
-use Rattle.dv_views.specs.Forms.{ViewForm, heights}
 use Rattle.dv_views.specs.Inner.Older.{views}
-use Rattle.dv_views.specs.Inner.Readers.{AreReaders, listing_seen}
-use Rattle.dv_views.specs.Inner.Seen.{HaveHeights, IsSoundRegistry}
+use Rattle.dv_views.specs.Inner.Readers.{listing_seen}
 use Rattle.dv_views.specs.Inner.Turned.{HaveTaken}
-use Rattle.dv_views.specs.Inner.Views.{Views, view_form}
+use Rattle.dv_views.specs.Inner.Views.{Views}
 use Rattle.dv_views.proofs.Walked.{sound_behind}
 use Rattle.dv_views.proofs.Heights.{forms_of}
-use Rattle.dv_views.proofs.OneBehind.{forms_after}
 use Rattle.dv_views.proofs.ReadBy.{readers_under}
 use Rattle.dv_views.proofs.registry.Registry.take.Goals as goal
 
