@@ -195,6 +195,15 @@ module _ (command : List ℕ) (sections : List Section) (fields : List Field) (k
       ap needed_read read ∙ ap (λ (name : List ℕ). let all : Result Command BsonFault = Ok (Sections fields (map (front_needed (needed_of name)) so_far.lists)) in all) by_name
       ∙ ap (λ (ls : CommandLists). let all : Result Command BsonFault = Ok (Sections fields ls) in all) so_far.kept_is
 
+-- ---- a body alone
+
+pub one_read : (document : List ℕ) (fields : List Field) → fields_in document ≡ Ok fields → needed_read (read_in (body document ∷ [])) ≡ Ok (Sections fields [])
+one_read document fields e = rw e refl
+
+pub one_fails : (document : List ℕ) (fault : BsonFault) → (fault ≡ NoMemory) ⊎ (fields_in document ≡ Err fault) → (fault ≡ NoMemory) ⊎ (needed_read (read_in (body document ∷ [])) ≡ Err fault)
+one_fails document fault (inl want) = inl want
+one_fails document fault (inr e) = inr (rw e refl)
+
 -- ---- the command
 
 pub needed_from : (read : Result (List Field × CommandLists) BsonFault) (command : Command) → needed_read read ≡ Ok command → needed (command_from read) ≡ command

@@ -1,11 +1,11 @@
 -- The sections of a message, in both directions.
-use Rattle.std.proofs.Common.{◌≡◌, ℕ, ◌^◌, ◌<◌, ◌≤◌, true, false, eqb, List, [], ◌∷◌, length, Option, Some, None, refl, sym, ap, ◌∙◌, arith}
+use Rattle.std.proofs.Common.{◌≡◌, ℕ, ◌-◌, ◌^◌, ◌<◌, ◌≤◌, true, false, eqb, List, [], ◌∷◌, length, slice_index_or, take, drop, Option, Some, None, refl, sym, ap, ◌∙◌, arith}
 use Rattle.std.specs.List.{list_all}
 use Rattle.std.proofs.lemmas.Bool.{eqb-true, and_parts}
-use Rattle.std.proofs.lemmas.List.{length-append}
+use Rattle.std.proofs.lemmas.List.{length-append, nil_from_length, take_all}
 use Rattle.dv_value.specs.Spelling.{IsBytes}
-use Rattle.dv_message.specs.Sections.{Section, body, named, section_spelling, sections_spelling, is_section, body_count, names_among, are_distinct, go_together, are_sections, each_in, section_at, sections_together, sections_in}
-use Rattle.dv_message.proofs.Rows.{row_spelled, row_found}
+use Rattle.dv_message.specs.Sections.{Section, body, named, section_spelling, sections_spelling, is_section, body_count, names_among, are_distinct, go_together, are_sections, onto, each_in, section_frame, section_by, section_at, sections_together, sections_in}
+use Rattle.dv_message.proofs.Rows.{row_nothing, row_first, row_spelled, row_found}
 use Rattle.dv_message.proofs.Frames.{some_if, sections_advance, sections_are_spelled, framed_least}
 
 together_are : (found : Option (List Section)) (sections : List Section) → sections_together found ≡ Some sections → (found ≡ Some sections) × (go_together sections ≡ true)
@@ -47,3 +47,25 @@ sections_long sections are =
     let parts = and_parts (list_all is_section sections) (go_together sections) are in
     let one = eqb-true (body_count sections) 1 (and_parts (eqb (body_count sections) 1) (are_distinct (names_among sections)) parts.1).0 in
     long_among sections parts.0 (omega arith)
+
+section_alone : (bytes frame : List ℕ) → section_frame bytes ≡ Some (frame, []) → section_at (0 ∷ bytes) ≡ Some (body frame, [])
+unfolding section_at
+section_alone bytes frame e = ap (section_by 0) e
+
+-- a body and nothing else
+body_alone : (bytes frame : List ℕ) → section_frame bytes ≡ Some (frame, []) → sections_in (0 ∷ bytes) ≡ Some (body frame ∷ [])
+unfolding sections_in
+body_alone bytes frame e =
+    ap sections_together (row_first section_at sections_advance (0 ∷ bytes) (body frame) [] (section_alone bytes frame e))
+    ∙ ap (λ (others : Option (List Section)). sections_together (onto (body frame) others)) (row_nothing section_at)
+
+pub body_shown : (bytes frame following : List ℕ) → 1 ≤ length bytes → slice_index_or bytes 0 0 ≡ 0 → section_frame (take (length bytes - 1) (drop 1 bytes)) ≡ Some (frame, following) → length following ≡ 0
+    → sections_in bytes ≡ Some (body frame ∷ [])
+body_shown [] frame following some kind e none = absurd (omega arith)
+body_shown (b ∷ bytes) frame following some kind e none =
+    let is_body : b ≡ 0 = kind in
+    let count : length (b ∷ bytes) - 1 ≡ length bytes = omega arith in
+    let behind : take (length (b ∷ bytes) - 1) bytes ≡ bytes = ap (λ (n : ℕ). take n bytes) count ∙ take_all (length bytes) bytes (omega arith) in
+    let last : following ≡ [] = nil_from_length following none in
+    let framed : section_frame bytes ≡ Some (frame, []) = ap section_frame (sym behind) ∙ e ∙ ap (λ (rest : List ℕ). Some (frame, rest)) last in
+    ap (λ (k : ℕ). sections_in (k ∷ bytes)) is_body ∙ body_alone bytes frame framed

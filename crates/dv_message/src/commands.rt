@@ -1,12 +1,13 @@
 //! The commands that messages bring.
 
-ghost use Rattle.std.specs.Prelude.{◌≡◌, ◌⊎◌, List, map, Ok};
+ghost use Rattle.std.specs.Prelude.{◌≡◌, ◌⊎◌, ◌∷◌, [], List, map, Ok};
 ghost use Rattle.dv_value.specs.Tree.{Field};
 ghost use Rattle.dv_command.specs.Asked.{command_name};
 ghost use Rattle.dv_command.specs.Lists.{CommandLists};
 ghost use Rattle.dv_command.specs.Inner.ListsView.{list_seen};
 ghost use Rattle.dv_command.specs.Inner.Needed.{needed};
 ghost use Rattle.dv_message.specs.Commands as brings;
+ghost use Rattle.dv_message.specs.Sections as wire;
 ghost use Rattle.dv_message.specs.Inner.CommandsView.{ReadAs, front_read, list_front, needed_read};
 ghost use Rattle.dv_message.specs.Inner.SectionsView.{framed_seen, section_seen};
 
@@ -43,6 +44,31 @@ struct Read {
 
 /// Reads the documents of sections in their order, to the first fault, and keeps those that the command needs.
 fn read_sections(
+    alloc: Global,
+    sections: &[Section<'_>],
+    shapes: &mut Shapes,
+) -> Result<Read, BsonFault>
+    ensures { ReadAs (λ read. Command.Sections read.body (map list_seen read.lists.items)) result (needed_read (brings.read_in (map section_seen sections.now))) }
+{
+    match sections {
+        [Section::Body(document)] => read_alone(alloc, document, shapes),
+        _ => read_several(alloc, sections, shapes),
+    }
+}
+
+/// The same of a body alone.
+fn read_alone(alloc: Global, document: &[u8], shapes: &mut Shapes) -> Result<Read, BsonFault>
+    ensures { ReadAs (λ read. Command.Sections read.body (map list_seen read.lists.items)) result (needed_read (brings.read_in (wire.body document.now ∷ []))) }
+{
+    let body = read_body(alloc, document, shapes)?;
+    Ok(Read {
+        body,
+        lists: Vec::new(alloc),
+    })
+}
+
+/// The same, whatever sections there are.
+fn read_several(
     alloc: Global,
     sections: &[Section<'_>],
     shapes: &mut Shapes,

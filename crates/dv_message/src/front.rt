@@ -5,7 +5,7 @@ ghost use Rattle.dv_message.specs.Message as wire;
 ghost use Rattle.dv_message.specs.Inner.View.{front_seen};
 
 use crate::fault::CloseFault;
-use crate::sections::{Section, number_behind, sections_in};
+use crate::sections::{Sections, number_behind, sections_in};
 use std::alloc::Global;
 
 /// The operation code of OP_MSG.
@@ -22,8 +22,7 @@ pub struct Message<'a> {
     pub request_id: u32,
     /// Whether no reply is to be sent.
     pub more_to_come: bool,
-    /// In the order of their bytes.
-    pub sections: Vec<Section<'a>>,
+    pub sections: Sections<'a>,
 }
 
 /// What is at the front of a stream.

@@ -17,5 +17,5 @@ pub use fault::CloseFault;
 pub use framed::Framed;
 pub use front::{Front, Message, front_length, front_of};
 pub use reply::append_reply;
-pub use sections::Section;
+pub use sections::{Section, Sections};
 pub use shapes::Shapes;

@@ -1,15 +1,16 @@
 //! The sections of a message (MongoDB manual, "MongoDB Wire Protocol", OP_MSG).
 
-ghost use Rattle.std.specs.Prelude.{◌≡◌, ◌==◌, ◌+◌, ◌≤◌, length, map, option_map, position, IfOk};
+ghost use Rattle.std.specs.Prelude.{◌≡◌, ◌∷◌, [], ◌==◌, ◌+◌, ◌≤◌, Some, length, map, option_map, position, IfOk, IfSome};
 ghost use Rattle.dv_bson.specs.Reading as bson;
 ghost use Rattle.dv_message.specs.Sections as wire;
-ghost use Rattle.dv_message.specs.Inner.SectionsView.{FoundAs, section_seen};
+ghost use Rattle.dv_message.specs.Inner.SectionsView.{FoundAs, section_seen, sections_seen};
 
 use crate::fault::CloseFault;
 use crate::framed::{Framed, frame_at};
 use dv_value::NoMemory;
 use std::alloc::Global;
 use std::collections::BTreeSet;
+use std::slice;
 
 /// A section, by its kind.
 #[derive(Drop)]
@@ -23,16 +24,67 @@ pub enum Section<'a> {
     },
 }
 
+/// The sections of a message, in the order of their bytes.
+#[derive(Drop)]
+pub enum Sections<'a> {
+    /// A body alone, as most messages have it.
+    One(Section<'a>),
+    /// Any.
+    Several(Vec<Section<'a>>),
+}
+
+impl<'a> Sections<'a> {
+    ghost use Rattle.dv_message.specs.Inner.SectionsView.{section_seen, sections_seen};
+
+    /// The sections as a slice.
+    pub fn as_slice(&self) -> &[Section<'a>]
+        ensures { map section_seen result.now ≡ sections_seen self.now }
+    {
+        match self {
+            Sections::One(section) => slice::from_ref(section),
+            Sections::Several(sections) => sections.as_slice(),
+        }
+    }
+}
+
 /// The sections of a message that the bytes are. `BadSection` where they are none: a section of another kind, a size, a
 /// name or a document's length that doesn't fit, not exactly one body, two lists under one name. `NoMemory` where memory
-/// is wanting.
+/// is wanting, which a body alone doesn't take.
+pub(crate) fn sections_in(alloc: Global, bytes: &[u8]) -> Result<Sections<'_>, CloseFault>
+    ensures { FoundAs sections_seen result (wire.sections_in bytes.now) }
+{
+    match body_alone(bytes) {
+        Some(body) => Ok(Sections::One(Section::Body(body))),
+        None => several_in(alloc, bytes),
+    }
+}
+
+/// The body, where the bytes are one and nothing else.
+fn body_alone(bytes: &[u8]) -> Option<&[u8]>
+    ensures { IfSome result (λ body. wire.sections_in bytes.now ≡ Some (wire.body body.now ∷ [])) }
+{
+    let [kind, behind @ ..] = bytes else {
+        return None;
+    };
+    if *kind != 0 {
+        return None;
+    }
+    let (body, following) = frame_at(behind)?;
+    if following.is_empty() {
+        Some(body)
+    } else {
+        None
+    }
+}
+
+/// As `sections_in`, whatever they are.
 #[tactic(auto, unfolding(crate::specs::Sections::sections_in))]
-pub(crate) fn sections_in(alloc: Global, bytes: &[u8]) -> Result<Vec<Section<'_>>, CloseFault>
-    ensures { FoundAs (λ sections. map section_seen sections.items) result (wire.sections_in bytes.now) }
+fn several_in(alloc: Global, bytes: &[u8]) -> Result<Sections<'_>, CloseFault>
+    ensures { FoundAs sections_seen result (wire.sections_in bytes.now) }
 {
     let sections = row_of_sections(alloc, bytes)?;
     if body_count(&sections) == 1 && are_apart(alloc, &sections)? {
-        Ok(sections)
+        Ok(Sections::Several(sections))
     } else {
         Err(CloseFault::BadSection)
     }

@@ -9,8 +9,11 @@ const LARGEST: u32 = 4_096;
 /// How many levels a shape has inside a document. What lies deeper has none.
 const LEVELS: u32 = 8;
 
-/// How many documents in a row have another shape, until that of the last one is kept: requests of several shapes that take
-/// turns leave the one that is kept.
+/// How many documents pass between two that are looked at, once a shape is kept.
+const MOST_PASSED: u32 = 4;
+
+/// How many documents of those that are looked at have another shape in a row, until that of the last one is kept: requests of
+/// several shapes that take turns leave the one that is kept.
 const MOST_OTHERS: u32 = 4;
 
 /// The shapes of the documents that a session's messages brought. A document that is read beside its shape shares the names,
@@ -57,7 +60,9 @@ impl Shapes {
 struct Shape {
     /// Null in place of each value but documents, and but arrays that begin with one.
     names: Document,
-    /// How many documents came since one had it.
+    /// How many documents came since one was looked at.
+    passed: u32,
+    /// How many documents were looked at since one had it.
     others: u32,
 }
 
@@ -66,12 +71,19 @@ impl Shape {
     fn none(alloc: Global) -> Self {
         Shape {
             names: Document::new(alloc),
+            passed: 0,
             others: 0,
         }
     }
 
-    /// Looks at a document, and takes its shape where it is time for another one. Where memory is wanting there is none then.
+    /// Looks at a document where it is time to, and takes its shape where it is time for another one. Where memory is wanting
+    /// there is none then.
     fn keep(&mut self, alloc: Global, document: &Document) {
+        if self.passed < MOST_PASSED && !self.names.is_empty() {
+            self.passed += 1;
+            return;
+        }
+        self.passed = 0;
         if has_shape(document, &self.names, LEVELS) {
             self.others = 0;
             return;

@@ -2,6 +2,7 @@ mod Sessions
 mod Asking
 mod Fronts
 mod Runs
+mod Straight
 mod Replies
 mod Counting
 mod Streams

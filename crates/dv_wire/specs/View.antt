@@ -1,8 +1,5 @@
 -- What sessions in memory represent.
-use Rattle.std.specs.Prelude.{◌≡◌, ◌<◌, ◌≤◌, ◌+◌, ◌^◌, ◌⊎◌, ℕ, List, [], ◌∷◌, ◌++◌, length, drop, map, Option, Some, None, Result, Ok, Err}
-use Rattle.std.specs.List.{concat}
-use Rattle.std.specs.Io.KnownBytes.{Consumes, IsAtEnd}
-use Rattle.std.specs.Io.KnownBytes.{Appends as KnownAppends}
+use Rattle.std.specs.Prelude.{ℕ, List}
 use Rattle.dv_wire.specs.declared.session.Conversation.{Conversation as ConversationSeen}
 use Rattle.dv_wire.specs.declared.session.Conversation.TheVariants.{Reading, Closed}
 use Rattle.dv_wire.specs.declared.session.Session.{Session}

@@ -1,6 +1,6 @@
 //! One session: its bytes, and its messages one after the other.
 
-ghost use Rattle.std.specs.Prelude.{◌≡◌, ◌≤◌, ◌⊎◌, ◌∷◌, ◌++◌, IfOk, OnErr, OnOk, length, drop, vec_len};
+ghost use Rattle.std.specs.Prelude.{◌≡◌, ◌≤◌, ◌⊎◌, [], ◌∷◌, ◌++◌, IfOk, OnErr, OnOk, length, drop, vec_len};
 ghost use Rattle.dv_value.specs.Spelling.{spelling};
 ghost use Rattle.dv_command.specs.Inner.Needed.{needed};
 ghost use Rattle.dv_message.specs.Commands.{command_of};
@@ -149,9 +149,31 @@ fn take_in(
     ensures { RunAnswered out.old.items out.new.items counts.old counts.new store.new (kept_or_closed result kept.new.items)
         (TakesSplit session store.old (split (kept.old.items ++ piece.now))) }
 {
+    if kept.is_empty() {
+        return take_straight(alloc, store, session, shapes, kept, piece, out, counts);
+    }
     keep(store, kept, piece)?;
     let taken = carry_out_all(alloc, store, session, shapes, kept, out, counts)?;
     drop_front(kept, taken);
+    Ok(())
+}
+
+/// The same where no bytes are kept: the messages that are whole in the piece are carried out where they lie.
+fn take_straight(
+    alloc: Global,
+    store: &mut Store,
+    session: u32,
+    shapes: &mut Shapes,
+    kept: &mut Vec<u8>,
+    piece: &[u8],
+    out: &mut Vec<u8>,
+    counts: &mut Counts,
+) -> Result<(), CloseFault>
+    requires { kept.old.items ≡ [] }
+    ensures { Answered out.old.items out.new.items counts.old counts.new (λ answers. TakesSplit session store.old (split piece.now) (record { answers = answers; state = store.new; conversation = kept_or_closed result kept.new.items })) }
+{
+    let taken = carry_out_all(alloc, store, session, shapes, piece, out, counts)?;
+    keep(store, kept, &piece[taken..])?;
     Ok(())
 }
 
@@ -295,12 +317,12 @@ fn read(alloc: Global, store: &mut Store, shapes: &mut Shapes, message: &Message
     ensures command { (needed (command_of (message_seen message.now)) ≡ result) ⊎ (result ≡ Command.Invalid BsonFault.NoMemory) }
     ensures store { store.new ≡ store.old }
 {
-    let command = command_in(alloc, &message.sections, shapes);
+    let command = command_in(alloc, message.sections.as_slice(), shapes);
     if !matches!(command, Command::Invalid(BsonFault::NoMemory)) {
         return command;
     }
     store.give_back();
-    command_in(alloc, &message.sections, shapes)
+    command_in(alloc, message.sections.as_slice(), shapes)
 }
 
 /// Carries out the command that a message's sections bring.

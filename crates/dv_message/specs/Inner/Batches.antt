@@ -1,5 +1,5 @@
 -- The reply with a batch of rows, part by part, as its bytes are appended.
-use Rattle.std.specs.Prelude.{ℕ, List, ◌∷◌, ◌++◌, codes, decimal, map}
+use Rattle.std.specs.Prelude.{ℕ, List, ◌∷◌, ◌++◌, decimal, map}
 use Rattle.std.specs.Int.{w64, to_le_bytes}
 use Rattle.dv_value.specs.declared.kind.Kind.TheVariants as kinds
 use Rattle.dv_value.specs.Spelling.{counted, element_spelling, elements_spelling, spelling}

@@ -1,10 +1,12 @@
 -- What sections in memory stand for.
-use Rattle.std.specs.Prelude.{◌≡◌, ℕ, zero, suc, List, [], ◌∷◌, length, Option, Some, None, Result, Ok, Err, ⊤}
+use Rattle.std.specs.Prelude.{◌≡◌, ℕ, zero, suc, List, [], ◌∷◌, length, map, Option, Some, None, Result, Ok, Err, ⊤}
 use Rattle.dv_message.specs.declared.fault.CloseFault.{CloseFault}
 use Rattle.dv_message.specs.declared.fault.CloseFault.TheVariants.{BadLength, BadOpCode, BadFlag, Checksum, BadSection, NoMemory}
 use Rattle.dv_message.specs.declared.framed.Framed.{Framed}
 use Rattle.dv_message.specs.declared.sections.Section as declared
 use Rattle.dv_message.specs.declared.sections.Section.TheVariants.{Body, Named}
+use Rattle.dv_message.specs.declared.sections.Sections.{Sections}
+use Rattle.dv_message.specs.declared.sections.Sections.TheVariants.{One, Several}
 use Rattle.dv_message.specs.Sections.{Section, body, named, section_frame}
 
 -- the documents that bytes frame, one behind the other, up to where they frame none; as many steps as there are bytes are enough
@@ -25,6 +27,10 @@ framed_seen framed = frames_in framed.bytes.now
 abbrev pub section_seen : declared.Section → Section
 section_seen (Body document) = body document.now
 section_seen (Named name documents) = named name.now (framed_seen documents)
+
+abbrev pub sections_seen : Sections → List Section
+sections_seen (One section) = section_seen section ∷ []
+sections_seen (Several sections) = map section_seen sections.items
 
 -- there is no such thing, or memory was wanting to look for it
 abbrev pub MissedBy : {Y : Type 0} → CloseFault → Option Y → Type 0

@@ -1,14 +1,14 @@
 -- What messages in memory stand for.
-use Rattle.std.specs.Prelude.{ℕ, List, ◌++◌, map}
+use Rattle.std.specs.Prelude.{ℕ, List, ◌++◌}
 use Rattle.std.specs.Int.{w32, to_le_bytes}
 use Rattle.dv_message.specs.declared.front.Message as declared
 use Rattle.dv_message.specs.declared.front.Front.{Front as FrontSeen}
 use Rattle.dv_message.specs.declared.front.Front.TheVariants.{Unfinished, Closing, Whole}
-use Rattle.dv_message.specs.Inner.SectionsView.{section_seen}
+use Rattle.dv_message.specs.Inner.SectionsView.{sections_seen}
 use Rattle.dv_message.specs.Message.{Message, op_msg, StreamFront, unfinished, closing, whole}
 
 abbrev pub message_seen : declared.Message → Message
-message_seen m = record { request_id = m.request_id; more_to_come = m.more_to_come; sections = map section_seen m.sections.items }
+message_seen m = record { request_id = m.request_id; more_to_come = m.more_to_come; sections = sections_seen m.sections }
 
 abbrev pub front_seen : FrontSeen → StreamFront
 front_seen Unfinished = unfinished

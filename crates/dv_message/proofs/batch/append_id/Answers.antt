@@ -1,4 +1,3 @@
-use Rattle.std.proofs.Common.{List, ℕ, ◌++◌}
 use Rattle.std.proofs.lemmas.Result.{on_ok_weaker}
 use Rattle.dv_message.proofs.Batches.{id_appended}
 use Rattle.dv_message.proofs.batch.append_id.Goals as goal

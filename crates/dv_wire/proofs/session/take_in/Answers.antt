@@ -1,9 +1,18 @@
-use Rattle.std.proofs.Common.{[], sym, refl}
-use Rattle.std.proofs.lemmas.List.{append-nil}
+use Rattle.std.proofs.Common.{◌≡◌, [], sym, refl, ◌∙◌, arith}
+use Rattle.std.proofs.lemmas.Bool.{eqb-true}
+use Rattle.std.proofs.lemmas.List.{append-nil, nil_from_length}
 use Rattle.std.proofs.lemmas.Result.{err_from_is_err_and}
 use Rattle.dv_wire.specs.Schedule.{takes_some}
 use Rattle.dv_wire.proofs.Counting.{Counted-none}
 use Rattle.dv_wire.proofs.session.take_in.Goals as goal
+
+pub take_straight-requires : goal.take_straight-requires
+take_straight-requires c = nil_from_length c.args.kept.now.items (omega (arith, eqb-true _ 0 (sym c.is_empty.ensures ∙ c.if-is_empty.true), c.args.kept.now.ok.0))
+
+pub returns-then-is_empty : goal.returns-then-is_empty
+returns-then-is_empty c =
+    let none : c.args.kept.now.items ≡ [] = nil_from_length c.args.kept.now.items (omega (arith, eqb-true _ 0 (sym c.is_empty.ensures ∙ c.if-is_empty.true), c.args.kept.now.ok.0)) in
+    rw none c.take_straight.ensures
 
 -- no message is carried out
 pub returns-in_err-keep : goal.returns-in_err-keep

@@ -7,8 +7,8 @@ use Rattle.dv_message.specs.Sections.{body, named}
 use Rattle.dv_message.specs.Inner.SectionsView.{framed_seen, section_seen}
 use Rattle.dv_message.proofs.Reading.{taken_is, parts_are}
 use Rattle.dv_message.proofs.Brought.{AreKept, none_kept, body_kept, list_kept, stops_needed, body_fault, list_fault, as_needed}
-use Rattle.dv_message.proofs.commands.read_sections.Goals as goal
-use Rattle.dv_message.proofs.commands.read_sections.Goals.{in-Body+in_ok-body-in-Body, in-Named+in_ok-read_list-in-Named+in_ok-push-in-Named}
+use Rattle.dv_message.proofs.commands.read_several.Goals as goal
+use Rattle.dv_message.proofs.commands.read_several.Goals.{in-Body+in_ok-body-in-Body, in-Named+in_ok-read_list-in-Named+in_ok-push-in-Named}
 
 pub sections-init : goal.sections-init
 sections-init c = rw (c.new-body.ensures, c.new-lists.ensures.items) (none_kept c.command_name_in-command.result.now)
