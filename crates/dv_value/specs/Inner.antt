@@ -4,7 +4,6 @@ pub mod TreeCode
 pub mod ViewFalls
 pub mod Covers
 pub mod CoversFall
-pub mod Kept
 pub mod Places
 pub mod Spelled
 pub mod Weight

@@ -8,6 +8,7 @@ pub mod Removing
 pub mod FieldChange
 pub mod Results
 pub mod Short
+pub mod Kept
 pub mod Widths
 -- what only bodies and proofs need
 pub mod Inner

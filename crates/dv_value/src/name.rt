@@ -30,7 +30,7 @@ pub struct Name {
 
 impl Model for Name {
     ghost use Rattle.std.specs.Prelude.{List, ℕ};
-    ghost use Rattle.dv_value.specs.Inner.Kept.{kept_bytes};
+    ghost use Rattle.dv_value.specs.Kept.{kept_bytes};
 
     ghost Value = { List ℕ };
 
