@@ -16,6 +16,7 @@ use Rattle.dv_match.specs.Filter.{Condition, Members}
 use Rattle.dv_match.specs.Match.{matches}
 use Rattle.dv_coll.specs.Collection.{HasId, IsAscending, IsNoArray, found, id_key}
 use Rattle.dv_keyed.specs.Choice.{chosen}
+use Rattle.dv_keyed.specs.Inner.Decided.{HasKeyWithin, is_one_condition}
 use Rattle.dv_keyed.specs.Inner.Index.{IndexTree}
 use Rattle.dv_keyed.specs.Inner.Interval.{is_in_all}
 use Rattle.dv_keyed.specs.Inner.Pairs.{IsOnlyKey, has_pair}
@@ -39,6 +40,15 @@ LeavesHaveKeys = (bounds : Condition) (path : List (List ℕ)) (d : List Field) 
 abbrev pub KeysAreWithin : Type 0
 KeysAreWithin = (bounds : Condition) (c : Candidate) → covers bounds (value (canon (or_null c))) ≡ is_within bounds c
 
+abbrev pub KeysAreOfLeaves : Type 0
+KeysAreOfLeaves = (bounds : Condition) (path : List (List ℕ)) (d : List Field) (k : KeyTree) → covers bounds k ≡ true → is_leaf_key k path d ≡ true → has_within bounds path d ≡ true
+
+abbrev pub BoundsDecide : Type 0
+BoundsDecide = (filter : Members) (paths : List (List (List ℕ))) (place : ℕ) (bounds : Condition) (path : List (List ℕ)) (d : List Field) → is_one_condition filter ≡ true → chosen filter paths ≡ Some (place, bounds) → slice_get paths place ≡ Some path → matches filter d ≡ has_within bounds path d
+
+pub decided-within : BoundsDecide → (ms : Members) (xs : List IndexTree) (place : ℕ) (c : Condition) (x : IndexTree) (d : List Field) → is_one_condition ms ≡ true → chosen ms (map (λ (i : IndexTree). i.path) xs) ≡ Some (place, c) → slice_get xs place ≡ Some x → matches ms d ≡ has_within c x.path d
+decided-within law ms xs place c x d one e there = law ms (map (λ (i : IndexTree). i.path) xs) place c x.path d one e (path-at xs place ∙ ap (option_map (λ (i : IndexTree). i.path)) there)
+
 pub chosen-within : MatchesAreWithin → (ms : Members) (xs : List IndexTree) (place : ℕ) (c : Condition) (x : IndexTree) (d : List Field) → chosen ms (map (λ (i : IndexTree). i.path) xs) ≡ Some (place, c) → slice_get xs place ≡ Some x → matches ms d ≡ true → has_within c x.path d ≡ true
 chosen-within law ms xs place c x d e there h =
     let plan = law ms (map (λ (i : IndexTree). i.path) xs) place c e in
@@ -55,6 +65,15 @@ narrowed among-ids test P h (d ∷ ds) all = at (among-ids (id_key d)) (test d) 
     at true false e f rest = ap (λ x. cond x (d ∷ filter test (filter (λ d. among-ids (id_key d)) ds)) (filter test (filter (λ d. among-ids (id_key d)) ds))) f ∙ rest
     at false true e f rest = absurd (let there = h d all.0 f in cc)
     at false false e f rest = rest
+
+both-ways : (a b : Bool) → (a ≡ true → b ≡ true) → (b ≡ true → a ≡ true) → a ≡ b
+both-ways true b there back = sym (there refl)
+both-ways false true there back = back refl
+both-ways false false there back = refl
+
+pub same-kept : (p q : List Field → Bool) (P : List Field → Type 0) → ((d : List Field) → P d → p d ≡ q d) → (ds : List (List Field)) → AllByRecursion P ds → filter p ds ≡ filter q ds
+same-kept p q P same [] all = refl
+same-kept p q P same (d ∷ ds) all = let rest = same-kept p q P same ds all.1 in λ j. cond (same d all.0 j) (d ∷ rest j) (rest j)
 
 -- ---- the path `_id`
 no-elements : (v : Tree) → IsNoArray v → flat_map with_elements (Some v ∷ []) ≡ Some v ∷ []
@@ -78,14 +97,25 @@ module _ (law : LeavesHaveKeys) (index : IndexTree) (c : Condition) (among-ids :
   gathered-all test ds holds ascending within =
       narrowed among-ids test (λ d. found (id_key d) ds ≡ Some d) (λ d there e. id-gathered ds holds d there (within d e)) ds (all-found ds ascending)
 
+  -- and where there are no others, no other document is gathered
+  pub gathered-only : KeysAreOfLeaves → ((i : KeyTree) → among-ids i ≡ true → HasKeyWithin c i index.pairs) → (ds : List (List Field)) → IsIndexOf index ds → IsAscending ds → filter (λ d. among-ids (id_key d)) ds ≡ filter (has_within c index.path) ds
+  gathered-only of-leaves only ds holds ascending =
+      same-kept (λ d. among-ids (id_key d)) (has_within c index.path) (λ d. found (id_key d) ds ≡ Some d) (λ d there. both-ways (among-ids (id_key d)) (has_within c index.path d) (λ e. within d there (only (id_key d) e)) (id-gathered ds holds d there)) ds (all-found ds ascending)
+    where
+      within : (d : List Field) → found (id_key d) ds ≡ Some d → HasKeyWithin c (id_key d) index.pairs → has_within c index.path d ≡ true
+      within d there w = of-leaves c index.path d w.0 w.1 (sym (holds.has w.0 (id_key d) ∙ ap (is_key_under w.0 index.path) there) ∙ w.2)
+
 -- ---- the index on `_id` has the `_id`s alone
-id-covered : KeysAreWithin → (c : Condition) (d : List Field) → HasId d → has_within c (codes "_id" ∷ []) d ≡ true → covers c (id_key d) ≡ true
+id-covered : KeysAreWithin → (c : Condition) (d : List Field) → HasId d → has_within c (codes "_id" ∷ []) d ≡ covers c (id_key d)
 unfolding has_within
-id-covered law c [] h e = absurd h
-id-covered law c (f ∷ fs) h e = law c (Some f.1) ∙ sym (ap (list_any (is_within c)) (leaves-id f fs h) ∙ or-false (is_within c (Some f.1))) ∙ e
+id-covered law c [] h = absurd h
+id-covered law c (f ∷ fs) h = ap (list_any (is_within c)) (leaves-id f fs h) ∙ or-false (is_within c (Some f.1)) ∙ sym (law c (Some f.1))
+
+pub only-ids : KeysAreWithin → (c : Condition) (ds : List (List Field)) → AllByRecursion HasId ds → filter (λ d. covers c (id_key d)) ds ≡ filter (has_within c (codes "_id" ∷ [])) ds
+only-ids law c ds identified = same-kept (λ d. covers c (id_key d)) (has_within c (codes "_id" ∷ [])) HasId (λ d h. sym (id-covered law c d h)) ds identified
 
 pub gathered-ids : KeysAreWithin → (c : Condition) (among-ids : KeyTree → Bool) → ((k : KeyTree) → covers c k ≡ true → among-ids k ≡ true) → (test : List Field → Bool) (ds : List (List Field)) → AllByRecursion HasId ds → ((d : List Field) → test d ≡ true → has_within c (codes "_id" ∷ []) d ≡ true) → filter test (filter (λ d. among-ids (id_key d)) ds) ≡ filter test ds
-gathered-ids law c among-ids covered test ds identified within = narrowed among-ids test HasId (λ d h e. covered (id_key d) (id-covered law c d h (within d e))) ds identified
+gathered-ids law c among-ids covered test ds identified within = narrowed among-ids test HasId (λ d h e. covered (id_key d) (sym (id-covered law c d h) ∙ within d e)) ds identified
 
 -- ---- the documents whose `_id`s are gathered so, and so all that match, where these have a leaf in the plan's bounds
 pub tried-all : LeavesHaveKeys → OnlyKeysAreWithin → (index : IndexTree) (c : Condition) (ms : Members) (among-ids : KeyTree → Bool) → ((k i : KeyTree) → covers c k ≡ true → has_pair k i index.pairs ≡ true → (IsOnlyKey k i index.pairs → is_in_all k index.path ms ≡ true) → among-ids i ≡ true) → (ds : List (List Field)) → IsIndexOf index ds → IsAscending ds

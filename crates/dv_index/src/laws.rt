@@ -23,8 +23,9 @@ ghost use Rattle.dv_index.specs.Inner.Search.{IsIndexOf};
 ghost use Rattle.dv_index.specs.Unique.{are_broken, clashes};
 
 pub use dv_keyed::laws::{
-    an_only_key_is_in_all_bounds, keys_are_in_the_bounds_of_their_values, keys_by_example,
-    leaves_are_found_by_keys, what_matches_is_in_the_bounds,
+    a_key_in_the_bounds_is_of_a_leaf_there, an_only_key_is_in_all_bounds,
+    keys_are_in_the_bounds_of_their_values, keys_by_example, leaves_are_found_by_keys,
+    one_condition_is_decided_by_its_bounds, what_matches_is_in_the_bounds,
 };
 
 /// A find covers all documents that match, and no more than there are.

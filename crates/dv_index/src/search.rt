@@ -4,7 +4,7 @@ ghost use Rattle.std.specs.Prelude.{◌≡◌, ◌++◌, Bool, true, List as Seq
 ghost use Rattle.dv_value.specs.Tree.{Field};
 ghost use Rattle.dv_match.specs.Filter.{in_range};
 ghost use Rattle.dv_match.specs.Match.{matches};
-ghost use Rattle.dv_keyed.specs.Choice.{chosen};
+ghost use Rattle.dv_keyed.specs.Choice.{chosen, is_point};
 ghost use Rattle.std.specs.BTreeMap.Range.{IsLeBy, IsLtBy, range_contains};
 ghost use Rattle.std.specs.List.Sorted.{IsStrictlySortedBy};
 ghost use Rattle.std.specs.Ordering.{is_eq};
@@ -25,7 +25,8 @@ use crate::indexes::Indexes;
 use crate::walk::{is_walk, walked};
 use dv_coll::Collection;
 use dv_keyed::{
-    Bounds, Index, Plan, ends_within, ids_tried, ids_within, in_order, keys_of_each, laws, lent,
+    Bounds, Index, Plan, ends_within, ids_tried, ids_within, in_order, is_decided, keys_of_each,
+    laws, lent,
 };
 use dv_match::{Filter, Range};
 use dv_order::{Key, key_of};
@@ -67,9 +68,14 @@ pub(crate) fn run_first<'c>(
     ensures { IfOk result (λ found. map (λ d. d.now) found.items ≡ take most (kept (λ d. matches filter.now d) collection.now)) }
 {
     laws::what_matches_is_in_the_bounds();
+    laws::one_condition_is_decided_by_its_bounds();
     if let Plan::Index { place, bounds } = *plan {
         if !is_walk(plan) {
             if let Some(index) = indexes.get(place) {
+                if is_decided(filter, bounds) {
+                    let all = candidates(alloc, place, index, bounds, collection)?;
+                    return Ok(first(all, most));
+                }
                 let found = tried(alloc, place, index, bounds, filter, collection)?;
                 return matching(alloc, found, filter, most);
             }
@@ -83,6 +89,14 @@ pub(crate) fn run_first<'c>(
         Direction::Ascending,
         most,
     )
+}
+
+/// The first `most` of the documents.
+fn first(mut documents: Vec<&Document>, most: usize) -> Vec<&Document>
+    ensures { result.items ≡ take most documents.entry.items }
+{
+    documents.truncate(most);
+    documents
 }
 
 /// Those of the documents that match the filter.
@@ -156,7 +170,8 @@ fn tried_by_key<'c>(
     documents_of(alloc, ids, collection)
 }
 
-/// The documents among which are all that have a leaf in the bounds of the index at a place, in the order of their `_id`s.
+/// The documents among which are all that have a leaf in the bounds of the index at a place, in the order of their `_id`s; where the
+/// bounds are points, no others are there.
 pub(crate) fn candidates<'c>(
     alloc: Global,
     place: usize,
@@ -165,7 +180,8 @@ pub(crate) fn candidates<'c>(
     collection: &'c Collection,
 ) -> Result<Vec<&'c Document>, NoMemory>
     requires { IsIndexAt place index.now collection.now }
-    ensures { IfOk result (λ found. (test : Sequence Field → Bool) → ((d : Sequence Field) → test d ≡ true → has_within (bounds_seen bounds.entry) index.now.path d ≡ true) → kept test (map (λ d. d.now) found.items) ≡ kept test collection.now) }
+    ensures all { IfOk result (λ found. (test : Sequence Field → Bool) → ((d : Sequence Field) → test d ≡ true → has_within (bounds_seen bounds.entry) index.now.path d ≡ true) → kept test (map (λ d. d.now) found.items) ≡ kept test collection.now) }
+    ensures only { IfOk result (λ found. is_point (bounds_seen bounds.entry) ≡ true → map (λ d. d.now) found.items ≡ kept (has_within (bounds_seen bounds.entry) index.now.path) collection.now) }
 {
     if place == 0 {
         candidates_by_id(alloc, bounds, collection)
@@ -180,7 +196,8 @@ fn candidates_by_id<'c>(
     bounds: Bounds<'_>,
     collection: &'c Collection,
 ) -> Result<Vec<&'c Document>, NoMemory>
-    ensures { IfOk result (λ found. (test : Sequence Field → Bool) → ((d : Sequence Field) → test d ≡ true → has_within (bounds_seen bounds.entry) id_form.path d ≡ true) → kept test (map (λ d. d.now) found.items) ≡ kept test collection.now) }
+    ensures all { IfOk result (λ found. (test : Sequence Field → Bool) → ((d : Sequence Field) → test d ≡ true → has_within (bounds_seen bounds.entry) id_form.path d ≡ true) → kept test (map (λ d. d.now) found.items) ≡ kept test collection.now) }
+    ensures only { IfOk result (λ found. is_point (bounds_seen bounds.entry) ≡ true → map (λ d. d.now) found.items ≡ kept (has_within (bounds_seen bounds.entry) id_form.path) collection.now) }
 {
     laws::keys_are_in_the_bounds_of_their_values();
     // Each document has an `_id`.
@@ -253,9 +270,11 @@ fn candidates_by_key<'c>(
     collection: &'c Collection,
 ) -> Result<Vec<&'c Document>, NoMemory>
     requires { IsIndexOf index.now collection.now }
-    ensures { IfOk result (λ found. (test : Sequence Field → Bool) → ((d : Sequence Field) → test d ≡ true → has_within (bounds_seen bounds.entry) index.now.path d ≡ true) → kept test (map (λ d. d.now) found.items) ≡ kept test collection.now) }
+    ensures all { IfOk result (λ found. (test : Sequence Field → Bool) → ((d : Sequence Field) → test d ≡ true → has_within (bounds_seen bounds.entry) index.now.path d ≡ true) → kept test (map (λ d. d.now) found.items) ≡ kept test collection.now) }
+    ensures only { IfOk result (λ found. is_point (bounds_seen bounds.entry) ≡ true → map (λ d. d.now) found.items ≡ kept (has_within (bounds_seen bounds.entry) index.now.path) collection.now) }
 {
     laws::leaves_are_found_by_keys();
+    laws::a_key_in_the_bounds_is_of_a_leaf_there();
     // The documents ascend by their `_id`s.
     let _ = collection.len();
     let ids = ids_within(alloc, index.pairs().as_pairs(), bounds)?;

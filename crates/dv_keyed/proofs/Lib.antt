@@ -9,6 +9,8 @@ pub mod Chosen
 pub mod Ordered
 pub mod Ranges
 pub mod Sound
+pub mod Points
+pub mod Decided
 pub mod Only
 pub mod Bars
 pub mod Copied

@@ -19,7 +19,7 @@ module _ (law : (v w : Tree) → key_order (value (canon v)) (value (canon w)) �
   module _ (path : List (List ℕ)) (d : List Field) (v : Tree) (only : (l : KeyTree) → is_leaf_key l path d ≡ true → is_eq (key_order l (value (canon v))) ≡ true) where
     in-bounds : (c : Condition) → meets c (whole d path) (leaves d path) ≡ true → is_in_bounds (value (canon v)) c ≡ true
     in-bounds (in_range r w) e =
-        let u = leaf-key law (in_range r w) path d (met-bound (in_range r w) path d refl e) in
+        let u = leaf-key law (in_range r w) path d (sym (met-bound (in_range r w) path d refl) ∙ e) in
         let one = (same u.0 v).0 (equal-from (order u.0 v) (ap is_eq (sym (law u.0 v)) ∙ only (value (canon u.0)) u.2)) in
         ap (λ t. covers (in_range r w) (value t)) (sym one) ∙ u.1
     in-bounds c e = refl

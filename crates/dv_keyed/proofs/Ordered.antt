@@ -18,7 +18,7 @@ use Rattle.dv_order.specs.Order.{canon}
 use Rattle.dv_order.specs.Inner.KeyLaws.{key_order_total}
 use Rattle.dv_path.specs.LeafKeys.{is_key_of, is_some_key}
 use Rattle.dv_keyed.specs.Inner.Keys.{has_key}
-use Rattle.dv_keyed.proofs.Lists.{any-map, equal-from}
+use Rattle.dv_keyed.proofs.Lists.{any-map, any-one-more, equal-from}
 
 abbrev pub now : Bor KeyTree → KeyTree
 now x = x.now
@@ -74,19 +74,7 @@ module _ (xs sorted ys : List (Bor KeyTree)) (filtered : IsFiltered (DiffersFrom
       ∙ sym (list_any-IsPermutation p xs sorted moved)
       ∙ sym (any-map (λ l. is_eq (key_order k l)) now xs)
 
-or-none : (b : Bool) → b || false ≡ false || b
-or-none true = refl
-or-none false = refl
-
-or-grouped : (a b c : Bool) → a || (b || c) ≡ (a || b) || c
-or-grouped true b c = refl
-or-grouped false b c = refl
-
--- a key stands among the first keys and the next one where it stands among the first, or is the next one
-pub one-among-more : (k : KeyTree) (ids : List (Bor KeyTree)) (i : ℕ) (x : Bor KeyTree) → i < length ids → x ≡ get_or ids i x → has_key k (map now (take (i + 1) ids)) ≡ has_key k (map now (take i ids)) || is_eq (key_order k x.now)
-one-among-more k [] i x within is = absurd (omega arith)
-one-among-more k (y ∷ ys) zero x within is = or-none (is_eq (key_order k y.now)) ∙ ap (λ (z : Bor KeyTree). is_eq (key_order k z.now)) (sym is)
-one-among-more k (y ∷ ys) (suc i) x within is =
-    let here = is_eq (key_order k y.now) in
-    let rest = rw add-one at (one-among-more k ys i x (omega arith) is) in
-    rw add-one (ap (λ b. here || b) rest ∙ or-grouped here (has_key k (map now (take i ys))) (is_eq (key_order k x.now)))
+-- some of the first keys and the next one passes a test where one of the first does, or the next one
+pub any-among-more : (p : KeyTree → Bool) (ids : List (Bor KeyTree)) (i : ℕ) (x : Bor KeyTree) → i < length ids → x ≡ get_or ids i x → list_any p (map now (take (i + 1) ids)) ≡ list_any p (map now (take i ids)) || p x.now
+any-among-more p ids i x within is =
+    any-map p now (take (i + 1) ids) ∙ any-one-more (λ (y : Bor KeyTree). p y.now) ids i x within is ∙ ap (λ b. b || p x.now) (sym (any-map p now (take i ids)))

@@ -3,15 +3,16 @@ use Rattle.std.proofs.Common.{◌≡◌, ◌∙◌, ◌↔◌, ◌⊎◌, inl, i
 use Rattle.std.specs.List.{list_any}
 use Rattle.std.specs.Option.{option_map, option_or}
 use Rattle.std.specs.Str.{bytes_eq}
-use Rattle.std.specs.Ordering.{is_eq}
+use Rattle.std.specs.Ordering.{is_eq, is_ne}
 use Rattle.std.specs.declared.cmp.Ordering.TheVariants.{Equal}
 use Rattle.std.proofs.lemmas.Slice.Eq.{bytes_eq-Decides}
+use Rattle.std.proofs.Math.Bool.{and-true}
 use Rattle.std.proofs.lemmas.Bool.{or_left, or_right}
 use Rattle.std.proofs.lemmas.Cmp.{tied_itself}
 use Rattle.dv_value.specs.Tree.{Tree, Field}
 use Rattle.dv_order.specs.Order.{canon, class, order}
-use Rattle.dv_order.specs.Key.{value, key_order}
-use Rattle.dv_order.specs.Inner.KeyLaws.{key_order_total}
+use Rattle.dv_order.specs.Key.{KeyTree, no_element, value, key_class, key_order}
+use Rattle.dv_order.specs.Inner.KeyLaws.{key_order_total, no_class, no_class_back}
 use Rattle.dv_candidates.specs.Candidates.{Candidate, leaves, or_null, whole}
 use Rattle.dv_path.specs.LeafKeys.{is_key_of, is_leaf_key, is_some_key, leaf_values}
 use Rattle.dv_match.specs.declared.range.Range.{Range}
@@ -21,6 +22,7 @@ use Rattle.dv_match.specs.Match.{stands, matches, matches_member, matches_all, m
 use Rattle.dv_keyed.specs.Choice.{is_point, is_bound, same_path, first_of, first_in, first_in_member, first_in_all, first_place, chosen}
 use Rattle.dv_keyed.proofs.Ends.{class-canon}
 use Rattle.dv_keyed.proofs.Lists.{both, equal-from}
+use Rattle.dv_keyed.specs.Inner.Decided.{is_one_condition, is_one_under}
 use Rattle.dv_keyed.specs.Within.{is_within, has_within}
 use Rattle.dv_keyed.specs.Inner.Within.{stands_so, covers}
 
@@ -104,26 +106,30 @@ placed test ms n (p ∷ ps) m c e =
     behind : Placed test ms (suc n) ps m c → Placed test ms n (p ∷ ps) m c
     behind h = (suc h.0, (let is = h.1 in omega arith), h.2, h.3, h.4)
 
-met-point : (c : Condition) (path : List (List ℕ)) (d : List Field) → is_point c ≡ true → meets c (whole d path) (leaves d path) ≡ true → has_within c path d ≡ true
-unfolding meets has_within
-met-point (equal v) path d e h = h
-met-point (among vs) path d e h = h
-met-point c path d e h = absurd cc
+-- a condition that passes one of the tests is met where a leaf is in its bounds
+abbrev Bounds : (Condition → Bool) → Type 0
+Bounds test = (c : Condition) (path : List (List ℕ)) (d : List Field) → test c ≡ true → meets c (whole d path) (leaves d path) ≡ has_within c path d
 
-pub met-bound : (c : Condition) (path : List (List ℕ)) (d : List Field) → is_bound c ≡ true → meets c (whole d path) (leaves d path) ≡ true → has_within c path d ≡ true
+met-point : Bounds is_point
 unfolding meets has_within
-met-bound (in_range r v) path d e h = h
-met-bound c path d e h = absurd cc
+met-point (equal v) path d e = refl
+met-point (among vs) path d e = refl
+met-point c path d e = absurd cc
+
+pub met-bound : Bounds is_bound
+unfolding meets has_within
+met-bound (in_range r v) path d e = refl
+met-bound c path d e = absurd cc
 
 -- a path stands at the place, and what matches the filter has a leaf in the bounds there
 abbrev pub Plans : Members → List (List (List ℕ)) → ℕ → Condition → Type 0
 Plans ms paths place c = (path : List (List ℕ)) × (slice_get paths place ≡ Some path) × ((d : List Field) → matches ms d ≡ true → has_within c path d ≡ true)
 
-by-test : (test : Condition → Bool) → ((c : Condition) (path : List (List ℕ)) (d : List Field) → test c ≡ true → meets c (whole d path) (leaves d path) ≡ true → has_within c path d ≡ true) → (ms : Members) (paths : List (List (List ℕ))) (place : ℕ) (c : Condition) → first_place test ms 0 paths ≡ Some (place, c) → Plans ms paths place c
+by-test : (test : Condition → Bool) → Bounds test → (ms : Members) (paths : List (List (List ℕ))) (place : ℕ) (c : Condition) → first_place test ms 0 paths ≡ Some (place, c) → Plans ms paths place c
 by-test test met ms paths place c e =
     let at = placed test ms 0 paths place c e in
     let is : place ≡ at.0 = (let same = at.1 in omega arith) in
-    (at.2, ap (slice_get paths) is ∙ at.3, λ d h. (let f = found-in test at.2 c d ms at.4 h in met c at.2 d f.0 f.1))
+    (at.2, ap (slice_get paths) is ∙ at.3, λ d h. (let f = found-in test at.2 c d ms at.4 h in sym (met c at.2 d f.0) ∙ f.1))
 
 -- what matches the filter has a leaf in the bounds of the chosen index
 pub planned : (ms : Members) (paths : List (List (List ℕ))) (place : ℕ) (c : Condition) → chosen ms paths ≡ Some (place, c) → Plans ms paths place c
@@ -133,6 +139,45 @@ planned ms paths place c e =
       | inl point ↦ by-test is_point met-point ms paths place c point
       | inr bound ↦ by-test is_bound met-bound ms paths place c bound
     ]
+
+-- ---- a filter of one condition
+abbrev one : List (List ℕ) → Condition → Members
+one p c = more_members (at_path p (more_conditions c no_conditions)) no_members
+
+matches-one : (p : List (List ℕ)) (c : Condition) (d : List Field) → matches (one p c) d ≡ meets c (whole d p) (leaves d p)
+unfolding matches matches_member meets_all
+matches-one p c d = let met = meets c (whole d p) (leaves d p) in and-true (met && true) ∙ and-true met
+
+first-in-one : (test : Condition → Bool) (p : List (List ℕ)) (c : Condition) (path : List (List ℕ)) (bounds : Condition) → first_in test path (one p c) ≡ Some bounds → (p ≡ path) × (c ≡ bounds) × (test bounds ≡ true)
+unfolding first_in first_in_member
+first-in-one test p c path bounds e = at (same_path p path) (test c) refl refl e
+  where
+    at : (a b : Bool) → same_path p path ≡ a → test c ≡ b → option_or (cond a (cond b (Some c) None) None) None ≡ Some bounds → (p ≡ path) × (c ≡ bounds) × (test bounds ≡ true)
+    at true true f g h = let is : c ≡ bounds = some-same c bounds h in (one-path p path f, is, ap test (sym is) ∙ g)
+    at true false f g h = absurd cc
+    at false b f g h = absurd cc
+
+decided-by : (test : Condition → Bool) → Bounds test → (p : List (List ℕ)) (c : Condition) (paths : List (List (List ℕ))) (place : ℕ) (bounds : Condition) (path : List (List ℕ)) (d : List Field) → first_place test (one p c) 0 paths ≡ Some (place, bounds) → slice_get paths place ≡ Some path → matches (one p c) d ≡ has_within bounds path d
+decided-by test met p c paths place bounds path d e there =
+    let at = placed test (one p c) 0 paths place bounds e in
+    let is : place ≡ at.0 = (let same = at.1 in omega arith) in
+    let f = first-in-one test p c at.2 bounds at.4 in
+    let leads : p ≡ path = f.0 ∙ some-same at.2 path (sym at.3 ∙ ap (slice_get paths) (sym is) ∙ there) in
+    matches-one p c d ∙ (λ j. meets (f.1 j) (whole d (leads j)) (leaves d (leads j))) ∙ met bounds path d f.2
+
+of-one : (m : Member) (paths : List (List (List ℕ))) (place : ℕ) (bounds : Condition) (path : List (List ℕ)) (d : List Field) → is_one_under m ≡ true → chosen (more_members m no_members) paths ≡ Some (place, bounds) → slice_get paths place ≡ Some path → matches (more_members m no_members) d ≡ has_within bounds path d
+unfolding chosen
+of-one (at_path p (more_conditions c no_conditions)) paths place bounds path d is e there =
+    elim (either-or (first_place is_point (one p c) 0 paths) (first_place is_bound (one p c) 0 paths) (place, bounds) e) [
+      | inl point ↦ decided-by is_point met-point p c paths place bounds path d point there
+      | inr bound ↦ decided-by is_bound met-bound p c paths place bounds path d bound there
+    ]
+of-one m paths place bounds path d is e there = absurd cc
+
+-- what has a leaf in the bounds of its plan matches it, and nothing else does
+pub decided : (filter : Members) (paths : List (List (List ℕ))) (place : ℕ) (bounds : Condition) (path : List (List ℕ)) (d : List Field) → is_one_condition filter ≡ true → chosen filter paths ≡ Some (place, bounds) → slice_get paths place ≡ Some path → matches filter d ≡ has_within bounds path d
+decided (more_members m no_members) paths place bounds path d is e there = of-one m paths place bounds path d is e there
+decided filter paths place bounds path d is e there = absurd cc
 
 -- ---- from a leaf in the bounds to a key
 module _ (law : (v w : Tree) → key_order (value (canon v)) (value (canon w)) ≡ order v w) where
@@ -170,16 +215,32 @@ module _ (law : (v w : Tree) → key_order (value (canon v)) (value (canon w)) �
 
   -- values whose keys are equal are one to the bounds
   module _ (same : (v w : Tree) → (order v w ≡ Equal) ↔ (canon v ≡ canon w)) where
-    some-within : (c : Condition) (v : Tree) → covers c (value (canon v)) ≡ true → (xs : List Candidate) → is_some_key (value (canon v)) (map or_null xs) ≡ true → list_any (is_within c) xs ≡ true
-    some-within c v h [] e = absurd cc
-    some-within c v h (x ∷ xs) e = at (is_key_of (value (canon v)) (or_null x)) refl e (some-within c v h xs)
+    same-class : (k l : KeyTree) → key_order k l ≡ Equal → key_class k ≡ key_class l
+    same-class no_element no_element e = refl
+    same-class no_element (value w) e = absurd (let no : true ≡ false = sym (no_class w) ∙ ap is_ne e in cc)
+    same-class (value v) no_element e = absurd (let no : true ≡ false = sym (no_class_back v) ∙ ap is_ne e in cc)
+    same-class (value v) (value w) e = sym (class-canon v) ∙ ap class ((same v w).0 e) ∙ class-canon w
+
+    covers-same : (c : Condition) (k l : KeyTree) → key_order k l ≡ Equal → covers c k ≡ covers c l
+    covers-same (equal v) k l e = ap is_eq (key_order_total.congr k l (value (canon v)) e)
+    covers-same (among vs) k l e = ap (λ f. list_any f vs) (λ j v. is_eq (key_order_total.congr k l (value (canon v)) e j))
+    covers-same (in_range r v) k l e = λ j. (same-class k l e j == class v) && stands_so r (key_order_total.congr k l (value (canon v)) e j)
+    covers-same c k l e = refl
+
+    some-within : (c : Condition) (k : KeyTree) → covers c k ≡ true → (xs : List Candidate) → is_some_key k (map or_null xs) ≡ true → list_any (is_within c) xs ≡ true
+    some-within c k h [] e = absurd cc
+    some-within c k h (x ∷ xs) e = at (is_key_of k (or_null x)) refl e (some-within c k h xs)
       where
-        at : (b : Bool) → is_key_of (value (canon v)) (or_null x) ≡ b → b || is_some_key (value (canon v)) (map or_null xs) ≡ true → (is_some_key (value (canon v)) (map or_null xs) ≡ true → list_any (is_within c) xs ≡ true) → is_within c x || list_any (is_within c) xs ≡ true
+        at : (b : Bool) → is_key_of k (or_null x) ≡ b → b || is_some_key k (map or_null xs) ≡ true → (is_some_key k (map or_null xs) ≡ true → list_any (is_within c) xs ≡ true) → is_within c x || list_any (is_within c) xs ≡ true
         at true f g rest =
-            let one = (same v (or_null x)).0 (equal-from (order v (or_null x)) (ap is_eq (sym (law v (or_null x))) ∙ f)) in
-            or_left (is_within c x) (list_any (is_within c) xs) (sym (covers-within c x) ∙ ap (λ w. covers c (value w)) (sym one) ∙ h)
+            let l = value (canon (or_null x)) in
+            or_left (is_within c x) (list_any (is_within c) xs) (sym (covers-within c x) ∙ sym (covers-same c k l (equal-from (key_order k l) f)) ∙ h)
         at false f g rest = or_right (is_within c x) (list_any (is_within c) xs) (rest g)
+
+    pub of-a-leaf : (c : Condition) (path : List (List ℕ)) (d : List Field) (k : KeyTree) → covers c k ≡ true → is_leaf_key k path d ≡ true → has_within c path d ≡ true
+    unfolding has_within is_leaf_key leaf_values
+    of-a-leaf c path d k h e = some-within c k h (leaves d path) e
 
     pub by_keys : (c : Condition) (path : List (List ℕ)) (d : List Field) → (has_within c path d ≡ true) ↔ ((v : Tree) × (covers c (value (canon v)) ≡ true) × (is_leaf_key (value (canon v)) path d ≡ true))
     unfolding has_within is_leaf_key leaf_values
-    by_keys c path d = (some-key c (leaves d path), λ k. some-within c k.0 k.1 (leaves d path) k.2)
+    by_keys c path d = (some-key c (leaves d path), λ u. some-within c (value (canon u.0)) u.1 (leaves d path) u.2)

@@ -8,4 +8,5 @@ pub mod View
 pub mod Ends
 pub mod Ahead
 pub mod Interval
+pub mod Decided
 pub mod Examples

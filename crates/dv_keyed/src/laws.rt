@@ -11,6 +11,7 @@ ghost use Rattle.dv_order.specs.Order.{canon};
 ghost use Rattle.dv_candidates.specs.Candidates.{Candidate, or_null};
 ghost use Rattle.dv_path.specs.LeafKeys.{is_leaf_key};
 ghost use Rattle.dv_keyed.specs.Choice.{chosen};
+ghost use Rattle.dv_keyed.specs.Inner.Decided.{is_one_condition};
 ghost use Rattle.dv_keyed.specs.Inner.Examples.{has_key_of};
 ghost use Rattle.dv_keyed.specs.Inner.Interval.{is_in_all};
 ghost use Rattle.dv_keyed.specs.Within.{has_within, is_within};
@@ -39,6 +40,21 @@ pub fn leaves_are_found_by_keys()
     dv_order::laws::keys_stand_as_their_values();
     dv_order::laws::equal_is_same_but_for_widths();
 }
+
+/// A document that has a key in the bounds has a leaf in them.
+pub fn a_key_in_the_bounds_is_of_a_leaf_there()
+    ensures { (bounds : Condition) (path : List (List ℕ)) (d : List Field) (k : KeyTree) → covers bounds k ≡ true → is_leaf_key k path d ≡ true → has_within bounds path d ≡ true }
+{
+    dv_order::laws::keys_stand_as_their_values();
+    dv_order::laws::equal_is_same_but_for_widths();
+}
+
+/// A filter that is one condition has no other meaning than the bounds of the plan that is chosen for it: what has a leaf in them
+/// matches.
+#[tactic(auto, using(crate::proofs::Sound::decided))]
+pub fn one_condition_is_decided_by_its_bounds()
+    ensures { (filter : Members) (paths : List (List (List ℕ))) (place : ℕ) (bounds : Condition) (path : List (List ℕ)) (d : List Field) → is_one_condition filter ≡ true → chosen filter paths ≡ Some (place, bounds) → slice_get paths place ≡ Some path → matches filter d ≡ has_within bounds path d }
+{}
 
 /// A candidate is in the bounds exactly if its key is.
 pub fn keys_are_in_the_bounds_of_their_values()

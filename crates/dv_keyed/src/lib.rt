@@ -26,7 +26,7 @@ pub use keys::{Keys, keys_of, keys_without};
 pub use leaves::is_covered;
 pub use multi_index::MultiIndex;
 pub use pairs::Pairs;
-pub use plan::{Bounds, Plan, Planner, same_path};
+pub use plan::{Bounds, Plan, Planner, is_decided, same_path};
 pub use trial::{Moved, Trial};
 pub use tried::ids_tried;
 pub use within::ids_within;

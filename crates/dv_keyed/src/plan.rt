@@ -1,10 +1,11 @@
 //! Plans: by which index a filter is answered.
 
-ghost use Rattle.std.specs.Prelude.{◌≡◌, map, Some, None, if◌then◌else◌};
+ghost use Rattle.std.specs.Prelude.{◌≡◌, ◌&&◌, map, Some, None, if◌then◌else◌};
 ghost use Rattle.std.specs.Option.{option_map};
 ghost use Rattle.dv_match.specs.View.{condition, member};
-ghost use Rattle.dv_keyed.specs.Choice.{chosen, first_place, first_in, first_in_member, first_in_all, first_of};
+ghost use Rattle.dv_keyed.specs.Choice.{chosen, first_place, first_in, first_in_member, first_in_all, first_of, is_point};
 ghost use Rattle.dv_keyed.specs.Choice as choices;
+ghost use Rattle.dv_keyed.specs.Inner.Decided as decided;
 ghost use Rattle.dv_keyed.specs.Inner.View.{bounds_seen, plan_seen, has_kind};
 
 use crate::index::Index;
@@ -133,6 +134,45 @@ fn bounds_of<'f>(wanted: &'f Condition, kind: Kind) -> Option<Bounds<'f>>
         (Kind::Point, Condition::In(choices)) => Some(Bounds::Among(choices)),
         (Kind::Bound, Condition::Bound(range, value)) => Some(Bounds::Within(*range, value)),
         _ => None,
+    }
+}
+
+/// Whether the filter, whose plan has these bounds, is decided by them: they are its one condition, and are points. Takes no memory.
+pub fn is_decided(filter: &Filter, bounds: Bounds<'_>) -> bool
+    ensures { result ≡ (decided.is_one_condition filter.now && is_point (bounds_seen bounds.entry)) }
+{
+    let is_point = match bounds {
+        Bounds::Equal(_) | Bounds::Among(_) => true,
+        Bounds::Within(..) => false,
+    };
+    is_one_condition(filter) && is_point
+}
+
+/// Whether the filter is one condition under one path.
+fn is_one_condition(filter: &Filter) -> bool
+    ensures { result ≡ decided.is_one_condition filter.now }
+{
+    match filter.members() {
+        [part] => is_one_under(part),
+        _ => false,
+    }
+}
+
+fn is_one_under(part: &Member) -> bool
+    ensures { result ≡ decided.is_one_under (member part.now) }
+{
+    match part {
+        Member::At(_, conditions) => is_alone(conditions),
+        _ => false,
+    }
+}
+
+fn is_alone(conditions: &Conditions) -> bool
+    ensures { result ≡ decided.is_alone conditions.now }
+{
+    match conditions.as_slice() {
+        [_] => true,
+        _ => false,
     }
 }
 

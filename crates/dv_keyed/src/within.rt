@@ -1,12 +1,14 @@
 //! The `_id`s that pairs have in bounds.
 
-ghost use Rattle.std.specs.Prelude.{◌≡◌, true, map, filter as kept, IfOk, OnOk};
-ghost use Rattle.std.specs.Ordering.{is_eq};
+ghost use Rattle.std.specs.Prelude.{◌≡◌, ◌↔◌, true, map, IfOk};
+ghost use Rattle.std.specs.List.{list_any};
 ghost use Rattle.dv_value.specs.View.{tree};
 ghost use Rattle.dv_match.specs.Filter.{among, equal, in_range};
-ghost use Rattle.dv_order.specs.Key.{KeyTree, key_order};
+ghost use Rattle.dv_order.specs.Key.{KeyTree};
+ghost use Rattle.dv_keyed.specs.Choice.{is_point};
 ghost use Rattle.dv_keyed.specs.Inner.Pairs.{has_pair};
 ghost use Rattle.dv_keyed.specs.Inner.Keys.{has_key};
+ghost use Rattle.dv_keyed.specs.Inner.Decided.{HasKeyWithin};
 ghost use Rattle.dv_keyed.specs.Inner.Within.{covers};
 ghost use Rattle.dv_keyed.specs.Inner.View.{bounds_seen};
 
@@ -19,75 +21,77 @@ use dv_order::{Key, key_of};
 use dv_value::{List, NoMemory, Value};
 use std::alloc::Global;
 
-/// The `_id`s' keys of the pairs whose keys are in the bounds, in no order. Fails with `NoMemory` when memory runs out.
+/// The `_id`s' keys of the pairs whose keys are in the bounds, in no order; where these are points, no others. Fails with `NoMemory`
+/// when memory runs out.
 pub fn ids_within<'i>(
     alloc: Global,
     index: &'i Pairs,
     bounds: Bounds<'_>,
 ) -> Result<Vec<&'i Key>, NoMemory>
-    ensures { IfOk result (λ ids. (k i : KeyTree) → covers (bounds_seen bounds.entry) k ≡ true → has_pair k i index.now ≡ true → has_key i (map (λ l. l.now) ids.items) ≡ true) }
+    ensures all { IfOk result (λ ids. (k i : KeyTree) → covers (bounds_seen bounds.entry) k ≡ true → has_pair k i index.now ≡ true → has_key i (map (λ l. l.now) ids.items) ≡ true) }
+    ensures only { IfOk result (λ ids. is_point (bounds_seen bounds.entry) ≡ true → (i : KeyTree) → has_key i (map (λ l. l.now) ids.items) ≡ true → HasKeyWithin (bounds_seen bounds.entry) i index.now) }
 {
-    let mut ids = Vec::new(alloc);
     match bounds {
-        Bounds::Equal(value) => add_equal(index, value, &mut ids)?,
-        Bounds::Among(choices) => add_among(alloc, index, choices.values(), &mut ids)?,
-        Bounds::Within(range, value) => add_in_range(alloc, index, range, value, &mut ids)?,
+        Bounds::Equal(value) => ids_equal(alloc, index, value),
+        Bounds::Among(choices) => ids_among(alloc, index, choices.values()),
+        Bounds::Within(range, value) => ids_in_range(alloc, index, range, value),
     }
-    Ok(ids)
 }
 
-/// Adds the `_id`s' keys of the pairs whose key is of the value's class and stands so to it.
-fn add_in_range<'i>(
+/// The `_id`s' keys of the pairs whose key is of the value's class and stands so to it.
+fn ids_in_range<'i>(
     alloc: Global,
     index: &'i Pairs,
     range: Range,
     value: &Value,
-    ids: &mut Vec<&'i Key>,
-) -> Result<(), NoMemory>
-    ensures { OnOk result ((k i : KeyTree) → covers (in_range range (tree value.now)) k ≡ true → has_pair k i index.now ≡ true → has_key i (map (λ l. l.now) ids.new.items) ≡ true) }
+) -> Result<Vec<&'i Key>, NoMemory>
+    ensures { IfOk result (λ ids. (k i : KeyTree) → covers (in_range range (tree value.now)) k ≡ true → has_pair k i index.now ≡ true → has_key i (map (λ l. l.now) ids.items) ≡ true) }
 {
-    let ends = ends_within(alloc, range, value)?;
-    index.add_ids_between(ends.0, ends.1, ids)
+    let (low, high) = ends_within(alloc, range, value)?;
+    let mut ids = Vec::new(alloc);
+    index.add_ids_between(low, high, &mut ids)?;
+    Ok(ids)
 }
 
-/// Adds the `_id`s' keys of the pairs whose key is one of the values'; a value that stands there several times is looked up
-/// once.
-fn add_among<'i>(
+/// The `_id`s' keys of the pairs whose key is one of the values'; a value that stands there several times is looked up once.
+fn ids_among<'i>(
     alloc: Global,
     index: &'i Pairs,
     values: &List,
-    ids: &mut Vec<&'i Key>,
-) -> Result<(), NoMemory>
-    ensures { OnOk result ((k i : KeyTree) → covers (among values.now) k ≡ true → has_pair k i index.now ≡ true → has_key i (map (λ l. l.now) ids.new.items) ≡ true) }
+) -> Result<Vec<&'i Key>, NoMemory>
+    ensures { IfOk result (λ ids. (i : KeyTree) → (has_key i (map (λ l. l.now) ids.items) ≡ true) ↔ HasKeyWithin (among values.now) i index.now) }
 {
     let keys = keys_of_each(alloc, values.as_slice())?;
     let all = lent(alloc, &keys)?;
     let ordered = in_order(all)?;
-    add_each(index, &ordered, ids)
+    ids_at_each(alloc, index, &ordered)
 }
 
-/// Adds the `_id`s' keys of the pairs that have one of the keys.
-fn add_each<'i>(index: &'i Pairs, keys: &[&Key], ids: &mut Vec<&'i Key>) -> Result<(), NoMemory>
-    ensures { OnOk result ((k i : KeyTree) → has_key k (map (λ l. l.now) keys.now) ≡ true → has_pair k i index.now ≡ true → has_key i (map (λ l. l.now) ids.new.items) ≡ true) }
+/// The `_id`s' keys of the pairs that have one of the keys.
+fn ids_at_each<'i>(
+    alloc: Global,
+    index: &'i Pairs,
+    keys: &[&Key],
+) -> Result<Vec<&'i Key>, NoMemory>
+    ensures { IfOk result (λ ids. (i : KeyTree) → has_key i (map (λ l. l.now) ids.items) ≡ list_any (λ k. has_pair k i index.now) (map (λ l. l.now) keys.now)) }
 {
+    let mut ids = Vec::new(alloc);
     'keys: for key in keys {
-        add_at(index, key, ids)?;
+        index.add_ids_at(key, &mut ids)?;
     }
-    Ok(())
+    Ok(ids)
 }
 
-/// Adds the `_id`s' keys of the pairs whose key is the value's.
-fn add_equal<'i>(index: &'i Pairs, value: &Value, ids: &mut Vec<&'i Key>) -> Result<(), NoMemory>
-    ensures { OnOk result ((k i : KeyTree) → covers (equal (tree value.now)) k ≡ true → has_pair k i index.now ≡ true → has_key i (map (λ l. l.now) ids.new.items) ≡ true) }
+/// The `_id`s' keys of the pairs whose key is the value's.
+fn ids_equal<'i>(
+    alloc: Global,
+    index: &'i Pairs,
+    value: &Value,
+) -> Result<Vec<&'i Key>, NoMemory>
+    ensures { IfOk result (λ ids. (i : KeyTree) → (has_key i (map (λ l. l.now) ids.items) ≡ true) ↔ HasKeyWithin (equal (tree value.now)) i index.now) }
 {
     let key = key_of(value)?;
-    add_at(index, &key, ids)
-}
-
-/// Adds the `_id`s' keys of the pairs that have the key.
-fn add_at<'i>(index: &'i Pairs, key: &Key, ids: &mut Vec<&'i Key>) -> Result<(), NoMemory>
-    ensures found { OnOk result ((k i : KeyTree) → is_eq (key_order k key.now) ≡ true → has_pair k i index.now ≡ true → has_key i (map (λ l. l.now) ids.new.items) ≡ true) }
-    ensures kept { OnOk result ((i : KeyTree) → has_key i (map (λ l. l.now) ids.old.items) ≡ true → has_key i (map (λ l. l.now) ids.new.items) ≡ true) }
-{
-    index.add_ids_at(key, ids)
+    let mut ids = Vec::new(alloc);
+    index.add_ids_at(&key, &mut ids)?;
+    Ok(ids)
 }

@@ -17,5 +17,5 @@ returns c =
     ∙ ap length (map-kept (has_within (bounds_seen c.args.bounds) c.path.result.now) c.deref.result.now)
     ∙ ap (λ p. length (filter (has_within (bounds_seen c.args.bounds) p) (map now c.deref.result.now))) c.path.ensures
     ∙ ap (λ xs. length (filter test (map now xs))) c.deref.ensures.value
-    ∙ ap length (c.in_ok-found.ensures test (λ d h. h))
+    ∙ ap length (c.in_ok-found.ensures.all test (λ d h. h))
     ∙ length-filter test c.args.collection.now
