@@ -1,0 +1,175 @@
+#!/usr/bin/python3
+"""Counts what makes the sources harder to read: long clauses, laws in disguise, names with several meanings, what is there twice,
+and how many files a new stage or command touches by the tables of CONTRIBUTING.md.
+
+Prints a line for each count. Nothing is refused: the counts are there to be compared with those of an earlier commit. The crates of
+tests are left out. A type is looked for by its name alone, so a name that is used for something else too hides what nothing uses.
+
+    tools/check/figures.py             the counts
+    tools/check/figures.py --lines     also where each of what is counted is, below crates/
+"""
+import argparse
+import re
+from collections import defaultdict
+
+import contracts
+from definitions import Definitions, Module, ROOT
+
+CRATES = ROOT / "crates"
+CASES, MAP = ROOT / "CONTRIBUTING.md", ROOT / "docs" / "ARCHITECTURE.md"
+LONG, TOO_LONG = 160, 220  # characters of a clause
+SHARED = 120  # characters from which on equal lemmas are counted
+CLAUSE = re.compile(r"\b(?:requires|ensures)(?: \w+)? *\{")
+TYPE = re.compile(r"^(?:pub(?:\([^)]*\))? )?(?:struct|enum|trait) (\w+)", re.M)
+PASSED_ON = re.compile(r"^pub use (dv_\w+)::(?:\{([^}]*)\}|(\w+));", re.M)
+LAW = re.compile(r"^ *(?:pub(?:\([^)]*\))? )?fn (\w+)(?:<[^>]*>)?\((?:(?!mut )[^()])*\)\s*(?:requires|ensures)", re.M)
+DROPPED = re.compile(r"^ *let _ = [\w.]+\.len\(\);", re.M)
+BY_PLACE = re.compile(r"for place in [\w.]+\.\.\w+\.len\(\) \{\s*(?:let|if let|match)[^;{]*\.(?:entry|field)\(place\)")
+LISTED = re.compile(r"`([^`]+)`(:?)")
+# Rows of the tables in CASES whose files are neither code nor definitions nor proofs of the product.
+OUTSIDE = {"tests", "the model", "the model and notation", "the prompt", "what makes and tries scripts", "bench", "documents"}
+
+
+class Sources:
+    """The sources of all crates that are no tests, without comments and texts."""
+
+    def __init__(self):
+        self.texts = {path: contracts.plain(path.read_text()) for path in sorted(CRATES.glob("*/src/**/*.rt"))}
+        self.own = {path: text for path, text in self.texts.items() if not crate_of(path).startswith("dv_test")}
+
+    def found(self, pattern):
+        """Where a pattern is found."""
+        return [at(path, text, match.start()) for path, text in self.own.items() for match in pattern.finditer(text)]
+
+    def clauses(self, least):
+        """Clauses with more characters than these."""
+        return [at(path, text, match.start()) for path, text in self.own.items() for match in CLAUSE.finditer(text)
+                if len(" ".join(text[match.end():contracts.partner(text, match.end() - 1)].split())) > least]
+
+    def laws_outside(self):
+        """Functions that return and change nothing, are not in `laws`, and have a name that does not begin with `law_`."""
+        return [at(path, text, match.start()) + " " + match[1] for path, text in self.own.items() if path.stem != "laws"
+                for match in LAW.finditer(text) if not match[1].startswith("law_")]
+
+    def shared_types(self):
+        """Names of types that several files declare."""
+        places = defaultdict(list)
+        for path, text in self.own.items():
+            for match in TYPE.finditer(text):
+                places[match[1]].append(at(path, text, match.start()))
+        return ["%s: %s" % (name, ", ".join(where)) for name, where in sorted(places.items()) if len(where) > 1]
+
+    def passed_on(self):
+        """Names of lower crates that a crate passes on, and that no crate imports from it."""
+        found = []
+        for path, text in self.own.items():
+            if path.name == "lib.rt":
+                others = "\n".join(other for file, other in self.texts.items() if crate_of(file) != crate_of(path))
+                taken = set(re.findall(r"\w+", " ".join(re.findall(r"\b%s::(\{[^}]*\}|\w+)" % crate_of(path), others))))
+                for match in PASSED_ON.finditer(text):
+                    names = re.findall(r"\w+", match[2] or match[3])
+                    found += ["%s %s" % (at(path, text, match.start()), name) for name in names if name not in taken]
+        return found
+
+
+def crate_of(path):
+    return path.relative_to(CRATES).parts[0]
+
+
+def at(path, text, place):
+    """A place in a file: its line, and the next one where the place is the end of a line."""
+    place += len(text[place:]) - len(text[place:].lstrip())
+    return "%s:%d" % (path.relative_to(CRATES), text.count("\n", 0, place) + 1)
+
+
+def shared_lemmas():
+    """Lemmas that are stated and proved in the same words in several files."""
+    places = defaultdict(list)
+    for path in sorted(CRATES.glob("dv_*/proofs/**/*.antt")):
+        if path.name not in ("Answers.antt", "Invariants.antt") and not crate_of(path).startswith("dv_test"):
+            for item in Definitions(path, Module(crate_of(path), path.stem)).items:
+                text = " ".join(" ".join(line for line in item.lines if not line.lstrip().startswith("--")).split())
+                if len(text) >= SHARED and item.heads:
+                    places[text].append("%s %s" % (path.relative_to(CRATES), item.heads[0]))
+    return [", ".join(where) for where in places.values() if len(where) > 1]
+
+
+def lists_of_commands():
+    """Proofs with a case for each command."""
+    body = re.search(r"pub enum Asked.*?\{(.*?)\n\}", (CRATES / "dv_command/src/asking.rt").read_text(), re.S)[1]
+    names = [re.sub(r"(?<!^)(?=[A-Z])", "_", name).lower() for name in re.findall(r"^    (\w+)\(", body, re.M)]
+    found = []
+    for path in sorted(CRATES.glob("*/proofs/**/*.antt")):
+        text = re.sub(r"(?m)^(?:pub )?use .*|--.*", "", path.read_text())
+        if all(re.search(r"\b%s\b|\b%s\b" % (name, name.title().replace("_", "")), text) for name in names):
+            found.append(str(path.relative_to(CRATES)))
+    return found
+
+
+def named_files(cell):
+    """The files that a cell of a table names: (the folder in front of it, if any, its name). What is in brackets is no file."""
+    folder = ""
+    for name, is_folder in LISTED.findall(re.sub(r"\([^)]*\)", "", cell)):
+        if is_folder:
+            folder = name
+        elif folder or "/" in name or name.endswith((".rt", ".md")):
+            yield folder, name
+
+
+def missing_files():
+    """Files that the tables of CASES and MAP name, and that are not there. A file that is to be made is named without a folder."""
+    found = []
+    for page in (CASES, MAP):
+        is_table = False
+        for number, line in enumerate(page.read_text().split("\n"), 1):
+            is_table = line.startswith("|") and (is_table or line.startswith(("| Where", "| Rules")))
+            for cell in line.strip("|").split("|")[1:] if is_table else []:
+                for folder, name in named_files(cell):
+                    paths = [base / (before + name + ending) for base in (ROOT, CRATES) for before in {folder, ""} for ending in ("", ".antt", ".rt")]
+                    if "/" in folder + name and not any(path.exists() for path in paths):
+                        found.append("%s:%d %s" % (page.name, number, folder + name))
+    return found
+
+
+def cases():
+    """What a new case touches: the title of each table of CONTRIBUTING.md, and the files and folders of each row."""
+    found, title, table = [], "", None
+    for line in CASES.read_text().split("## How to add something")[-1].split("\n"):
+        if re.match("####? ", line):
+            title = line.strip("# ")
+        if line.startswith("| Where"):
+            table = {}
+            found.append((title, table))
+        elif line.startswith("| ") and table is not None and not line.startswith("|---"):
+            where, files = (cell.strip() for cell in line.strip("|").split("|")[:2])
+            table[where] = list(named_files(files))
+    return found
+
+
+def main():
+    options = argparse.ArgumentParser(description=__doc__, formatter_class=argparse.RawDescriptionHelpFormatter)
+    options.add_argument("--lines", action="store_true")
+    is_long = options.parse_args().lines
+    sources = Sources()
+    for what, found in [
+        ("clauses over %d characters" % TOO_LONG, sources.clauses(TOO_LONG)),
+        ("clauses over %d characters" % LONG, sources.clauses(LONG)),
+        ("lengths asked for only to know an invariant", sources.found(DROPPED)),
+        ("laws that are neither in `laws` nor called `law_`", sources.laws_outside()),
+        ("loops over the places of a document", sources.found(BY_PLACE)),
+        ("names of types with several meanings", sources.shared_types()),
+        ("names passed on that no crate imports there", sources.passed_on()),
+        ("lemmas that stand in several files", shared_lemmas()),
+        ("proofs that list every command", lists_of_commands()),
+        ("files that are not there, though tables of documents name them", missing_files()),
+    ]:
+        print("%5d  %s" % (len(found), what))
+        for one in found if is_long else []:
+            print("           " + one)
+    for title, table in cases():
+        inside = sum(len(files) for where, files in table.items() if where not in OUTSIDE)
+        print("%5d  files and folders for %s: %d of src, specs and proofs" % (sum(map(len, table.values())), title.lower(), inside))
+
+
+if __name__ == "__main__":
+    main()
