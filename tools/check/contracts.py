@@ -9,7 +9,6 @@ from definitions import without_comments, words_of
 # A clause: where it stands, and its text with the `ghost use` lines that it is read under.
 Clause = namedtuple("Clause", "file what text imports")
 
-BRACKETS = {"(": ")", "[": "]", "{": "}"}
 BLOCK = re.compile(r"^(?P<pub>pub )?(?P<kind>impl|trait)\b(?P<head>[^{]*)\{", re.M)
 FUNCTION = re.compile(r"^(?P<indent> *)(?P<pub>pub(?:\([^)]*\))? )?(?:const )?fn (?P<name>\w+)", re.M)
 CLAUSE = re.compile(r"\b(?:requires|ensures)(?: \w+)?\s*$")
