@@ -57,6 +57,7 @@ PARTS = [
     Part("the notation's own rows", ["notation_rows.py"], RIGHT, 2_000, False),
     Part("requests for memory under a thousand rows", ["requests_counted.py"], r"(\d+) counted, 0 wrong", 8),
     Part("what has to be believed stands apart", ["trust.py", "--check"], r"(\d+) files looked at, \d+ outer: 0 faults", 300, False),
+    Part("the files that documents name in tables", ["figures.py", "--tables"], r"(\d+) files in tables, \d+ crates in the map: 0 wrong", 300, False),
     Part("each place that answers that memory ran out is known", ["wants_of_memory.py"], r"(\d+) places in \d+ functions, each of them listed", 50, False),
 ]
 

@@ -2,14 +2,19 @@
 """Counts what makes the sources harder to read: long clauses, laws in disguise, names with several meanings, what is there twice,
 and how many files a new stage or command touches by the tables of CONTRIBUTING.md.
 
-Prints a line for each count. Nothing is refused: the counts are there to be compared with those of an earlier commit. The crates of
-tests are left out. A type is looked for by its name alone, so a name that is used for something else too hides what nothing uses.
+Prints a line for each count, to be compared with that of an earlier commit. The crates of tests are left out. Names are looked for as
+words, so a word that is used for something else too may hide what nothing uses.
+
+In the end it checks the tables of CONTRIBUTING.md and docs/ARCHITECTURE.md: each file that they name has to be there, and the map has
+to show what each crate uses. What is wrong is printed, and then the exit status is 1.
 
     tools/check/figures.py             the counts
     tools/check/figures.py --lines     also where each of what is counted is, below crates/
+    tools/check/figures.py --tables    only the check of the tables
 """
 import argparse
 import re
+import sys
 from collections import defaultdict
 
 import contracts
@@ -116,9 +121,8 @@ def named_files(cell):
             yield folder, name
 
 
-def missing_files():
-    """Files that the tables of CASES and MAP name, and that are not there. A file that is to be made is named without a folder."""
-    found = []
+def files_of_tables():
+    """The files that the tables of CASES and MAP name: where, and whether they are there. One that is to be made has no folder."""
     for page in (CASES, MAP):
         is_table = False
         for number, line in enumerate(page.read_text().split("\n"), 1):
@@ -126,9 +130,34 @@ def missing_files():
             for cell in line.strip("|").split("|")[1:] if is_table else []:
                 for folder, name in named_files(cell):
                     paths = [base / (before + name + ending) for base in (ROOT, CRATES) for before in {folder, ""} for ending in ("", ".antt", ".rt")]
-                    if "/" in folder + name and not any(path.exists() for path in paths):
-                        found.append("%s:%d %s" % (page.name, number, folder + name))
+                    if "/" in folder + name:
+                        yield "%s:%d %s" % (page.name, number, folder + name), any(path.exists() for path in paths)
+
+
+def reached(uses, crate):
+    """The crates that a crate uses, also by way of others, from the crates that each one names."""
+    found, left = set(), list(uses[crate])
+    while left:
+        name = left.pop()
+        if name not in found:
+            found.add(name)
+            left += uses[name]
     return found
+
+
+def uses_of_map():
+    """Each crate, and whether MAP shows that it uses what crates.txt says."""
+    listed, shown = defaultdict(set), defaultdict(set)
+    for line in (ROOT / "crates.txt").read_text().split("\n"):
+        crate, _, names = line.partition(":")
+        listed[crate].update(name for name in names.split() if name.startswith("dv_"))
+    for line in re.findall(r"^    (.* ─ .*)$", MAP.read_text(), re.M):
+        parts = [[crate for crate in listed if crate.startswith(part[5:])] if part.startswith("each ") else part.split(", ")
+                 for part in line.strip().split(" ─ ")]
+        for users, used in zip(parts, parts[1:]):
+            for user in users:
+                shown[user].update(used)
+    return [(crate, reached(listed, crate) == reached(shown, crate)) for crate in list(listed) if crate]
 
 
 def cases():
@@ -149,7 +178,19 @@ def cases():
 def main():
     options = argparse.ArgumentParser(description=__doc__, formatter_class=argparse.RawDescriptionHelpFormatter)
     options.add_argument("--lines", action="store_true")
-    is_long = options.parse_args().lines
+    options.add_argument("--tables", action="store_true")
+    given = options.parse_args()
+    if not given.tables:
+        show(given.lines)
+    files, uses = list(files_of_tables()), uses_of_map()
+    wrong = [where + ": not there" for where, is_there in files if not is_there]
+    wrong += [crate + ": docs/ARCHITECTURE.md shows other uses than crates.txt" for crate, is_right in uses if not is_right]
+    print("\n".join([*wrong, "%d files in tables, %d crates in the map: %d wrong" % (len(files), len(uses), len(wrong))]))
+    return 1 if wrong else 0
+
+
+def show(is_long):
+    """Prints the counts, and where each of what is counted is."""
     sources = Sources()
     for what, found in [
         ("clauses over %d characters" % TOO_LONG, sources.clauses(TOO_LONG)),
@@ -161,7 +202,6 @@ def main():
         ("names passed on that no crate imports there", sources.passed_on()),
         ("lemmas that stand in several files", shared_lemmas()),
         ("proofs that list every command", lists_of_commands()),
-        ("files that are not there, though tables of documents name them", missing_files()),
     ]:
         print("%5d  %s" % (len(found), what))
         for one in found if is_long else []:
@@ -172,4 +212,4 @@ def main():
 
 
 if __name__ == "__main__":
-    main()
+    sys.exit(main())
