@@ -1,6 +1,5 @@
 #!/usr/bin/python3
-"""Brings a docd that serves many connections those that come in crowds, break off, stop reading or hold back, and looks whether
-the others are served.
+"""Tests `docd listen` with connections that come in crowds, break off, stop reading or hold back: the others must still be served.
 
 Needs the built program (./docd run < /dev/null), Linux, and Python alone. Each case below has a docd of its own and says what
 has to hold: what each connection is answered, byte for byte, how it ends, and what the program takes meanwhile. What doesn't

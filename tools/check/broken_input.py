@@ -1,5 +1,5 @@
 #!/usr/bin/python3
-"""Sends broken messages to docd in each of its four ways, and tells the first answer that isn't the model's.
+"""Sends broken messages to docd in each of its four ways to run, and prints the first reply that isn't the model's.
 
 Needs the built program (./docd run < /dev/null). Right messages of all commands (`tools/check/random_scripts.py`) have bytes changed,
 cut, repeated, swapped and put in; lengths, flags, operation codes, kinds of sections, types, names and texts made wrong;

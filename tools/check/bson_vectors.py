@@ -1,5 +1,6 @@
 #!/usr/bin/python3
-"""Writes crates/dv_tests_values/src/bson/vectors.rt: documents spelled by another library, and what they are.
+"""Writes crates/dv_tests_values/src/bson/vectors.rt: the bytes that another library writes for documents, and
+what these documents are. A test there compares them with those that dv_bson writes.
 
 The bytes come from the BSON library of Debian's package python3-bson (`apt-get install python3-bson`, run with
 /usr/bin/python3), the text beside them from the values that it was given: plain numbers are int32, L marks int64.

@@ -1,5 +1,5 @@
 #!/usr/bin/python3
-"""Runs random scripts through docd and through the model of `tools/check/machine.py`, and tells the first difference.
+"""Runs random scripts through docd and through the model of `tools/check/machine.py`, and prints the first difference.
 
 Needs the built program (./docd run < /dev/null). The same seed makes the same scripts (`tools/check/random_scripts.py`). They have
 the commands that docd has, good ones and ones with every kind of fault, in sessions that end and open again, in messages

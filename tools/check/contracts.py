@@ -1,5 +1,6 @@
-"""Reads the contracts of crates/*/src: the clauses of public functions and laws, the ghost members of public traits and of what
-implements them, and what the values of public types are in clauses (`Value` and `view` of a `Model`)."""
+"""What trust.py and figures.py share: reads the contracts of crates/*/src, the clauses of public functions and laws,
+the ghost members of public traits and of what implements them, and what the values of public types are in clauses (`Value` and
+`view` of a `Model`)."""
 import pathlib
 import re
 from collections import namedtuple

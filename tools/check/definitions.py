@@ -1,4 +1,5 @@
-"""Reads definitions: the files of crates/*/specs, the items in them, and which other items each of them names."""
+"""What trust.py and figures.py share: reads definitions, the files of crates/*/specs, the items in them, and which other items each
+of them names."""
 import functools
 import pathlib
 import re

@@ -1,5 +1,5 @@
 #!/usr/bin/python3
-"""Cuts messages behind each of their bytes and changes each of their bytes, and looks whether docd answers as it has to.
+"""Cuts messages after each of their bytes, and changes each of their bytes: docd must still reply as the model does.
 
 Needs the built program (./docd run < /dev/null).
 

@@ -1,5 +1,5 @@
 #!/usr/bin/python3
-"""Gives docd little memory and commands that name large sizes, none of which may be answered by want of memory.
+"""Gives docd little memory and commands that name large sizes: none of them may be refused as out of memory.
 
 Needs the built program (./docd run < /dev/null). Once docd has answered a ping, it may have so many megabytes more than it has by
 then. The commands have a text that counts 2,147,483,647 bytes, `$set`s of a place in an array that is too far, and `$in`s of

@@ -1,5 +1,5 @@
 #!/usr/bin/python3
-"""Checks what the prompt of `tools/client/lines.py` tells against the documents and the model of `tools/check/machine.py`, and what it does
+"""Checks what the prompt of `tools/client/lines.py` says against the documents and the model of `tools/check/machine.py`, and what it does
 against rows that were written by hand.
 
 The codes that docs/MANUAL.md lists, and the commands that it names behind them, must be those that the model refuses commands

@@ -1,5 +1,5 @@
 #!/usr/bin/python3
-"""Refuses each of docd's requests for memory in turn, and checks that every run answers as it may.
+"""Makes each of docd's allocations fail in turn, and checks that every reply is one that is allowed then.
 
 Needs the kit and the built program (`./docd run < /dev/null` builds one). For each script of `tools/check/refused_scripts.py` docd runs again and
 again, with the first, second, .. request refused, until a run meets no refusal. What a run prints must be what the model of

@@ -1,5 +1,6 @@
 #!/usr/bin/python3
-"""Counts the requests for memory that one insert takes under a view of a thousand rows, and one find on such a view.
+"""Counts the allocations of one insert under a view of a thousand rows, and of one find on such a view: a stage that recomputes all
+its rows makes too many.
 
 Needs the kit and the built program (`./docd run < /dev/null` builds one). A collection has the documents {_id: i, k: i}, i from 1 to 1,000,
 under one view. docd runs with a last insert of {_id: 1001, k: 1001} and without it, and then also with a find of one row of the

@@ -1,5 +1,5 @@
 #!/usr/bin/python3
-"""Lets a docd work for fifty clients at once, for an hour, and looks whether its views stay right and its memory stays bounded.
+"""Lets a docd work for fifty clients at once, for an hour, and checks that its views stay right and its memory bounded.
 
 Needs the built program (./docd run < /dev/null), and Linux, which tells a process's memory in /proc. The clients, each on a
 thread and a connection of its own, insert, update and delete at random in two collections with indexes, one of them unique,

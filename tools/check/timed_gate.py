@@ -1,7 +1,7 @@
 #!/usr/bin/python3
-"""Runs `rt ci`, the gate without what needs no proof, and notes how much processor time the proof of each crate, with that of its tests, and its edits took: in
-tools/proof_seconds.txt, from which tools/build.py forecasts, and from there in the table of docs/GATE.md. It is to run alone
-on the machine, or the figures are too high. A gate that fails notes nothing.
+"""Times the proofs: runs `rt ci`, and notes the processor time of each crate's proof and edits in tools/proof_seconds.txt, from which
+tools/build.py forecasts, and in the table of docs/GATE.md. The proof of a crate with tests includes theirs. It is to run alone on
+the machine, or the figures are too high. A gate that fails notes nothing.
 
 What the gate says goes to its own standard output as it comes. Needs Linux, which tells in /proc what a process and its
 children took; it is looked at each second, so that at most the last second of a process is lost.

@@ -1,5 +1,5 @@
 #!/usr/bin/python3
-"""Turns one rule of the model at a time, and looks whether the worked examples see it.
+"""Changes one rule of the model at a time, and checks that a worked example detects it.
 
 Each turn in tools/check/turns puts a wrong rule in the place of a right one in a copy of the model of tools/check/machine.py, which is
 kept in memory; then that model answers the examples of tools/check/worked_examples.txt, those that take long last. Where it answers

@@ -1,6 +1,5 @@
 #!/usr/bin/python3
-"""Lists each place of the code that says 'memory is wanting', or leaves a view without rows that changes keep, and tells those
-that nobody has looked at.
+"""Finds each place in the code that answers out of memory, or makes a view stale, and prints those that nobody has reviewed.
 
 A body that answers want of memory where there is memory is proved, since no contract can say that memory is there. So
 each place in crates/*/src that writes such an answer, or such a mark of a view, as a value stands in tools/check/wants_of_memory.txt, by its function,
