@@ -41,18 +41,6 @@ impl<O: Outside, W: TextOut> Telling<O, W> {
     {
         self.failed
     }
-
-    /// What the connections came from, and what their lines were written to.
-    pub fn into_parts(self) -> (O, W)
-        ensures { result ≡ (self.outside, self.writer) }
-    {
-        let Telling {
-            outside,
-            writer,
-            failed: _,
-        } = self;
-        (outside, writer)
-    }
 }
 
 impl<O: Outside, W: TextOut> Outside for Telling<O, W> {
