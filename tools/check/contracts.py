@@ -5,8 +5,6 @@ import pathlib
 import re
 from collections import namedtuple
 
-from definitions import without_comments, words_of
-
 # A clause: where it stands, and its text with the `ghost use` lines that it is read under.
 Clause = namedtuple("Clause", "file what text imports")
 
