@@ -6,3 +6,5 @@ mod SoundFields
 mod Sounding
 pub mod Errors
 mod Needs
+mod Near
+mod Rare

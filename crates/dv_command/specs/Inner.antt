@@ -5,3 +5,4 @@ pub mod DocumentsView
 pub mod RulesView
 pub mod View
 pub mod ListsView
+pub mod Rare

@@ -1,5 +1,6 @@
 //! The fields of commands and of their entries, by their names.
 
+ghost use Rattle.std.specs.Option.{option_map};
 ghost use Rattle.std.specs.Prelude.{◌≡◌, [], Some, None, MatchResult};
 ghost use Rattle.dv_value.specs.Names.{value_under};
 ghost use Rattle.dv_value.specs.View.{tree};
@@ -16,6 +17,12 @@ use dv_refusal::Refusal;
 use dv_value::{Document, List, Value};
 use std::alloc::Global;
 
+/// Where a command's own field stands, and that of an entry on which all depends.
+pub(crate) const FIRST: usize = 0;
+
+/// Where mostly stands what a command or an entry says beside its first field.
+pub(crate) const SECOND: usize = 1;
+
 /// The first name of fields, which in a body is the command; empty if there is none.
 pub fn first_name(fields: &Document) -> &str
     ensures { result.now ≡ defined.first_name fields.now }
@@ -26,12 +33,25 @@ pub fn first_name(fields: &Document) -> &str
     }
 }
 
-/// The value under a name. Refused with `FailedToParse` where there is no field of the name.
-fn required<'a>(fields: &'a Document, name: &str) -> Result<&'a Value, Refusal>
+/// The value under a name, where there is one. The field is looked at first that stands at a place where it mostly is: so it is
+/// found without a search.
+pub(crate) fn value_near<'a>(fields: &'a Document, place: usize, name: &str) -> Option<&'a Value>
+    ensures { option_map (λ value. tree value.now) result ≡ value_under name.now fields.now }
+{
+    // No two fields have one name.
+    let _ = fields.len();
+    match fields.entry(place) {
+        Some((there, value)) if name == there => Some(value),
+        _ => fields.get(name),
+    }
+}
+
+/// The value under a name, which mostly stands at a place. Refused with `FailedToParse` where there is no field of the name.
+fn required<'a>(fields: &'a Document, place: usize, name: &str) -> Result<&'a Value, Refusal>
     ensures { MatchResult result (λ value. value_under name.now fields.now ≡ Some (tree value.now))
         (λ refusal. (value_under name.now fields.now ≡ None) × (refusal ≡ FailedToParse)) }
 {
-    fields.get(name).ok_or(Refusal::FailedToParse)
+    value_near(fields, place, name).ok_or(Refusal::FailedToParse)
 }
 
 /// The text under a name. Refused with `FailedToParse` if there is no field of the name, and with `TypeMismatch` if there is
@@ -39,7 +59,7 @@ fn required<'a>(fields: &'a Document, name: &str) -> Result<&'a Value, Refusal>
 pub(crate) fn text_under<'a>(fields: &'a Document, name: &str) -> Result<&'a str, Refusal>
     ensures { Returns (λ text. text.now) (defined.text_under name.now fields.now) result }
 {
-    text_of(required(fields, name)?)
+    text_of(required(fields, FIRST, name)?)
 }
 
 /// The boolean under a name, or `default` if there is no field of the name. Refused with `TypeMismatch` if there is another value.
@@ -62,7 +82,7 @@ pub(crate) fn natural_under(fields: &Document, name: &str, default: u64) -> Resu
 pub(crate) fn integer_under(fields: &Document, name: &str) -> Result<i64, Refusal>
     ensures { result ≡ defined.integer_under name.now fields.now }
 {
-    integer_of(required(fields, name)?)
+    integer_of(required(fields, FIRST, name)?)
 }
 
 /// The integers in the array under a name, of either width. Refused with `FailedToParse` if there is no field of the name, with
@@ -82,7 +102,7 @@ pub(crate) fn integers_under(
 pub(crate) fn document_under<'a>(fields: &'a Document, name: &str) -> Result<&'a Document, Refusal>
     ensures { Returns (λ document. document.now) (defined.document_under name.now fields.now) result }
 {
-    document_of(required(fields, name)?)
+    document_of(required(fields, FIRST, name)?)
 }
 
 /// The document under a name, or `default` if there is no field of the name. Refused with `TypeMismatch` if there is another value.
@@ -94,7 +114,7 @@ pub(crate) fn document_or<'a>(
     requires { default.now ≡ [] }
     ensures { Returns (λ document. document.now) (defined.document_or_none name.now fields.now) result }
 {
-    match fields.get(name) {
+    match value_near(fields, SECOND, name) {
         None => Ok(default),
         Some(value) => document_of(value),
     }
@@ -108,7 +128,7 @@ pub(crate) fn documents_under<'a>(
 ) -> Result<Documents<'a>, Refusal>
     ensures { Returns (λ documents. documents) (defined.documents_under name.now fields.now) result }
 {
-    documents_of(required(fields, name)?)
+    documents_of(required(fields, SECOND, name)?)
 }
 
 /// The list of the array under a name. Refused with `FailedToParse` if there is no field of the name, and with `TypeMismatch` if
@@ -116,7 +136,7 @@ pub(crate) fn documents_under<'a>(
 pub(crate) fn array_under<'a>(fields: &'a Document, name: &str) -> Result<&'a List, Refusal>
     ensures { Returns (λ list. list.now) (defined.array_under name.now fields.now) result }
 {
-    array_of(required(fields, name)?)
+    array_of(required(fields, SECOND, name)?)
 }
 
 /// Whether a statement deletes only the first document, by the value under a name: 1, and not 0. Refused with `FailedToParse` if
@@ -125,7 +145,7 @@ pub(crate) fn array_under<'a>(fields: &'a Document, name: &str) -> Result<&'a Li
 pub(crate) fn only_first_under(fields: &Document, name: &str) -> Result<bool, Refusal>
     ensures { result ≡ defined.only_first_under name.now fields.now }
 {
-    only_first_of(required(fields, name)?)
+    only_first_of(required(fields, SECOND, name)?)
 }
 
 /// The document of an update under a name. Refused with `FailedToParse` if there is no field of the name, or an array under it, and
@@ -133,5 +153,5 @@ pub(crate) fn only_first_under(fields: &Document, name: &str) -> Result<bool, Re
 pub(crate) fn update_under<'a>(fields: &'a Document, name: &str) -> Result<&'a Document, Refusal>
     ensures { Returns (λ document. document.now) (defined.update_under name.now fields.now) result }
 {
-    update_of(required(fields, name)?)
+    update_of(required(fields, SECOND, name)?)
 }

@@ -6,6 +6,7 @@ ghost use Rattle.dv_refusal.specs.Refusals.{Returns};
 
 use crate::command::DocumentLists;
 use crate::documents::Documents;
+use crate::fields::{SECOND, value_near};
 use crate::values::documents_of;
 use dv_refusal::Refusal;
 use dv_value::Document;
@@ -43,7 +44,7 @@ pub(crate) fn documents_under<'a>(
 ) -> Result<Documents<'a>, Refusal>
     ensures { Returns (λ documents. documents) (defined.listed_documents name.now body.now lists.now) result }
 {
-    match (body.get(name), lists.under(name)) {
+    match (value_near(body, SECOND, name), lists.under(name)) {
         (Some(value), None) => documents_of(value),
         (None, Some(documents)) => Ok(Documents::beside(documents)),
         _ => Err(Refusal::FailedToParse),

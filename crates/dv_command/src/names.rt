@@ -27,22 +27,44 @@ pub(crate) enum CommandName {
 pub(crate) fn command_named(text: &str) -> Option<CommandName>
     ensures { result ≡ asking.command_named text.now }
 {
-    match text {
-        "hello" => Some(CommandName::Hello),
-        "ping" => Some(CommandName::Ping),
-        "insert" => Some(CommandName::Insert),
-        "update" => Some(CommandName::Update),
-        "delete" => Some(CommandName::Delete),
-        "find" => Some(CommandName::Find),
-        "aggregate" => Some(CommandName::Aggregate),
-        "getMore" => Some(CommandName::GetMore),
-        "killCursors" => Some(CommandName::KillCursors),
-        "create" => Some(CommandName::Create),
-        "drop" => Some(CommandName::Drop),
-        "createIndexes" => Some(CommandName::CreateIndexes),
-        "dropIndexes" => Some(CommandName::DropIndexes),
-        "explain" => Some(CommandName::Explain),
-        "viewStats" => Some(CommandName::ViewStats),
+    // By length, so that a text is compared with few names.
+    match text.len() {
+        4 => match text {
+            "find" => Some(CommandName::Find),
+            "ping" => Some(CommandName::Ping),
+            "drop" => Some(CommandName::Drop),
+            _ => None,
+        },
+        5 => match text {
+            "hello" => Some(CommandName::Hello),
+            _ => None,
+        },
+        6 => match text {
+            "insert" => Some(CommandName::Insert),
+            "update" => Some(CommandName::Update),
+            "delete" => Some(CommandName::Delete),
+            "create" => Some(CommandName::Create),
+            _ => None,
+        },
+        7 => match text {
+            "getMore" => Some(CommandName::GetMore),
+            "explain" => Some(CommandName::Explain),
+            _ => None,
+        },
+        9 => match text {
+            "aggregate" => Some(CommandName::Aggregate),
+            "viewStats" => Some(CommandName::ViewStats),
+            _ => None,
+        },
+        11 => match text {
+            "killCursors" => Some(CommandName::KillCursors),
+            "dropIndexes" => Some(CommandName::DropIndexes),
+            _ => None,
+        },
+        13 => match text {
+            "createIndexes" => Some(CommandName::CreateIndexes),
+            _ => None,
+        },
         _ => None,
     }
 }

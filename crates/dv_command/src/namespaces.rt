@@ -5,6 +5,7 @@ ghost use Rattle.std.specs.String.{string_bytes};
 ghost use Rattle.dv_command.specs.Namespaces as names;
 ghost use Rattle.dv_refusal.specs.Refusals.{Returns, UnlessWanting};
 
+use crate::fields::value_near;
 use dv_path::has_dot;
 use dv_refusal::Refusal;
 use dv_value::{Document, Value, begins_with_dollar};
@@ -17,7 +18,9 @@ const LONGEST_NAMESPACE: usize = 120;
 pub fn database(body: &Document) -> Result<&str, Refusal>
     ensures { Returns (λ name. name.now) (names.database body.now) result }
 {
-    match body.get("$db") {
+    // Drivers write it last.
+    let last = body.len().saturating_sub(1);
+    match value_near(body, last, "$db") {
         None => Err(Refusal::FailedToParse),
         Some(Value::Text(name)) => {
             if is_database_name(name.as_str()) {

@@ -2,6 +2,7 @@
 
 ghost use Rattle.std.specs.Prelude.{◌≡◌};
 ghost use Rattle.dv_command.specs.Asked as asking;
+ghost use Rattle.dv_command.specs.Inner.Rare as rare;
 ghost use Rattle.dv_command.specs.Inner.View.{asked_seen, find_seen};
 ghost use Rattle.dv_refusal.specs.Refusals.{Returns, UnlessWanting};
 
@@ -43,6 +44,18 @@ fn find_in(alloc: Global, database: &str, body: &Document) -> Result<Find, Refus
     let collection = text_under(body, "find")?;
     let namespace = namespace(alloc, database, collection)?;
     let filter = filter_under(alloc, body, "filter")?;
+    // Most finds ask no more, and aren't looked through for each of the others.
+    if !has_rare(body) {
+        return Ok(Find {
+            namespace,
+            filter,
+            sort: None,
+            skip: 0,
+            limit: 0,
+            batch_size: FIRST_BATCH_SIZE,
+            single_batch: false,
+        });
+    }
     let sort = sort_under(alloc, body, "sort")?;
     let skip = natural_under(body, "skip", 0)?;
     let limit = natural_under(body, "limit", 0)?;
@@ -57,6 +70,33 @@ fn find_in(alloc: Global, database: &str, body: &Document) -> Result<Find, Refus
         batch_size,
         single_batch,
     })
+}
+
+/// Whether a find has a field that most finds don't have: one that says more than what is found.
+fn has_rare(body: &Document) -> bool
+    ensures { result ≡ rare.has_rare body.now }
+{
+    'fields: for place in 0..body.len() {
+        if let Some((name, _)) = body.entry(place) {
+            if is_rare(name) {
+                return true;
+            }
+        }
+    }
+    false
+}
+
+fn is_rare(name: &str) -> bool
+    ensures { result ≡ rare.is_rare name.now }
+{
+    // By length, so that a name is compared with few others.
+    match name.len() {
+        4 => matches!(name, "sort" | "skip"),
+        5 => name == "limit",
+        9 => name == "batchSize",
+        11 => name == "singleBatch",
+        _ => false,
+    }
 }
 
 pub(crate) fn aggregate_of<'a>(
