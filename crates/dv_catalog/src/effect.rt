@@ -11,7 +11,7 @@ use crate::update::{put_each, updates_clash};
 use dv_index::IndexedCollection;
 use dv_order::Key;
 use dv_update::Outcome;
-use dv_value::{Document, NoMemory, Str};
+use dv_value::{Document, Name, NoMemory};
 use std::alloc::Global;
 
 /// Changes of a collection, each of one document, in order.
@@ -27,7 +27,7 @@ pub(crate) enum Changes {
 #[derive(Drop)]
 pub(crate) struct Updates {
     /// The update's sole name, that of the field where one alone is changed.
-    pub(crate) name: Str,
+    pub(crate) name: Name,
     pub(crate) each: Vec<Updated>,
 }
 

@@ -24,7 +24,7 @@ use dv_coll::laws;
 use dv_command::{Refusal, Updating};
 use dv_index::{IndexedCollection, Replacing};
 use dv_update::{Outcome, Update, UpdateFault};
-use dv_value::{Document, NoMemory, Str};
+use dv_value::{Document, Name, NoMemory};
 use dv_views::key_of_id;
 use std::alloc::Global;
 
@@ -79,12 +79,12 @@ fn updated(
 }
 
 /// The sole name of an update. Fails where memory is wanting.
-fn name_of(alloc: Global, update: &Update) -> Result<Str, NoMemory>
+fn name_of(alloc: Global, update: &Update) -> Result<Name, NoMemory>
     ensures name { IfOk result (λ name. name ≡ outcomes.sole_name (seen.update update.now)) }
     ensures no_id { IfOk result (λ name. bytes_eq name (codes "_id") ≡ false) }
     ensures whole { IfOk result (λ name. has_zero name ≡ false) }
 {
-    Ok(Str::of(String::from_str(alloc, update.sole_name())?))
+    Name::of(alloc, update.sole_name())
 }
 
 /// What an update makes of the documents, in order, without those that stay as they are spelled. Refused as the first is,
