@@ -1,5 +1,5 @@
 -- Lent keys that are sorted, and of which equal ones stand there once.
-use Rattle.std.proofs.Common.{Bor, ◌≡◌, ◌∙◌, ◌+◌, ◌<◌, ℕ, zero, suc, length, take, get_or, add-one, arith, List, [], ◌∷◌, map, refl, ap, sym, subst, Bool, true, false, cond, ◌||◌}
+use Rattle.std.proofs.Common.{Bor, ◌≡◌, ◌∙◌, ◌+◌, ◌<◌, ℕ, length, take, get_or, List, [], ◌∷◌, map, refl, ap, sym, subst, Bool, true, false, cond, ◌||◌}
 use Rattle.std.specs.List.{AllByRecursion, dedup, dedup_from, list_any}
 use Rattle.std.specs.List.Retain.{DiffersFromLast, IsFiltered}
 use Rattle.std.specs.List.Sorted.{IsPermutation, IsSorted, IsStrictlySortedBy}

@@ -54,11 +54,7 @@ fn ids_in_range<'i>(
 }
 
 /// The `_id`s' keys of the pairs whose key is one of the values'; a value that stands there several times is looked up once.
-fn ids_among<'i>(
-    alloc: Global,
-    index: &'i Pairs,
-    values: &List,
-) -> Result<Vec<&'i Key>, NoMemory>
+fn ids_among<'i>(alloc: Global, index: &'i Pairs, values: &List) -> Result<Vec<&'i Key>, NoMemory>
     ensures { IfOk result (λ ids. (i : KeyTree) → (has_key i (map (λ l. l.now) ids.items) ≡ true) ↔ HasKeyWithin (among values.now) i index.now) }
 {
     let keys = keys_of_each(alloc, values.as_slice())?;
@@ -68,11 +64,7 @@ fn ids_among<'i>(
 }
 
 /// The `_id`s' keys of the pairs that have one of the keys.
-fn ids_at_each<'i>(
-    alloc: Global,
-    index: &'i Pairs,
-    keys: &[&Key],
-) -> Result<Vec<&'i Key>, NoMemory>
+fn ids_at_each<'i>(alloc: Global, index: &'i Pairs, keys: &[&Key]) -> Result<Vec<&'i Key>, NoMemory>
     ensures { IfOk result (λ ids. (i : KeyTree) → has_key i (map (λ l. l.now) ids.items) ≡ list_any (λ k. has_pair k i index.now) (map (λ l. l.now) keys.now)) }
 {
     let mut ids = Vec::new(alloc);
@@ -83,11 +75,7 @@ fn ids_at_each<'i>(
 }
 
 /// The `_id`s' keys of the pairs whose key is the value's.
-fn ids_equal<'i>(
-    alloc: Global,
-    index: &'i Pairs,
-    value: &Value,
-) -> Result<Vec<&'i Key>, NoMemory>
+fn ids_equal<'i>(alloc: Global, index: &'i Pairs, value: &Value) -> Result<Vec<&'i Key>, NoMemory>
     ensures { IfOk result (λ ids. (i : KeyTree) → (has_key i (map (λ l. l.now) ids.items) ≡ true) ↔ HasKeyWithin (equal (tree value.now)) i index.now) }
 {
     let key = key_of(value)?;
