@@ -10,6 +10,11 @@ messages-init c = begins c.args.session c.args.store.now c.args.stream.now c.arg
 pub messages-smaller : goal.messages-smaller
 messages-smaller c = (c.streams_split_by_their_fronts.ensures.whole c.messages.rest.now (message_seen c.in-Whole.message) c.in-Whole.behind.now (seen_is _ _ c.in-Whole.ensures.front (λ e. cc))).2
 
+pub messages-preserved : goal.messages-preserved
+messages-preserved c =
+    goes_on c.streams_split_by_their_fronts.ensures.front c.args.session c.args.store.now c.messages.store c.args.stream.now c.messages.rest.now c.args.out.now.items c.messages.out.items c.args.counts.now c.messages.counts c.messages.invariant
+    c.streams_split_by_their_fronts.ensures.whole c.carry_out.new.store (message_seen c.in-Whole.message) c.in-Whole.behind.now c.carry_out.new.out.items c.carry_out.new.counts (seen_is _ _ c.in-Whole.ensures.front (λ e. cc)) (rw c.in-Whole.ensures.store at c.in_ok-carry_out-in-Whole.ensures)
+
 pub messages-preserved-in_ok-carry_out-in-Whole : goal.messages-preserved-in_ok-carry_out-in-Whole
 messages-preserved-in_ok-carry_out-in-Whole c =
     goes_on c.streams_split_by_their_fronts.ensures.front c.args.session c.args.store.now c.messages.store c.args.stream.now c.messages.rest.now c.args.out.now.items c.messages.out.items c.args.counts.now c.messages.counts c.messages.invariant

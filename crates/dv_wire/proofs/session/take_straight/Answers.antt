@@ -1,3 +1,5 @@
+use Rattle.std.proofs.Common.{◌-◌, length, take, drop, arith}
+use Rattle.std.proofs.lemmas.List.{length-drop, take_all}
 use Rattle.std.proofs.lemmas.Result.{err_from_is_err_and}
 use Rattle.dv_message.specs.Message.{split}
 use Rattle.dv_wire.proofs.Straight.{shut_behind}
@@ -16,4 +18,8 @@ returns-in_err-keep c =
     (carried.0, carried.1, carried.2, shut_behind c.args.session c.args.store.now (split c.args.piece.now) carried.0 _ _ carried.3)
 
 pub returns : goal.returns
-returns c = rw (c.in_ok-keep.ensures.kept, c.requires, c.in_ok-keep.ensures.store) c.in_ok-taken.ensures.carried
+returns c =
+    let taken = c.in_ok-taken.taken in
+    let left = drop taken c.args.piece.now in
+    let all = take_all (length c.args.piece.now - taken) left (omega (arith, length-drop taken c.args.piece.now)) in
+    rw (c.in_ok-keep.ensures.kept, c.requires, all, c.in_ok-keep.ensures.store) c.in_ok-taken.ensures.carried
