@@ -170,7 +170,8 @@ fn take_straight(
     counts: &mut Counts,
 ) -> Result<(), CloseFault>
     requires { kept.old.items ≡ [] }
-    ensures { Answered out.old.items out.new.items counts.old counts.new (λ answers. TakesSplit session store.old (split piece.now) (record { answers = answers; state = store.new; conversation = kept_or_closed result kept.new.items })) }
+    ensures { RunAnswered out.old.items out.new.items counts.old counts.new store.new (kept_or_closed result kept.new.items)
+        (TakesSplit session store.old (split piece.now)) }
 {
     let taken = carry_out_all(alloc, store, session, shapes, piece, out, counts)?;
     keep(store, kept, &piece[taken..])?;
