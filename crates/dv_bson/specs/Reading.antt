@@ -12,6 +12,7 @@ use Rattle.dv_bson.specs.declared.fault.ReadError.{ReadError}
 use Rattle.dv_bson.specs.declared.fault.ReadError.TheVariants as errors
 use Rattle.dv_value.specs.Tree.{Tree, int32, int64, string, document, array, boolean, binary, object_id, date, null, timestamp, min_key, max_key, Field, fields_of, elements_of}
 use Rattle.dv_value.specs.Names.{has_name}
+use Rattle.dv_value.specs.Spelling.{Fits, Spells}
 
 -- the call failed with the defined fault, or ran out of memory
 abbrev pub Fails : {Y : Type 0} → ReadError → Result Y BsonFault → Type 0
@@ -213,3 +214,7 @@ fault_of (Err f) = Some f
 -- the first fault, if the bytes don't begin with a document within the limits
 unfoldable pub first_fault : List ℕ → Option BsonFault
 first_fault bytes = fault_of (document_at bytes)
+
+-- this holds of each document within the limits with whose encoding the bytes begin, and of that encoding
+abbrev pub EachSpelled : List ℕ → (List Field → List ℕ → Type 0) → Type 0
+EachSpelled bytes IsSo = (d : List Field) (spelled rest : List ℕ) → Spells d spelled → Fits d → bytes ≡ spelled ++ rest → IsSo d spelled

@@ -8,10 +8,7 @@ mod reading;
 mod walk;
 mod writer;
 
-pub use dv_value::{
-    BsonFault, Bytes, Document, FieldChange, List, NoMemory, Str, Value, begins_with_dollar, fits,
-    size,
-};
+pub use dv_value::{BsonFault, Bytes, Document, List, NoMemory, Str, Value, fits, size};
 pub use reader::{read_document, read_document_like};
 pub use walk::check_document;
 pub use writer::write_document;

@@ -5,8 +5,8 @@ ghost use Rattle.dv_value.specs.Tree.{Field};
 ghost use Rattle.dv_value.specs.Names.{AreNamed, with_values};
 ghost use Rattle.dv_value.specs.View.{tree};
 ghost use Rattle.dv_value.specs.Spelling.{Spells, Fits};
-ghost use Rattle.dv_bson.specs.Reading.{Gives, value_at, closed_by, fields_at, body_at, document_at, first_fault};
-ghost use Rattle.dv_bson.specs.Inner.Parts.{field_at, numbered, GivesNext, LeavesToRead};
+ghost use Rattle.dv_bson.specs.Reading.{EachSpelled, Gives, body_at, closed_by, document_at, first_fault, value_at};
+ghost use Rattle.dv_bson.specs.Inner.Parts.{GivesNext, LeavesToRead, field_at, field_in, fields_from, numbered};
 
 use crate::fault::ReadError;
 use crate::reading::{
@@ -89,7 +89,7 @@ fn field_of<'a>(
 ) -> Result<(&'a str, Value, &'a [u8]), ReadError>
     requires at { at + length bytes.now < 16777216 }
     requires levels { levels ≤ 100 }
-    ensures { Gives (λ x. ((x.0.now, tree x.1), x.2.now)) result (field_at (body_at levels) false at before.now bytes.now) }
+    ensures { Gives (λ x. ((x.0.now, tree x.1), x.2.now)) result (field_in levels at before.now bytes.now) }
 {
     let (kind, behind) = front_kind_of(bytes, at)?;
     let (name, rest) = field_name_of(before, behind)?;
@@ -178,7 +178,7 @@ fn value_like_next<'a>(
     requires at { at + length bytes.now < 16777216 }
     requires levels { levels ≤ 100 }
     requires named { AreNamed like.now }
-    ensures { GivesNext like.now (length before.now) (λ x. (tree x.0, x.1.now)) result (field_at (body_at levels) false at (with_values like.now (map tree before.now)) bytes.now) }
+    ensures { GivesNext like.now (length before.now) (λ x. (tree x.0, x.1.now)) result (field_in levels at (with_values like.now (map tree before.now)) bytes.now) }
 {
     let Some((name, value)) = like.entry(before.len()) else {
         return Ok(None);
@@ -213,7 +213,8 @@ fn begin_like<'a>(
 ) -> Result<Begun<'a>, ReadError>
     requires at { at + length elements.now < 16777216 }
     requires levels { levels ≤ 100 }
-    ensures left { (last : ℕ) → LeavesToRead (λ begun. fields_at (body_at levels) (length begun.rest.now) false begun.at begun.fields begun.rest.now last) result (fields_at (body_at levels) (length elements.now) false at [] elements.now last) }
+    ensures left { (last : ℕ) → LeavesToRead (λ begun. fields_from levels begun.at begun.fields begun.rest.now last) result
+        (fields_from levels at [] elements.now last) }
     ensures at { IfOk result (λ begun. begun.at + length begun.rest.now ≡ at + length elements.now) }
 {
     let mut values = Vec::with_capacity(alloc, like.len())?;
@@ -241,7 +242,8 @@ fn begin<'a>(
 ) -> Result<Begun<'a>, ReadError>
     requires at { at + length elements.now < 16777216 }
     requires levels { levels ≤ 100 }
-    ensures left { (last : ℕ) → LeavesToRead (λ begun. fields_at (body_at levels) (length begun.rest.now) false begun.at begun.fields begun.rest.now last) result (fields_at (body_at levels) (length elements.now) false at [] elements.now last) }
+    ensures left { (last : ℕ) → LeavesToRead (λ begun. fields_from levels begun.at begun.fields begun.rest.now last) result
+        (fields_from levels at [] elements.now last) }
     ensures at { IfOk result (λ begun. begun.at + length begun.rest.now ≡ at + length elements.now) }
 {
     if let Some(like) = like {
@@ -380,8 +382,7 @@ pub fn read_document(alloc: Global, bytes: &[u8]) -> Result<(Document, usize), B
     // What is read is spelled so, and fits.
     ensures found { IfOk result (λ read. (read.1 ≤ length bytes.now) × Spells read.0 (take read.1 bytes.now) × Fits read.0) }
     // What is spelled at the front and fits is read, unless memory is wanting.
-    ensures only { (d : Entries Field) (spelled rest : Entries ℕ) → Spells d spelled → Fits d → bytes.now ≡ spelled ++ rest
-        → MatchResult result (λ read. (read.0 ≡ d) × (read.1 ≡ length spelled)) (λ e. e ≡ BsonFault.NoMemory) }
+    ensures only { EachSpelled bytes.now (λ d spelled. MatchResult result (λ read. (read.0 ≡ d) × (read.1 ≡ length spelled)) (λ e. e ≡ BsonFault.NoMemory)) }
     // Which document, or which fault it is.
     ensures exact { IfOk result (λ read. document_at bytes.now ≡ Ok (read.0, read.1)) }
     ensures refused { IfErr result (λ e. (e ≡ BsonFault.NoMemory) ⊎ (first_fault bytes.now ≡ Some e)) }
@@ -400,8 +401,7 @@ pub fn read_document_like(
     // What is read is spelled so, and fits.
     ensures found { IfOk result (λ read. (read.1 ≤ length bytes.now) × Spells read.0 (take read.1 bytes.now) × Fits read.0) }
     // What is spelled at the front and fits is read, unless memory is wanting.
-    ensures only { (d : Entries Field) (spelled rest : Entries ℕ) → Spells d spelled → Fits d → bytes.now ≡ spelled ++ rest
-        → MatchResult result (λ read. (read.0 ≡ d) × (read.1 ≡ length spelled)) (λ e. e ≡ BsonFault.NoMemory) }
+    ensures only { EachSpelled bytes.now (λ d spelled. MatchResult result (λ read. (read.0 ≡ d) × (read.1 ≡ length spelled)) (λ e. e ≡ BsonFault.NoMemory)) }
     // Which document, or which fault it is.
     ensures exact { IfOk result (λ read. document_at bytes.now ≡ Ok (read.0, read.1)) }
     ensures refused { IfErr result (λ e. (e ≡ BsonFault.NoMemory) ⊎ (first_fault bytes.now ≡ Some e)) }

@@ -1,11 +1,11 @@
 //! Documents that are checked without being made.
 
-ghost use Rattle.std.specs.Prelude.{◌≡◌, ℕ, ◌+◌, ◌<◌, ◌≤◌, ◌++◌, ◌⊎◌, Ok, Some, true, false, List as Entries, take, length, map, IfOk, IfErr, MatchResult};
+ghost use Rattle.std.specs.Prelude.{◌≡◌, ℕ, ◌+◌, ◌<◌, ◌≤◌, ◌⊎◌, Ok, Some, true, false, List as Entries, take, length, map, IfOk, IfErr, MatchResult};
 ghost use Rattle.dv_value.specs.Tree.{Field};
 ghost use Rattle.dv_value.specs.View.{tree};
 ghost use Rattle.dv_value.specs.Spelling.{Spells, Fits};
-ghost use Rattle.dv_bson.specs.Reading.{value_at, body_at, document_at, first_fault};
-ghost use Rattle.dv_bson.specs.Inner.Parts.{GivesPart, Passes, EndsAs, field_at};
+ghost use Rattle.dv_bson.specs.Reading.{EachSpelled, body_at, document_at, first_fault, value_at};
+ghost use Rattle.dv_bson.specs.Inner.Parts.{EndsAs, GivesPart, Passes, field_at, field_in};
 
 use crate::fault::ReadError;
 use crate::reader::{closed, first_room};
@@ -80,7 +80,7 @@ fn behind_field<'a>(
 ) -> Result<(&'a str, &'a [u8]), ReadError>
     requires { at + length bytes.now < 16777216 }
     ensures { (seen : Entries Field) → map (λ f. f.0) seen ≡ names.now
-        → GivesPart {Z = Entries ℕ × Entries ℕ} (λ x. (x.0.now, x.1.now)) (λ made. (made.0.0, made.1)) result (field_at (body_at levels) false at seen bytes.now) }
+        → GivesPart {Z = Entries ℕ × Entries ℕ} (λ x. (x.0.now, x.1.now)) (λ made. (made.0.0, made.1)) result (field_in levels at seen bytes.now) }
 {
     let (kind, behind) = front_kind_of(bytes, at)?;
     let (name, rest) = new_name_of(names, behind)?;
@@ -176,8 +176,7 @@ pub fn check_document(alloc: Global, bytes: &[u8]) -> Result<usize, BsonFault>
     // What passes is the spelling of a document, which fits.
     ensures found { IfOk result (λ len. (d : Entries Field) × (len ≤ length bytes.now) × Spells d (take len bytes.now) × Fits d) }
     // What is spelled at the front and fits passes, unless memory is wanting.
-    ensures only { (d : Entries Field) (spelled rest : Entries ℕ) → Spells d spelled → Fits d → bytes.now ≡ spelled ++ rest
-        → MatchResult result (λ len. len ≡ length spelled) (λ e. e ≡ BsonFault.NoMemory) }
+    ensures only { EachSpelled bytes.now (λ d spelled. MatchResult result (λ len. len ≡ length spelled) (λ e. e ≡ BsonFault.NoMemory)) }
     // How long the document is that would be read, or which fault it is.
     ensures exact { IfOk result (λ len. (d : Entries Field) × (document_at bytes.now ≡ Ok (d, len))) }
     ensures refused { IfErr result (λ e. (e ≡ BsonFault.NoMemory) ⊎ (first_fault bytes.now ≡ Some e)) }

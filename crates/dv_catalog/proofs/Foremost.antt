@@ -1,13 +1,17 @@
--- Rows that a sort's first path sorts before a bar come first, so the first rows are found among some rows that have the same ones ahead of it.
-use Rattle.std.proofs.Common.{◌≡◌, ◌∙◌, ◌+◌, ◌<◌, ◌≤◌, ℕ, zero, suc, arith, Bool, true, false, cond, List, [], ◌∷◌, ◌++◌, Some, ap, sym, refl, filter, fold, length, map, slice_get, take}
+-- Rows that a sort's first path sorts ahead of a bar come first, so the first rows are found among some rows that have the same ones ahead of it.
+use Rattle.std.proofs.Common.{Bor, ◌≡◌, ◌∙◌, ◌+◌, ◌<◌, ◌≤◌, ◌&&◌, ◌||◌, ℕ, zero, suc, arith, Bool, true, false, cond, List, [], ◌∷◌, ◌++◌, Option, None, Some, ap, sym, subst, refl, filter, fold, length, map, slice_get, take}
 use Rattle.std.proofs.lemmas.Cmp.{alike_right}
 use Rattle.std.proofs.lemmas.List.{take-append-le}
 use Rattle.std.specs.List.{AllByRecursion}
-use Rattle.std.specs.Ordering.{is_lt, ordering_reverse}
+use Rattle.std.specs.Option.{IfSome}
+use Rattle.std.specs.Ordering.{is_eq, is_lt, ordering_reverse}
 use Rattle.std.specs.declared.cmp.Ordering.{Ordering}
 use Rattle.std.specs.declared.cmp.Ordering.TheVariants.{Less, Equal, Greater}
 use Rattle.dv_value.specs.Tree.{Field}
-use Rattle.dv_keyed.specs.Inner.Ahead.{is_ahead}
+use Rattle.dv_coll.specs.Collection.{AreStanding, HasId, IsAscending, found, id_key}
+use Rattle.dv_keyed.specs.Inner.Ahead.{is_until}
+use Rattle.dv_keyed.specs.declared.before.Bar.{Bar}
+use Rattle.dv_index.specs.Inner.Ahead.{is_ahead}
 use Rattle.dv_order.specs.Key.{KeyTree, key_order}
 use Rattle.dv_order.specs.Inner.KeyLaws.{key_order_total}
 use Rattle.dv_path.specs.declared.direction.Direction.{Direction}
@@ -18,6 +22,7 @@ use Rattle.dv_path.specs.SortKey.{sort_key, stands_first}
 use Rattle.dv_path.specs.SortSpec.{Part}
 use Rattle.dv_sort.specs.Sorting.{placed, stable, stands_before}
 use Rattle.dv_catalog.specs.Inner.ScanLaws.{all_placed}
+use Rattle.dv_catalog.proofs.Keys.{AreBefore, before_ascending}
 
 abbrev Rows : Type 0
 Rows = List (List Field)
@@ -61,7 +66,55 @@ stands-first : (direction : Direction) (k bar l : KeyTree) → stands_first dire
 stands-first Ascending k bar l before behind = let less = through-bar k bar l before behind in (ap is_lt less, not-back k l less)
 stands-first Descending k bar l before behind = let less = through-bar-back k bar l before behind in (ap is_lt less, not-back l k less)
 
-module _ (p : Part) (parts : List Part) (bar : KeyTree) where
+-- what is equal to another key stands to others as this does
+equal-before : (direction : Direction) (k bar l : KeyTree) → key_order k bar ≡ Equal → stands_first direction l k ≡ stands_first direction l bar
+equal-before Ascending k bar l e = ap is_lt (alike_right key_order_total k bar l e)
+equal-before Descending k bar l e = ap is_lt (key_order_total.congr k bar l e)
+
+equal-behind : (direction : Direction) (k bar l : KeyTree) → key_order k bar ≡ Equal → stands_first direction k l ≡ stands_first direction bar l
+equal-behind Ascending k bar l e = ap is_lt (key_order_total.congr k bar l e)
+equal-behind Descending k bar l e = ap is_lt (alike_right key_order_total k bar l e)
+
+-- keys of which neither stands first are equal
+neither-less : (k l : KeyTree) → is_lt (key_order k l) ≡ false → is_lt (key_order l k) ≡ false → key_order k l ≡ Equal
+neither-less k l here there = by (key_order k l) refl
+  where
+    by : (o : Ordering) → key_order k l ≡ o → key_order k l ≡ Equal
+    by Less e = let wrong : true ≡ false = sym (ap is_lt e) ∙ here in absurd cc
+    by Equal e = e
+    by Greater e = let wrong : true ≡ false = sym (ap is_lt (turned-back k l e)) ∙ there in absurd cc
+
+neither-first : (direction : Direction) (k l : KeyTree) → stands_first direction k l ≡ false → stands_first direction l k ≡ false → key_order k l ≡ Equal
+neither-first Ascending k l here there = neither-less k l here there
+neither-first Descending k l here there = neither-less k l there here
+
+-- an `_id` before one that comes before an end comes before this
+earlier-until : (i j : KeyTree) (until : Option (Bor KeyTree)) → key_order j i ≡ Less → is_until i until ≡ true → is_until j until ≡ true
+earlier-until i j None less e = absurd cc
+earlier-until i j (Some end) less e = ap is_lt (key_order_total.trans j i end.now less (is-less (key_order i end.now) e))
+
+where-until : (P : Type 0) (i : KeyTree) (until : Option (Bor KeyTree)) → is_until i until ≡ true → IfSome until (λ end. P) → P
+where-until P i None e h = absurd cc
+where-until P i (Some end) e h = h
+
+is-equal : (o : Ordering) → is_eq o ≡ true → o ≡ Equal
+is-equal Less e = absurd cc
+is-equal Equal e = refl
+is-equal Greater e = absurd cc
+
+both-true : (a b : Bool) → a && b ≡ true → (a ≡ true) × (b ≡ true)
+both-true true b e = (refl, e)
+both-true false b e = absurd cc
+
+both-false : (a b : Bool) → a || b ≡ false → (a ≡ false) × (b ≡ false)
+both-false true b e = absurd cc
+both-false false b e = (refl, e)
+
+same-way : (b : Bool) → cond b false false ≡ false
+same-way true = refl
+same-way false = refl
+
+module _ (p : Part) (parts : List Part) (bar : Bar) (tied : IfSome bar.until (λ until. parts ≡ [])) where
   abbrev before : List Field → List Field → Bool
   before = stands_before (p ∷ parts)
 
@@ -71,19 +124,62 @@ module _ (p : Part) (parts : List Part) (bar : KeyTree) where
   abbrev key : List Field → KeyTree
   key d = sort_key d p.0 p.1
 
+  abbrev is-first : KeyTree → KeyTree → Bool
+  is-first = stands_first p.1
+
+  -- a row that is ahead is sorted before the bar's key, or by it, and its `_id` comes before the end
+  abbrev IsTied : List Field → Type 0
+  IsTied d = (key_order (key d) bar.key.now ≡ Equal) × (is_until (id_key d) bar.until ≡ true)
+
+  is-tied : (d : List Field) → ahead d ≡ true → is-first (key d) bar.key.now ≡ false → IsTied d
+  is-tied d h behind =
+      let parted = both-true (is_eq (key_order (key d) bar.key.now)) (is_until (id_key d) bar.until) (ap (λ b. b || (is_eq (key_order (key d) bar.key.now) && is_until (id_key d) bar.until)) (sym behind) ∙ h) in
+      (is-equal (key_order (key d) bar.key.now) parted.0, parted.1)
+
+  abbrev IsBehind : List Field → Type 0
+  IsBehind e = (is-first (key e) bar.key.now ≡ false) × (is_eq (key_order (key e) bar.key.now) && is_until (id_key e) bar.until ≡ false)
+
+  is-behind : (e : List Field) → ahead e ≡ false → IsBehind e
+  is-behind e g = both-false (is-first (key e) bar.key.now) (is_eq (key_order (key e) bar.key.now) && is_until (id_key e) bar.until) g
+
+  -- of two rows in the order of their `_id`s, the later one is sorted first where it is ahead and the other one isn't
+  tied-first : (d e : List Field) → IsTied d → IsBehind e → key_order (id_key e) (id_key d) ≡ Less → is-first (key d) (key e) ≡ true
+  tied-first d e same behind less = equal-behind p.1 (key d) bar.key.now (key e) same.0 ∙ by (is-first bar.key.now (key e)) refl
+    where
+      by : (b : Bool) → is-first bar.key.now (key e) ≡ b → is-first bar.key.now (key e) ≡ true
+      by true f = f
+      by false f =
+          let equal = neither-first p.1 (key e) bar.key.now behind.0 f in
+          let both : is_eq (key_order (key e) bar.key.now) && is_until (id_key e) bar.until ≡ true = λ j. is_eq (equal j) && earlier-until (id_key d) (id_key e) bar.until less same.1 j in
+          let wrong : true ≡ false = sym both ∙ behind.1 in
+          absurd cc
+
   decided : (a b rest : Bool) → a ≡ true → cond a true (cond b false rest) ≡ true
   decided a b rest e = ap (λ c. cond c true (cond b false rest)) e
 
   decided-back : (a b rest : Bool) → a ≡ false → b ≡ true → cond a true (cond b false rest) ≡ false
   decided-back a b rest e f = ap (λ c. cond c true (cond b false rest)) e ∙ ap (λ c. cond c false rest) f
 
-  comes-first : (d e : List Field) → ahead d ≡ true → ahead e ≡ false → before d e ≡ true
-  comes-first d e h g = decided (stands_first p.1 (key d) (key e)) (stands_first p.1 (key e) (key d)) (stands_before parts d e) (stands-first p.1 (key d) bar (key e) h g).0
+  undecided : (a b rest : Bool) → a ≡ false → rest ≡ false → cond a true (cond b false rest) ≡ false
+  undecided a b rest e f = ap (λ c. cond c true (cond b false rest)) e ∙ ap (λ c. cond b false c) f ∙ same-way b
+
+  comes-first : (d e : List Field) → ahead d ≡ true → ahead e ≡ false → key_order (id_key e) (id_key d) ≡ Less → before d e ≡ true
+  comes-first d e h g less = decided (is-first (key d) (key e)) (is-first (key e) (key d)) (stands_before parts d e) (by (is-first (key d) bar.key.now) refl)
+    where
+      by : (b : Bool) → is-first (key d) bar.key.now ≡ b → is-first (key d) (key e) ≡ true
+      by true f = (stands-first p.1 (key d) bar.key.now (key e) f (is-behind e g).0).0
+      by false f = tied-first d e (is-tied d h f) (is-behind e g) less
 
   comes-later : (d e : List Field) → ahead d ≡ true → ahead e ≡ false → before e d ≡ false
-  comes-later d e h g =
-      let known = stands-first p.1 (key d) bar (key e) h g in
-      decided-back (stands_first p.1 (key e) (key d)) (stands_first p.1 (key d) (key e)) (stands_before parts e d) known.1 known.0
+  comes-later d e h g = by (is-first (key d) bar.key.now) refl
+    where
+      by : (b : Bool) → is-first (key d) bar.key.now ≡ b → before e d ≡ false
+      by true f =
+          let known = stands-first p.1 (key d) bar.key.now (key e) f (is-behind e g).0 in
+          decided-back (is-first (key e) (key d)) (is-first (key d) (key e)) (stands_before parts e d) known.1 known.0
+      by false f =
+          let same = is-tied d h f in
+          undecided (is-first (key e) (key d)) (is-first (key d) (key e)) (stands_before parts e d) (equal-before p.1 (key d) bar.key.now (key e) same.0 ∙ (is-behind e g).0) (ap (λ ps. stands_before ps e d) (where-until (parts ≡ []) (id_key d) bar.until same.1 tied))
 
   abbrev AreAhead : Rows → Type 0
   AreAhead rows = AllByRecursion (λ d. ahead d ≡ true) rows
@@ -91,11 +187,26 @@ module _ (p : Part) (parts : List Part) (bar : KeyTree) where
   abbrev AreBehind : Rows → Type 0
   AreBehind rows = AllByRecursion (λ d. ahead d ≡ false) rows
 
+  -- each of some rows comes before each of others by its `_id`
+  abbrev AreEarlierThan : List Field → Rows → Type 0
+  AreEarlierThan d rows = AllByRecursion (λ e. key_order (id_key e) (id_key d) ≡ Less) rows
+
+  abbrev AreEarlier : Rows → Rows → Type 0
+  AreEarlier rows others = AllByRecursion (λ d. AreEarlierThan d rows) others
+
+  none-earlier : (others : Rows) → AreEarlier [] others
+  none-earlier [] = tt
+  none-earlier (d ∷ others) = (tt, none-earlier others)
+
+  one-earlier : (x : List Field) (rows others : Rows) → AllByRecursion (λ d. key_order (id_key x) (id_key d) ≡ Less) others → AreEarlier rows others → AreEarlier (placed before x rows) others
+  one-earlier x rows [] h all = tt
+  one-earlier x rows (d ∷ others) h all = (all_placed (λ e. key_order (id_key e) (id_key d) ≡ Less) before x rows h.0 all.0, one-earlier x rows others h.1 all.1)
+
   -- ---- rows that are ahead, and then others: a row more comes among the ones or among the others
-  put-ahead : (d : List Field) (xs ys : Rows) → ahead d ≡ true → AreBehind ys → placed before d (xs ++ ys) ≡ placed before d xs ++ ys
-  put-ahead d [] [] h all = refl
-  put-ahead d [] (y ∷ ys) h all = ap (λ b. cond b (d ∷ y ∷ ys) (y ∷ placed before d ys)) (comes-first d y h all.0)
-  put-ahead d (x ∷ xs) ys h all = at (before d x) (put-ahead d xs ys h all)
+  put-ahead : (d : List Field) (xs ys : Rows) → ahead d ≡ true → AreBehind ys → AreEarlierThan d ys → placed before d (xs ++ ys) ≡ placed before d xs ++ ys
+  put-ahead d [] [] h all earlier = refl
+  put-ahead d [] (y ∷ ys) h all earlier = ap (λ b. cond b (d ∷ y ∷ ys) (y ∷ placed before d ys)) (comes-first d y h all.0 earlier.0)
+  put-ahead d (x ∷ xs) ys h all earlier = at (before d x) (put-ahead d xs ys h all earlier)
     where
       at : (b : Bool) → placed before d (xs ++ ys) ≡ placed before d xs ++ ys → cond b (d ∷ x ∷ (xs ++ ys)) (x ∷ placed before d (xs ++ ys)) ≡ cond b (d ∷ x ∷ xs) (x ∷ placed before d xs) ++ ys
       at true rest = refl
@@ -113,16 +224,16 @@ module _ (p : Part) (parts : List Part) (bar : KeyTree) where
   abbrev IsParted : Rows → Rows → Rows → Type 0
   IsParted left right xs = (rest : Rows) × AreBehind rest × (put (left ++ right) xs ≡ put left (filter ahead xs) ++ rest)
 
-  parted : (left right xs : Rows) → AreAhead left → AreBehind right → IsParted left right xs
-  parted left right [] h g = (right, g, refl)
-  parted left right (x ∷ xs) h g = at (ahead x) refl (λ l r lh rg. parted l r xs lh rg)
+  parted : (left right xs : Rows) → AreAhead left → AreBehind right → AreBefore xs → AreEarlier right xs → IsParted left right xs
+  parted left right [] h g ordered earlier = (right, g, refl)
+  parted left right (x ∷ xs) h g ordered earlier = at (ahead x) refl (λ l r lh rg early. parted l r xs lh rg ordered.1 early)
     where
-      at : (b : Bool) → ahead x ≡ b → ((l r : Rows) → AreAhead l → AreBehind r → IsParted l r xs) → (rest : Rows) × AreBehind rest × (put (placed before x (left ++ right)) xs ≡ put left (cond b (x ∷ filter ahead xs) (filter ahead xs)) ++ rest)
+      at : (b : Bool) → ahead x ≡ b → ((l r : Rows) → AreAhead l → AreBehind r → AreEarlier r xs → IsParted l r xs) → (rest : Rows) × AreBehind rest × (put (placed before x (left ++ right)) xs ≡ put left (cond b (x ∷ filter ahead xs) (filter ahead xs)) ++ rest)
       at true e later =
-          let then = later (placed before x left) right (all_placed (λ d. ahead d ≡ true) before x left e h) g in
-          (then.0, then.1, ap (λ ys. put ys xs) (put-ahead x left right e g) ∙ then.2)
+          let then = later (placed before x left) right (all_placed (λ d. ahead d ≡ true) before x left e h) g earlier.1 in
+          (then.0, then.1, ap (λ ys. put ys xs) (put-ahead x left right e g earlier.0) ∙ then.2)
       at false e later =
-          let then = later left (placed before x right) h (all_placed (λ d. ahead d ≡ false) before x right e g) in
+          let then = later left (placed before x right) h (all_placed (λ d. ahead d ≡ false) before x right e g) (one-earlier x right xs ordered.0 earlier.1) in
           (then.0, then.1, ap (λ ys. put ys xs) (put-behind x left right e h) ∙ then.2)
 
   -- ---- a row that is ahead stands among those that are
@@ -144,11 +255,11 @@ module _ (p : Part) (parts : List Part) (bar : KeyTree) where
   still-there (suc n) (x ∷ xs) (suc i) d e = still-there n xs i d e
 
   -- the last of so many rows is ahead, so they are those of any rows that have the same ones ahead
-  pub first_alike : (some all : Rows) (most i : ℕ) (d : List Field) → filter ahead some ≡ filter ahead all → slice_get (take most (stable (p ∷ parts) some)) i ≡ Some d → most ≤ i + 1 → ahead d ≡ true → take most (stable (p ∷ parts) some) ≡ take most (stable (p ∷ parts) all)
+  pub first_alike : (some all : Rows) → IsAscending some → IsAscending all → (most i : ℕ) (d : List Field) → filter ahead some ≡ filter ahead all → slice_get (take most (stable (p ∷ parts) some)) i ≡ Some d → most ≤ i + 1 → ahead d ≡ true → take most (stable (p ∷ parts) some) ≡ take most (stable (p ∷ parts) all)
   unfolding stable
-  first_alike some all most i d same last enough h =
-      let these = parted [] [] some tt tt in
-      let others = parted [] [] all tt tt in
+  first_alike some all some-ascend all-ascend most i d same last enough h =
+      let these = parted [] [] some tt tt (before_ascending some some-ascend) (none-earlier some) in
+      let others = parted [] [] all tt tt (before_ascending all all-ascend) (none-earlier all) in
       let sorted = put [] (filter ahead some) in
       let among = there-ahead sorted these.0 i d these.1 (ap (λ rows. slice_get rows i) (sym these.2) ∙ still-there most (put [] some) i d last) h in
       let within : most ≤ length sorted = omega (arith, among, enough) in
@@ -157,6 +268,32 @@ module _ (p : Part) (parts : List Part) (bar : KeyTree) where
       ∙ take-append-le most sorted these.0 within
       ∙ sym (take-append-le most sorted others.0 within)
       ∙ sym (ap (take most) (others.2 ∙ ap (λ rows. rows ++ others.0) again))
+
+-- ---- a row among some of which something holds
+pub holds-at : (P : List Field → Type 0) (rows : Rows) (i : ℕ) (d : List Field) → AllByRecursion P rows → slice_get rows i ≡ Some d → P d
+holds-at P [] i d all e = absurd cc
+holds-at P (y ∷ ys) zero d all e = let same : y ≡ d = cc in subst P same all.0
+holds-at P (y ∷ ys) (suc i) d all e = holds-at P ys i d all.1 e
+
+-- ---- rows that are found in others that begin with `_id`s
+abbrev pub BeginWithIds : Type 0
+BeginWithIds = (k : KeyTree) (d : List Field) (ds : Rows) → AllByRecursion HasId ds → found k ds ≡ Some d → HasId d
+
+pub all-identified : BeginWithIds → (ds those : Rows) → AllByRecursion HasId ds → AreStanding ds those → AllByRecursion HasId those
+all-identified law ds those identified standing = each those standing.0
+  where
+    each : (rows : Rows) → AllByRecursion (λ d. found (id_key d) ds ≡ Some d) rows → AllByRecursion HasId rows
+    each [] all = tt
+    each (d ∷ rows) all = (law (id_key d) d ds identified all.0, each rows all.1)
+
+-- ---- what is said of a value where there is one
+pub some-is : {X : Type 0} (x : X) (P : X → Type 0) (o : Option X) → o ≡ Some x → IfSome o P → P x
+some-is x P None e h = absurd cc
+some-is x P (Some y) e h = let same : y ≡ x = cc in subst P same h
+
+pub if-some-weaker : {X : Type 0} (P Q : Type 0) → (P → Q) → (o : Option X) → IfSome o (λ x. P) → IfSome o (λ x. Q)
+if-some-weaker P Q h None there = there
+if-some-weaker P Q h (Some x) there = h there
 
 -- ---- the first path of a sort
 pub first-part : (items : List SortPart) (by : SortPart) (sort : List Part) → map part items ≡ sort → slice_get items 0 ≡ Some by → (parts : List Part) × (sort ≡ part by ∷ parts)

@@ -7,9 +7,13 @@ use Rattle.std.specs.List.{AllByRecursion}
 use Rattle.std.specs.Str.{bytes_eq}
 use Rattle.dv_value.specs.Tree.{Field}
 use Rattle.dv_change.specs.declared.change.Change as flow
+use Rattle.dv_change.specs.declared.taking.Taken as taking
+use Rattle.dv_change.specs.Inner.Told.{changes_told}
 use Rattle.dv_pipe.specs.Stages.{Lists}
 use Rattle.dv_views.specs.Changed.{documents_changed, with_changed}
-use Rattle.dv_views.specs.Inner.Changed.{AreMade}
+use Rattle.dv_views.specs.Inner.Applied.{StaysRight}
+use Rattle.dv_views.specs.Inner.Changed.{AreMade, AreToldOf}
+use Rattle.dv_views.specs.Placed.{positioned}
 use Rattle.dv_views.specs.Forms.{ViewForm}
 use Rattle.dv_views.specs.Inner.Views.{AreRight, Views, view_form}
 use Rattle.dv_views.specs.Inner.Views as views
@@ -23,7 +27,7 @@ use Rattle.dv_refusal.specs.declared.refusal.Refusal.TheVariants.{DuplicateKey}
 use Rattle.dv_catalog.specs.State.{AreOrdered, Collection, Namespaces, Standing, collection, collection_at, collection_of, documents_of, is_collection, is_view, lists_of}
 use Rattle.dv_catalog.specs.Inner.StateLaws.{get-insert}
 use Rattle.dv_catalog.specs.Told.{told}
-use Rattle.dv_catalog.specs.Inner.Told.{AreTold}
+use Rattle.dv_catalog.specs.Inner.Told.{AreTold, AreToldSo}
 use Rattle.dv_catalog.specs.Views.{reads_name}
 
 pub neither : (a b : Bool) → a || b ≡ false → (a ≡ false) × (b ≡ false)
@@ -94,27 +98,20 @@ MadeAsTold = (documents : List (List Field)) (changes : List Change) → AreOrde
 abbrev pub UnreadIsNoMatter : Type 0
 UnreadIsNoMatter = (registry : Views) (lists others : Lists) → ((name : List ℕ) → views.reads_name registry name ≡ true → lists name ≡ others name) → AreRight lists registry → AreRight others registry
 
--- the front of what is told is told of the first changes
-pub told_first : (n : ℕ) (namespace : List ℕ) (registry : Views) (changes : List Change) (tell : List flow.Change) → AreTold namespace registry changes tell → AreTold namespace registry (take n changes) (take n tell)
-told_first n namespace registry changes tell (inl is) = inl (ap (take n) is ∙ take-map told n changes)
-told_first n namespace registry changes tell (inr is) = inr (ap (take n) is.0 ∙ take_all n [] (omega arith), is.1)
-
-abbrev pub StaysRight : List ℕ → List flow.Change → Views → Views → Type 0
-StaysRight namespace tell before after = (lists : Lists) → AreMade tell (lists namespace) → AreRight lists before → AreRight (with_changed namespace tell lists) after
-
-module _ (made : MadeAsTold) (unread : UnreadIsNoMatter) (old new : Namespaces) (before after : Views) (namespace : List ℕ) (changes : List Change) (tell : List flow.Change) (kept : IsKept old before)
+module _ (made : MadeAsTold) (unread : UnreadIsNoMatter) (old new : Namespaces) (before after : Views) (namespace : List ℕ) (changes : List Change) (tell : List flow.Change) (all : List taking.Taken) (kept : IsKept old before)
     (ordered : AreOrdered (documents_of namespace old)) (able : AreAble (documents_of namespace old) changes)
-    (documents : (name : List ℕ) → documents_of name new ≡ cond (bytes_eq namespace name) (with_changes (documents_of namespace old) changes) (documents_of name old)) (are : AreTold namespace before changes tell)
-    (right : StaysRight namespace tell before after) (forms : map view_form after ≡ map view_form before) where
+    (documents : (name : List ℕ) → documents_of name new ≡ cond (bytes_eq namespace name) (with_changes (documents_of namespace old) changes) (documents_of name old)) (tells : changes_told all ≡ tell) (are : AreTold namespace before (documents_of namespace old) changes all)
+    (right : StaysRight namespace tell all before after) (forms : map view_form after ≡ map view_form before) where
   told_lists : (b : Bool) (name : List ℕ) → bytes_eq namespace name ≡ b → documents_changed (map told changes) (documents_of namespace old) ≡ with_changes (documents_of namespace old) changes
       → (if b then documents_changed (map told changes) (documents_of name old) else documents_of name old) ≡ cond b (with_changes (documents_of namespace old) changes) (documents_of name old)
   told_lists true name e is = ap (λ (n : List ℕ). documents_changed (map told changes) (documents_of n old)) (sym (is_same namespace name e)) ∙ is
   told_lists false name e is = refl
 
-  right_told : tell ≡ map told changes → AreRight (lists_of new) after
-  right_told is =
+  right_told : AreToldSo (documents_of namespace old) changes all → AreRight (lists_of new) after
+  right_told so =
+      let is : tell ≡ map told changes = sym tells ∙ so.changes_are in
       let both = made (documents_of namespace old) changes ordered able in
-      let stays : AreRight (with_changed namespace tell (lists_of old)) after = right (lists_of old) (subst (λ (cs : List flow.Change). AreMade cs (documents_of namespace old)) (sym is) both.0) kept.right in
+      let stays : AreRight (with_changed namespace tell (lists_of old)) after = right (lists_of old) (subst (λ (cs : List flow.Change). AreMade cs (documents_of namespace old)) (sym is) both.0) so.olds kept.right in
       let lists : with_changed namespace tell (lists_of old) ≡ lists_of new =
       ap (λ (cs : List flow.Change). with_changed namespace cs (lists_of old)) is ∙ (λ i name. (told_lists (bytes_eq namespace name) name refl both.1 ∙ sym (documents name)) i) in
       subst (λ (lists : Lists). AreRight lists after) lists stays
@@ -128,18 +125,20 @@ module _ (made : MadeAsTold) (unread : UnreadIsNoMatter) (old new : Namespaces) 
       absurd (cc (same, here, read))
   nothing_told false name e not_read read is = refl
 
-  right_unread : tell ≡ [] → views.reads_name before namespace ≡ false → AreRight (lists_of new) after
-  right_unread is not_read =
+  right_unread : all ≡ [] → views.reads_name before namespace ≡ false → AreRight (lists_of new) after
+  right_unread none not_read =
+      let is : tell ≡ [] = sym tells ∙ ap changes_told none in
+      let olds = subst (λ (ts : List taking.Taken). AreToldOf (positioned (documents_of namespace old)) ts) (sym none) tt in
       let nothing = made (documents_of namespace old) [] ordered tt in
       let stays : AreRight (with_changed namespace [] (lists_of old)) after =
-      subst (λ (cs : List flow.Change). AreRight (with_changed namespace cs (lists_of old)) after) is (right (lists_of old) (subst (λ (cs : List flow.Change). AreMade cs (documents_of namespace old)) (sym is) nothing.0) kept.right) in
+      subst (λ (cs : List flow.Change). AreRight (with_changed namespace cs (lists_of old)) after) is (right (lists_of old) (subst (λ (cs : List flow.Change). AreMade cs (documents_of namespace old)) (sym is) nothing.0) olds kept.right) in
       unread after (with_changed namespace [] (lists_of old)) (lists_of new) (λ name read. nothing_told (bytes_eq namespace name) name refl not_read read nothing.1 ∙ sym (documents name)) stays
 
   pub right_after : AreRight (lists_of new) after
   right_after = by_told are
     where
-      by_told : AreTold namespace before changes tell → AreRight (lists_of new) after
-      by_told (inl is) = right_told is
+      by_told : AreTold namespace before (documents_of namespace old) changes all → AreRight (lists_of new) after
+      by_told (inl so) = right_told so
       by_told (inr (is, not_read)) = right_unread is not_read
 
   apart_after : is_view namespace (map view_form before) ≡ false → ((name : List ℕ) → is_collection name new ≡ true → (bytes_eq namespace name ≡ true) ⊎ (is_collection name old ≡ true))
@@ -202,3 +201,11 @@ new_put d documents changes is = by_found (is_some (found (id_key d) documents))
     by_found : (b : Bool) → (let result : Result Effect Refusal = if b then Err DuplicateKey else Ok (record { matched = 1; changes = put d ∷ [] }) in result ≡ Ok (record { matched = 1; changes = changes })) → changes ≡ put d ∷ []
     by_found true is = absurd cc
     by_found false is = sym (ap changes_of is)
+
+-- whose `_id` no document has
+pub new_fresh : (d : List Field) (documents : List (List Field)) (changes : List Change) → put_new d documents ≡ Ok (record { matched = 1; changes = changes }) → is_some (found (id_key d) documents) ≡ false
+new_fresh d documents changes is = by_found (is_some (found (id_key d) documents)) is
+  where
+    by_found : (b : Bool) → (let result : Result Effect Refusal = if b then Err DuplicateKey else Ok (record { matched = 1; changes = put d ∷ [] }) in result ≡ Ok (record { matched = 1; changes = changes })) → b ≡ false
+    by_found true is = absurd cc
+    by_found false is = refl

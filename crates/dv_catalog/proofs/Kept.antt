@@ -4,10 +4,13 @@ use Rattle.std.specs.FinMap as finite
 use Rattle.std.specs.Str.{bytes_eq}
 use Rattle.dv_value.specs.Tree.{Field}
 use Rattle.dv_change.specs.declared.change.Change as flow
+use Rattle.dv_change.specs.declared.taking.Taken as taking
+use Rattle.dv_change.specs.Inner.Told.{changes_told}
 use Rattle.dv_command.specs.Asked.{ViewOn}
 use Rattle.dv_refusal.specs.declared.refusal.Refusal.TheVariants.{NamespaceExists, NamespaceNotFound, ReadByView}
 use Rattle.dv_change.specs.declared.change.Change.TheVariants.{Gone}
-use Rattle.dv_views.specs.Inner.Changed.{gone_each}
+use Rattle.dv_views.specs.Inner.Applied.{StaysRight}
+use Rattle.dv_views.specs.Inner.Changed.{gone_each, gones_of}
 use Rattle.dv_views.specs.Placed.{own_position}
 use Rattle.dv_views.specs.Inner.Views.{Views, view_form, has_view, views_without}
 use Rattle.dv_views.specs.Inner.Views as views
@@ -22,7 +25,7 @@ use Rattle.dv_catalog.specs.Inner.Told.{AreTold}
 use Rattle.dv_catalog.specs.Views as creating
 use Rattle.dv_catalog.specs.Views.{created, dropped, reads_name}
 use Rattle.dv_catalog.proofs.Deleted.{NoLongerFound, all_go, all_go_placed}
-use Rattle.dv_catalog.proofs.Keeping.{MadeAsTold, StaysRight, UnreadIsNoMatter, all_able, kept_after, kept_same_documents, reads_forms, view_forms}
+use Rattle.dv_catalog.proofs.Keeping.{MadeAsTold, UnreadIsNoMatter, all_able, kept_after, kept_same_documents, reads_forms, view_forms}
 use Rattle.dv_catalog.proofs.Keys.{before_ascending}
 use Rattle.dv_catalog.proofs.Making.{less_state}
 
@@ -68,12 +71,9 @@ all_can_go law namespaces name ordered =
     let documents = documents_of name namespaces in
     all_able documents (all_gone documents) (all_go_placed law documents (before_ascending documents ordered.0))
 
-each_told : (ds : List (List Field)) → gone_each ds ≡ map told (all_gone ds)
+pub each_told : (ds : List (List Field)) → changes_told (gones_of ds) ≡ gone_each ds
 each_told [] = refl
 each_told (d ∷ ds) = ap (λ (rest : List flow.Change). Gone (own_position d) ∷ rest) (each_told ds)
-
-pub all_told : (namespace : List ℕ) (vs : Views) (ds : List (List Field)) → AreTold namespace vs (all_gone ds) (gone_each ds)
-all_told namespace vs ds = inl (each_told ds)
 
 pub not_a_view : (namespaces : Namespaces) (vs : Views) (name : List ℕ) → IsKept namespaces vs → is_collection name namespaces ≡ true → is_view name (map view_form vs) ≡ false
 not_a_view namespaces vs name kept there = by_view (is_view name (map view_form vs)) refl
@@ -82,7 +82,7 @@ not_a_view namespaces vs name kept there = by_view (is_view name (map view_form 
     by_view true view = let none = kept.apart name view in absurd (cc (none, there))
     by_view false view = refl
 
-module _ (made : MadeAsTold) (unread : UnreadIsNoMatter) (law : NoLongerFound) (old : Namespaces) (before after : Views) (name : List ℕ) (tell : List flow.Change) where
+module _ (made : MadeAsTold) (unread : UnreadIsNoMatter) (law : NoLongerFound) (old : Namespaces) (before after : Views) (name : List ℕ) (tell : List flow.Change) (all : List taking.Taken) (tells : changes_told all ≡ tell) where
   documents_gone : AreOrdered (documents_of name old) → (n : List ℕ) → documents_of n (finite.remove old name) ≡ cond (bytes_eq name n) (with_changes (documents_of name old) (all_gone (documents_of name old))) (documents_of n old)
   documents_gone ordered n =
       let all = all_go (documents_of name old) (before_ascending (documents_of name old) ordered.0) in
@@ -90,10 +90,10 @@ module _ (made : MadeAsTold) (unread : UnreadIsNoMatter) (law : NoLongerFound) (
       ∙ gone_documents (bytes_eq name n) (finite.get old n)
       ∙ ap (λ (ds : List (List Field)). cond (bytes_eq name n) ds (documents_of n old)) (sym all)
 
-  pub kept_without : IsKept old before → AreOrdered (documents_of name old) → is_collection name old ≡ true → AreTold name before (all_gone (documents_of name old)) tell → StaysRight name tell before after → map view_form after ≡ map view_form before
+  pub kept_without : IsKept old before → AreOrdered (documents_of name old) → is_collection name old ≡ true → AreTold name before (documents_of name old) (all_gone (documents_of name old)) all → StaysRight name tell all before after → map view_form after ≡ map view_form before
       → IsKept (finite.remove old name) after
   kept_without kept ordered there are right forms =
-      kept_after made unread old (finite.remove old name) before after name (all_gone (documents_of name old)) tell kept ordered (all_can_go law old name ordered) (documents_gone ordered) are right forms (not_a_view old before name kept there)
+      kept_after made unread old (finite.remove old name) before after name (all_gone (documents_of name old)) tell all kept ordered (all_can_go law old name ordered) (documents_gone ordered) tells are right forms (not_a_view old before name kept there)
       (λ n e. inr (still_there (bytes_eq name n) (finite.get old n) (ap is_some (sym (get-remove old name n)) ∙ e)))
 
 -- ---- a collection or a view more

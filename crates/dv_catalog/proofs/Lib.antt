@@ -10,6 +10,7 @@ mod Deleted
 mod Updated
 mod Order
 pub mod ToldChanges
+pub mod ToldViews
 mod Keeping
 mod Refreshed
 mod Marking

@@ -2,8 +2,12 @@
 use Rattle.std.proofs.Common.{◌≡◌, ◌⊎◌, ◌<◌, inl, inr, is_some, take, arith, ℕ, Bool, true, false, if◌then◌else◌, List, [], ◌∷◌, not, map, length, Result, Ok, Err, refl, sym, ap, subst, ◌∙◌}
 use Rattle.dv_change.specs.Raised.{raised}
 use Rattle.dv_change.specs.declared.change.Change as flow
+use Rattle.dv_change.specs.declared.taking.Taken as taking
+use Rattle.dv_change.specs.Inner.Told.{changes_told}
 use Rattle.dv_pipe.specs.Stages.{Lists}
-use Rattle.dv_views.specs.Inner.Changed.{AreMade}
+use Rattle.dv_views.specs.Inner.Applied.{CountsWork}
+use Rattle.dv_views.specs.Inner.Changed.{AreMade, AreToldOf}
+use Rattle.dv_views.specs.Placed.{positioned}
 use Rattle.dv_views.specs.Inner.Counted.{AreCounted, HasCountedShare}
 use Rattle.dv_views.specs.Flow.{Share, nothing, shares}
 use Rattle.dv_views.specs.Forms.{ViewForm, is_read_by}
@@ -72,20 +76,20 @@ marked_each (s ∷ all) (v ∷ vs) (w ∷ ws) counts = (marked_one s v w counts.
 abbrev pub UnreadIsNotCounted : Type 0
 UnreadIsNotCounted = (namespace : List ℕ) (changes : List flow.Change) (lists : Lists) (forms : List ViewForm) → is_read_by forms namespace ≡ false → shares namespace changes lists forms ≡ map (λ v. nothing) forms
 
-abbrev pub CountsWork : List ℕ → List flow.Change → Views → Views → Type 0
-CountsWork namespace tell before after = (lists : Lists) → AreMade tell (lists namespace) → AreRight lists before → AreCounted (shares namespace tell lists (map view_form before)) before after
-
-module _ (made : MadeAsTold) (unread : UnreadIsNotCounted) (lists : Lists) (namespace : List ℕ) (changes : List Change) (tell : List flow.Change) (vs ws : Views) (ordered : AreOrdered (lists namespace)) where
+module _ (made : MadeAsTold) (unread : UnreadIsNotCounted) (lists : Lists) (namespace : List ℕ) (changes : List Change) (tell : List flow.Change) (told_all : List taking.Taken) (tells : changes_told told_all ≡ tell) (vs ws : Views) (ordered : AreOrdered (lists namespace)) where
   -- how views stand behind changes of which they were told
-  pub are_marked : AreAble (lists namespace) changes → AreTold namespace vs changes tell → AreRight lists vs → CountsWork namespace tell vs ws → AreMarkedBy namespace changes lists (map view_form vs) (marks_of vs) (marks_of ws)
-  are_marked able (inl is) right counts =
+  pub are_marked : AreAble (lists namespace) changes → AreTold namespace vs (lists namespace) changes told_all → AreRight lists vs → CountsWork namespace tell told_all vs ws → AreMarkedBy namespace changes lists (map view_form vs) (marks_of vs) (marks_of ws)
+  are_marked able (inl so) right counts =
+      let is : tell ≡ map told changes = sym tells ∙ so.changes_are in
       let all = subst (λ (cs : List flow.Change). AreMade cs (lists namespace)) (sym is) (made (lists namespace) changes ordered able).0 in
-      marked_each (shares namespace (map told changes) lists (map view_form vs)) vs ws (subst (λ (cs : List flow.Change). AreCounted (shares namespace cs lists (map view_form vs)) vs ws) is (counts lists all right))
-  are_marked able (inr (is, not_read)) right counts =
+      marked_each (shares namespace (map told changes) lists (map view_form vs)) vs ws (subst (λ (cs : List flow.Change). AreCounted (shares namespace cs lists (map view_form vs)) vs ws) is (counts lists all so.olds right))
+  are_marked able (inr (nothing_told, not_read)) right counts =
+      let is : tell ≡ [] = sym tells ∙ ap changes_told nothing_told in
+      let olds = subst (λ (ts : List taking.Taken). AreToldOf (positioned (lists namespace)) ts) (sym nothing_told) tt in
       let none : is_read_by (map view_form vs) namespace ≡ false = reads_forms vs namespace ∙ not_read in
       let all = subst (λ (cs : List flow.Change). AreMade cs (lists namespace)) (sym is) (made (lists namespace) [] ordered tt).0 in
       let same = unread namespace tell lists (map view_form vs) none ∙ sym (unread namespace (map told changes) lists (map view_form vs) none) in
-      marked_each (shares namespace (map told changes) lists (map view_form vs)) vs ws (subst (λ (ss : List Share). AreCounted ss vs ws) same (counts lists all right))
+      marked_each (shares namespace (map told changes) lists (map view_form vs)) vs ws (subst (λ (ss : List Share). AreCounted ss vs ws) same (counts lists all olds right))
 
 -- without changes they stand as they stood
 nothing_more : (n : ℕ) → raised n 0 ≡ n

@@ -2,6 +2,7 @@
 use Rattle.std.proofs.Common.{◌≡◌, ℕ, Bool, true, false, if◌then◌else◌, List, [], ◌∷◌, map, length, Option, Some, None, refl, sym, ap, ◌∙◌}
 use Rattle.std.specs.Option.{option_and_then, option_map}
 use Rattle.dv_value.specs.Tree.{Field}
+use Rattle.dv_change.specs.Changes.{forget}
 use Rattle.dv_views.specs.Views.{View}
 use Rattle.dv_views.specs.Inner.Views.{Views, view_form, is_view_named, kept_rows, rows_shown, view_under}
 use Rattle.dv_views.specs.Views as views
@@ -29,11 +30,11 @@ abbrev stats_in : views.ViewMark → Stats
 stats_in m = record { is_live = live_shown (views_inner.state_of_mark m); rows = views_inner.mark_rows m; ticks = views_inner.mark_ticks m }
 
 stats_shown : (m : views.ViewMark) (those : List (List Field)) → ((rows : List (List Field)) → kept_rows m ≡ Some rows → rows ≡ those) → stats_in m ≡ stats_by those (mark_of m)
-stats_shown (views.live kept) those right = λ i. record { is_live = true; rows = length (right kept.rows refl i); ticks = kept.ticks }
+stats_shown (views.live kept) those right = λ i. record { is_live = true; rows = length (right (forget kept.rows) refl i); ticks = kept.ticks }
 stats_shown views.stale those right = refl
 
 stored_shown : (m : views.ViewMark) (those : List (List Field)) → ((rows : List (List Field)) → kept_rows m ≡ Some rows → rows ≡ those) → kept_rows m ≡ rows_by those (mark_of m)
-stored_shown (views.live kept) those right = ap Some (right kept.rows refl)
+stored_shown (views.live kept) those right = ap Some (right (forget kept.rows) refl)
 stored_shown views.stale those right = refl
 
 module _ (name : List ℕ) (namespaces : Namespaces) (vs : Views) where

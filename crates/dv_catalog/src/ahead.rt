@@ -1,7 +1,8 @@
 //! The first rows of a sort, by the order of an index.
 
-ghost use Rattle.std.specs.Prelude.{◌≡◌, ◌∷◌, take, IfOk, IfSome, List};
-ghost use Rattle.dv_keyed.specs.Inner.Ahead as defined;
+ghost use Rattle.std.specs.Prelude.{◌≡◌, ◌∷◌, [], take, IfOk, IfSome, List};
+ghost use Rattle.std.specs.List.{AllByRecursion};
+ghost use Rattle.dv_coll.specs.Collection.{HasId, IsAscending};
 ghost use Rattle.dv_path.specs.Parts.{part};
 ghost use Rattle.dv_path.specs.SortSpec.{Part};
 ghost use Rattle.dv_pipe.specs.Sources.{rows_referred};
@@ -10,7 +11,8 @@ ghost use Rattle.dv_catalog.specs.Scan.{matching};
 ghost use Rattle.dv_catalog.specs.Inner.ScanParts.{AreFirstAhead};
 
 use crate::scan::sorted;
-use dv_index::{Ahead, IndexedCollection, is_ahead};
+use dv_coll::laws;
+use dv_index::{Ahead, IndexedCollection, Ties, is_ahead};
 use dv_match::Filter;
 use dv_path::{SortPart, SortSpec};
 use dv_value::{Document, NoMemory};
@@ -38,9 +40,14 @@ pub(crate) fn first_by_index(
     let Some(by) = sort.parts().first() else {
         return Ok(None);
     };
+    laws::documents_stand_where_they_are_found();
+    laws::what_is_found_has_the_key();
+    // The documents are in order.
+    collection.law_ascending();
+    let ties = ties_of(sort);
     let mut least = most;
     'tries: for _ in 0..TRIES {
-        let Some(ahead) = collection.find_ahead(filter, by, least)? else {
+        let Some(ahead) = collection.find_ahead(filter, by, ties, least)? else {
             return Ok(None);
         };
         if let Some(first) = first_of(alloc, &ahead, sort, by, most)? {
@@ -52,8 +59,18 @@ pub(crate) fn first_by_index(
     Ok(None)
 }
 
+/// What puts documents in order that the first path of a sort doesn't tell apart: further paths, or else their `_id`s.
+fn ties_of(sort: &SortSpec) -> Ties
+    ensures { result ≡ Ties.ById → (by : Part) (parts : List Part) → sort.now ≡ by ∷ parts → parts ≡ [] }
+{
+    match sort.parts() {
+        [_] => Ties::ById,
+        _ => Ties::Otherwise,
+    }
+}
+
 /// The first `most` of the documents in the order of the sort, unless there are fewer or the last one isn't ahead of the bar:
-/// they are those of any rows that have the same ones ahead of the bar. Fails where memory is wanting.
+/// they are those of any rows in the order of their `_id`s that have the same ones ahead of the bar. Fails where memory is wanting.
 fn first_of(
     alloc: Global,
     ahead: &Ahead<'_>,
@@ -61,15 +78,17 @@ fn first_of(
     by: &SortPart,
     most: usize,
 ) -> Result<Option<Vec<Document>>, NoMemory>
-    requires { (parts : List Part) × (sort.now ≡ part by.now ∷ parts) }
+    requires parts { (parts : List Part) × (sort.now ≡ part by.now ∷ parts) × IfSome ahead.now.bar.until (λ until. parts ≡ []) }
+    requires ascending { IsAscending (rows_referred ahead.now.documents.items) }
+    requires identified { AllByRecursion HasId (rows_referred ahead.now.documents.items) }
     ensures { IfOk result (λ found. IfSome found (λ first.
-        AreFirstAhead (part by.now) ahead.now.bar.now (rows_referred ahead.now.documents.items) sort.now most first.items)) }
+        AreFirstAhead (part by.now) ahead.now.bar (rows_referred ahead.now.documents.items) sort.now most first.items)) }
 {
     let first = sorted(alloc, &ahead.documents, sort, Some(most))?;
     let Some(last) = first.last() else {
         return Ok(None);
     };
-    if first.len() == most && is_ahead(last, by, ahead.bar)? {
+    if first.len() == most && is_ahead(last, by, &ahead.bar)? {
         Ok(Some(first))
     } else {
         Ok(None)

@@ -16,7 +16,7 @@ use crate::sources::rows_under;
 use crate::standing::{Searched, first_found, searched_in};
 use dv_pipe::{Lookup, Sources, Stage, filter_of_joined, laws, references, rows_through};
 use dv_value::{Document, NoMemory};
-use dv_views::{Registry, beside, lookups_of};
+use dv_views::{ToldRegistry, beside, lookups_of};
 use std::alloc::Global;
 
 /// Where documents are so many times as many as rows, or more, the rows are looked up among those that some of them are joined
@@ -28,7 +28,7 @@ const MANY_TIMES: usize = 8;
 pub(crate) fn rows_behind(
     alloc: Global,
     collections: &Collections,
-    registry: &Registry,
+    registry: &ToldRegistry,
     stages: &[Stage],
     source: &str,
     rows: &[&Document],
@@ -57,7 +57,7 @@ pub(crate) fn rows_behind(
 }
 
 /// How many rows stand under a namespace; none under a stale view.
-fn count_under(collections: &Collections, registry: &Registry, namespace: &str) -> usize {
+fn count_under(collections: &Collections, registry: &ToldRegistry, namespace: &str) -> usize {
     match (registry.row_count(namespace), collections.get(namespace)) {
         (Some(count), _) => count,
         (None, Some(collection)) => collection.len(),
@@ -69,7 +69,7 @@ fn count_under(collections: &Collections, registry: &Registry, namespace: &str) 
 fn rows_at_once(
     alloc: Global,
     collections: &Collections,
-    registry: &Registry,
+    registry: &ToldRegistry,
     stages: &[Stage],
     source: &str,
     rows: &[&Document],

@@ -57,7 +57,7 @@ pub(crate) fn first_rows_by_id(
     }
     laws::documents_stand_where_they_are_found();
     // The rows are in order.
-    let _ = rows.len();
+    rows.law_ascending();
     let found = first_by_key(alloc, rows, filter, direction, most)?;
     Ok(Some(copies(alloc, &found)?))
 }

@@ -12,8 +12,8 @@ use crate::explained::{Explained, explained_in, explained_view};
 use crate::failure::Stopped;
 use crate::front::rows_of_stages;
 use crate::indexing::IndexCounts;
-use crate::laws::told_changes_are_made;
-use crate::refresh::{refresh_read, refresh_under, shown_rows_are_right};
+use crate::laws::{changes_keep_the_order, told_changes_are_made};
+use crate::refresh::{law_shown, refresh_read, refresh_under};
 use crate::scan::scan;
 use crate::sources::documents_under;
 use crate::standing::searched_in;
@@ -24,7 +24,7 @@ use dv_command::{Aggregate, Create, Find, Refusal, Updating, ViewOn};
 use dv_index::NewIndex;
 use dv_match::Filter;
 use dv_value::{Document, NoMemory};
-use dv_views::{Registry, ViewFault, names_read};
+use dv_views::{ToldRegistry, ViewFault, names_read};
 use std::alloc::Global;
 use std::marker::Model;
 
@@ -35,7 +35,7 @@ use std::marker::Model;
 pub struct Catalog {
     alloc: Global,
     collections: Collections,
-    views: Registry,
+    views: ToldRegistry,
 }
 
 impl Model for Catalog {
@@ -79,7 +79,7 @@ impl Catalog {
         Catalog {
             alloc,
             collections: Collections::new(alloc),
-            views: Registry::new(alloc),
+            views: ToldRegistry::new(alloc),
         }
     }
 
@@ -105,7 +105,7 @@ impl Catalog {
         told_changes_are_made();
         dv_views::laws::what_is_not_read_does_not_matter();
         dv_views::laws::what_is_not_read_is_not_counted();
-        self.collections.ordered(namespace);
+        self.collections.law_ordered(namespace);
         self.collections.insert(namespace, document)?;
         self.views.apply(namespace, &told);
         Ok(())
@@ -166,7 +166,13 @@ impl Catalog {
         ensures marks { IfOk result (λ done. AreMarkedFrom namespace.now (take done (changes_seen changes)) self.old self.new.marks) }
     {
         // Behind the first change nothing but another one may want memory.
-        let mut told = told(self.alloc, &self.views, namespace, &changes)?;
+        let mut told = told(
+            self.alloc,
+            &self.views,
+            &self.collections,
+            namespace,
+            &changes,
+        )?;
         told_changes_are_made();
         dv_views::laws::what_is_not_read_does_not_matter();
         dv_views::laws::what_is_not_read_is_not_counted();
@@ -189,7 +195,7 @@ impl Catalog {
             &mut self.views,
             &find.namespace,
         )?;
-        shown_rows_are_right(&self.views);
+        law_shown(&self.views);
         scan(
             self.alloc,
             searched_in(&self.collections, &self.views, &find.namespace),
@@ -204,7 +210,7 @@ impl Catalog {
         ensures marks { Reads (namespace.now ∷ []) self.old result self.new }
     {
         refresh_under(self.alloc, &self.collections, &mut self.views, namespace)?;
-        shown_rows_are_right(&self.views);
+        law_shown(&self.views);
         if let Some(rows) = self.views.rows(namespace) {
             return Ok(explained_view(rows));
         }
@@ -231,7 +237,7 @@ impl Catalog {
             namespace,
             pipeline,
         )?;
-        shown_rows_are_right(&self.views);
+        law_shown(&self.views);
         dv_pipe::laws::what_is_not_read_does_not_matter();
         rows_of_stages(
             self.alloc,
@@ -246,7 +252,7 @@ impl Catalog {
     pub fn stats(&self, namespace: &str) -> Option<Stats>
         ensures { option_map stats_seen result ≡ stats_of namespace.now self.now }
     {
-        shown_rows_are_right(&self.views);
+        law_shown(&self.views);
         let state = self.views.state(namespace)?;
         let rows = self.views.row_count(namespace)?;
         let ticks = self.views.ticks(namespace)?;
@@ -259,10 +265,10 @@ impl Catalog {
 
     /// The rows that the view of a namespace keeps, in their order: those of its pipeline over what it reads, as that is now. None
     /// if there is no view there, or a stale one. Takes no memory.
-    pub fn stored_rows(&self, namespace: &str) -> Option<dv_views::Rows<'_>>
+    pub fn stored_rows(&self, namespace: &str) -> Option<dv_views::ViewRows<'_>>
         ensures { result ≡ stored_of namespace.now self.now }
     {
-        shown_rows_are_right(&self.views);
+        law_shown(&self.views);
         self.views.rows(namespace)
     }
 
@@ -335,8 +341,11 @@ impl Catalog {
         told_changes_are_made();
         dv_views::laws::what_is_not_read_does_not_matter();
         dv_views::laws::what_is_not_read_is_not_counted();
+        changes_keep_the_order();
+        dv_views::laws::documents_stand_at_their_ids();
         dv_coll::laws::removed_document_is_not_found();
-        self.collections.ordered(namespace);
+        dv_coll::laws::documents_stand_where_they_are_found();
+        self.collections.law_ordered(namespace);
         let Some(collection) = self.collections.get(namespace) else {
             unreachable!()
         };

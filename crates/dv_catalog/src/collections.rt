@@ -18,7 +18,7 @@ use crate::effect::Changes;
 use crate::failure::Stopped;
 use crate::indexing::{IndexCounts, create_each, drop_named};
 use crate::insert::put_new;
-use crate::rows::Rows;
+use crate::rows::FoundRows;
 use dv_command::Refusal;
 use dv_index::{IndexedCollection, NewIndex};
 use dv_value::{Document, NoMemory};
@@ -72,18 +72,18 @@ impl Collections {
     }
 
     /// The documents of a namespace; none where it isn't there.
-    pub(crate) fn rows(&self, namespace: &str) -> Rows<'_>
+    pub(crate) fn rows(&self, namespace: &str) -> FoundRows<'_>
         ensures documents { result ≡ documents_of namespace.now self.now }
         ensures ordered { AreOrdered (documents_of namespace.now self.now) }
     {
         match self.get(namespace) {
-            Some(collection) => Rows::of_collection(collection.iter()),
-            None => Rows::none(),
+            Some(collection) => FoundRows::of_collection(collection.iter()),
+            None => FoundRows::none(),
         }
     }
 
     /// A law: the documents of a namespace are in order. Costs a look-up.
-    pub(crate) fn ordered(&self, namespace: &str)
+    pub(crate) fn law_ordered(&self, namespace: &str)
         ensures { AreOrdered (documents_of namespace.now self.now) }
     {
         let _ = self.rows(namespace);

@@ -13,12 +13,11 @@ ghost use Rattle.dv_pipe.specs.Sources.{rows_referred};
 
 use crate::effect::{Changes, Effect};
 use crate::selection::chosen;
-use dv_coll::laws;
+use dv_coll::{key_of_id, laws};
 use dv_command::Deletion;
 use dv_index::IndexedCollection;
 use dv_order::Key;
 use dv_value::{Document, NoMemory};
-use dv_views::key_of_id;
 use std::alloc::Global;
 
 /// What a deletion does to a collection. Fails where memory is wanting.
@@ -34,7 +33,7 @@ pub(crate) fn deleted(
 {
     laws::removed_document_is_not_found();
     // The documents are in order, and begin with their `_id`s.
-    let _ = collection.len();
+    collection.law_ascending();
     let documents = chosen(collection, &deletion.filter, deletion.only_first)?;
     let keys = keys_of(alloc, &documents)?;
     Ok(Effect {
@@ -58,7 +57,7 @@ pub(crate) fn first_keys(
 {
     laws::removed_document_is_not_found();
     // The documents are in order, and begin with their `_id`s.
-    let _ = collection.len();
+    collection.law_ascending();
     // That there is one more shows that these aren't all.
     let mut documents = collection.find_first(&deletion.filter, most.saturating_add(1))?;
     let _ = documents.pop();

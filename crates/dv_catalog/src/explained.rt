@@ -9,12 +9,12 @@ use crate::collections::Collections;
 use dv_index::IndexedCollection;
 use dv_match::Filter;
 use dv_value::NoMemory;
-use dv_views::Rows;
+use dv_views::ViewRows;
 use std::alloc::Global;
 
 /// How rows are found.
 #[derive(Debug, Drop)]
-pub enum Way {
+pub enum Access {
     /// They are those of a view.
     View,
     /// By the index of this name.
@@ -26,18 +26,18 @@ pub enum Way {
 /// How the rows of a find are found.
 #[derive(Debug, Drop)]
 pub struct Explained {
-    pub way: Way,
+    pub way: Access,
     /// How many documents or rows the plan covers: all, or by an index those that have a leaf in its bounds, Missing counting
     /// as null. Fewer may be looked at.
     pub documents: usize,
 }
 
 /// How the rows of a view are found.
-pub(crate) fn explained_view(rows: Rows<'_>) -> Explained
+pub(crate) fn explained_view(rows: ViewRows<'_>) -> Explained
     ensures { explained_seen result ≡ record { way = making.over_view; documents = length rows.entry } }
 {
     Explained {
-        way: Way::View,
+        way: Access::View,
         documents: rows.count(),
     }
 }
@@ -55,7 +55,7 @@ pub(crate) fn explained_in(
     match collections.get(namespace) {
         Some(collection) => explained_of(alloc, collection, filter),
         None => Ok(Explained {
-            way: Way::All,
+            way: Access::All,
             documents: 0,
         }),
     }
@@ -71,8 +71,8 @@ fn explained_of(
 {
     let explanation = collection.explain(filter)?;
     let way = match explanation.index {
-        Some(name) => Way::Index(String::from_str(alloc, name)?),
-        None => Way::All,
+        Some(name) => Access::Index(String::from_str(alloc, name)?),
+        None => Access::All,
     };
     Ok(Explained {
         way,

@@ -20,7 +20,7 @@ use dv_match::Filter;
 use dv_path::SortSpec;
 use dv_pipe::{Stage, references};
 use dv_value::{Document, NoMemory};
-use dv_views::Registry;
+use dv_views::ToldRegistry;
 use std::alloc::Global;
 
 /// The first stages of a pipeline, which are a find: a `$match`, a `$sort` and a `$limit`, as far as they follow each other so.
@@ -96,7 +96,7 @@ fn filter_or<'a>(filter: Option<&'a Filter>, everything: &'a Filter) -> &'a Filt
 pub(crate) fn rows_of_stages(
     alloc: Global,
     collections: &Collections,
-    registry: &Registry,
+    registry: &ToldRegistry,
     stages: &[Stage],
     source: &str,
 ) -> Result<Vec<Document>, NoMemory>

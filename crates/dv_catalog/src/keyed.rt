@@ -16,7 +16,7 @@ ghost use Rattle.dv_sort.specs.Sorting.{front};
 ghost use Rattle.dv_catalog.specs.Scan.{matching};
 
 use crate::asked::{Asked, asked_of_rows};
-use crate::rows::Rows;
+use crate::rows::FoundRows;
 use crate::standing::first_matching;
 use dv_index::laws;
 use dv_keyed::{Interval, in_order, lent};
@@ -57,16 +57,16 @@ fn rows_between<'a>(
     rows: &RowsById<'a>,
     ends: Interval,
     direction: Direction,
-) -> Result<Rows<'a>, NoMemory>
+) -> Result<FoundRows<'a>, NoMemory>
     ensures { IfOk result (λ between. between ≡ in_direction direction (kept (λ d. is_between ends (id_key d)) rows.now)) }
 {
     if !ends.is_forward() {
-        return Ok(Rows::none());
+        return Ok(FoundRows::none());
     }
     let Interval { low, high } = ends;
     match direction {
-        Direction::Ascending => Ok(Rows::of_between(rows.between(low, high)?)),
-        Direction::Descending => Ok(Rows::of_between(rows.between_from_last(low, high)?)),
+        Direction::Ascending => Ok(FoundRows::of_between(rows.between(low, high)?)),
+        Direction::Descending => Ok(FoundRows::of_between(rows.between_from_last(low, high)?)),
     }
 }
 
@@ -108,7 +108,7 @@ fn rows_under<'a>(
 {
     laws::documents_are_found_key_by_key();
     // The rows are in order.
-    let _ = rows.len();
+    rows.law_ascending();
     let mut under = Vec::with_capacity(alloc, keys.len())?;
     'keys: for key in keys {
         add_rows(&mut under, rows_at(alloc, rows, key)?)?;

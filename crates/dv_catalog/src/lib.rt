@@ -30,7 +30,7 @@ mod view_changes;
 
 pub use catalog::Catalog;
 pub use counts::Counted;
-pub use explained::{Explained, Way};
+pub use explained::{Access, Explained};
 pub use failure::Stopped;
 pub use indexing::IndexCounts;
 pub use stats::Stats;

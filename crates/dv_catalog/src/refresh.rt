@@ -13,7 +13,7 @@ use crate::collections::Collections;
 use crate::sources::documents_under;
 use dv_pipe::Pipeline;
 use dv_value::{NoMemory, Str};
-use dv_views::{Registry, ViewState, names_read};
+use dv_views::{ToldRegistry, ViewState, names_read};
 use std::alloc::Global;
 
 /// Makes stale views anew that what stands under the namespace needs. Fails where memory is wanting; then some of them may
@@ -21,7 +21,7 @@ use std::alloc::Global;
 pub(crate) fn refresh_under(
     alloc: Global,
     collections: &Collections,
-    registry: &mut Registry,
+    registry: &mut ToldRegistry,
     namespace: &str,
 ) -> Result<(), NoMemory>
     ensures right { views.AreRight (lists_of collections.now) registry.old → views.AreRight (lists_of collections.now) registry.new }
@@ -41,7 +41,7 @@ pub(crate) fn refresh_under(
 pub(crate) fn refresh_read(
     alloc: Global,
     collections: &Collections,
-    registry: &mut Registry,
+    registry: &mut ToldRegistry,
     source: &str,
     pipeline: &Pipeline,
 ) -> Result<(), NoMemory>
@@ -61,7 +61,7 @@ pub(crate) fn refresh_read(
 fn refresh_needed(
     alloc: Global,
     collections: &Collections,
-    registry: &mut Registry,
+    registry: &mut ToldRegistry,
     names: Vec<Str>,
 ) -> Result<(), NoMemory>
     ensures right { views.AreRight (lists_of collections.now) registry.old → views.AreRight (lists_of collections.now) registry.new }
@@ -78,12 +78,12 @@ fn refresh_needed(
 }
 
 /// Whether a view of one of the names is stale. Takes no memory.
-fn is_one_stale(registry: &Registry, names: &[Str]) -> bool
+fn is_one_stale(registry: &ToldRegistry, names: &[Str]) -> bool
     ensures stale { result ≡ parts.is_one_stale names.now registry.now }
     ensures live { result ≡ false → AreLive names.now registry.now }
 {
     // No two views have one name.
-    let _ = registry.len();
+    registry.law_named_apart();
     'names: for name in names {
         if is_stale(registry, name.as_str()) {
             return true;
@@ -93,7 +93,7 @@ fn is_one_stale(registry: &Registry, names: &[Str]) -> bool
 }
 
 /// Whether there is a view of this name, and it is stale. Takes no memory.
-fn is_stale(registry: &Registry, name: &str) -> bool
+fn is_stale(registry: &ToldRegistry, name: &str) -> bool
     ensures { result ≡ parts.is_stale_view (views.view_under name.now registry.now) }
 {
     match registry.state(name) {
@@ -103,7 +103,7 @@ fn is_stale(registry: &Registry, name: &str) -> bool
 }
 
 /// A law: the rows that a right view shows are those that stand under its name.
-pub(crate) fn shown_rows_are_right(registry: &Registry)
+pub(crate) fn law_shown(registry: &ToldRegistry)
     ensures shown { (namespaces : Namespaces) (name : List ℕ) (rows : List (List Field)) → views.AreRight (lists_of namespaces) registry.now
         → views.rows_shown name registry.now ≡ Some rows → rows ≡ rows_of name (state_of namespaces registry.now) }
     ensures kept { (namespaces : Namespaces) (name : List ℕ) → views.AreRight (lists_of namespaces) registry.now
@@ -111,5 +111,5 @@ pub(crate) fn shown_rows_are_right(registry: &Registry)
 {
     dv_views::laws::what_is_shown_is_right();
     // No two views have one name.
-    let _ = registry.len();
+    registry.law_named_apart();
 }

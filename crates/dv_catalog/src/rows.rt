@@ -9,24 +9,24 @@ use std::marker::Model;
 
 /// Where rows come from.
 #[derive(Drop)]
-enum Origin<'a> {
+enum RowsOrigin<'a> {
     /// Nothing stands there.
     Nothing,
     /// The documents of a collection, in the order of their `_id`s.
     Collection(Iter<'a>),
     /// The rows of a view.
-    View(dv_views::Rows<'a>),
+    View(dv_views::ViewRows<'a>),
     /// Rows of a view between two ends, in an order of their `_id`s.
     Between(RowsBetween<'a>),
 }
 
 /// Rows that are still to come.
 #[derive(Drop)]
-pub(crate) struct Rows<'a> {
-    origin: Origin<'a>,
+pub(crate) struct FoundRows<'a> {
+    origin: RowsOrigin<'a>,
 }
 
-impl<'a> Model for Rows<'a> {
+impl<'a> Model for FoundRows<'a> {
     ghost use Rattle.std.specs.Prelude as prelude;
     ghost use Rattle.std.specs.Coded.{coded_list, coded×, coded_ℕ};
     ghost use Rattle.dv_value.specs.Tree.{Field};
@@ -40,13 +40,13 @@ impl<'a> Model for Rows<'a> {
     ghost view = { λ r. seen.rows r.origin };
 }
 
-impl<'a> Rows<'a> {
+impl<'a> FoundRows<'a> {
     /// No row.
     pub(crate) fn none() -> Self
         ensures { result ≡ [] }
     {
-        Rows {
-            origin: Origin::Nothing,
+        FoundRows {
+            origin: RowsOrigin::Nothing,
         }
     }
 
@@ -54,17 +54,17 @@ impl<'a> Rows<'a> {
     pub(crate) fn of_collection(documents: Iter<'a>) -> Self
         ensures { result ≡ documents.entry }
     {
-        Rows {
-            origin: Origin::Collection(documents),
+        FoundRows {
+            origin: RowsOrigin::Collection(documents),
         }
     }
 
     /// The rows of a view.
-    pub(crate) fn of_view(rows: dv_views::Rows<'a>) -> Self
+    pub(crate) fn of_view(rows: dv_views::ViewRows<'a>) -> Self
         ensures { result ≡ rows.entry }
     {
-        Rows {
-            origin: Origin::View(rows),
+        FoundRows {
+            origin: RowsOrigin::View(rows),
         }
     }
 
@@ -72,13 +72,13 @@ impl<'a> Rows<'a> {
     pub(crate) fn of_between(rows: RowsBetween<'a>) -> Self
         ensures { result ≡ rows.entry }
     {
-        Rows {
-            origin: Origin::Between(rows),
+        FoundRows {
+            origin: RowsOrigin::Between(rows),
         }
     }
 }
 
-impl<'a> Iterator for Rows<'a> {
+impl<'a> Iterator for FoundRows<'a> {
     type Item = &'a Document;
 
     ghost use Rattle.std.specs.Iterator.{YieldsFirstRef, item_count};
@@ -89,10 +89,10 @@ impl<'a> Iterator for Rows<'a> {
 
     fn next(&mut self) -> Option<&'a Document> {
         match &mut self.origin {
-            Origin::Nothing => None,
-            Origin::Collection(documents) => documents.next(),
-            Origin::View(rows) => rows.next(),
-            Origin::Between(rows) => rows.next(),
+            RowsOrigin::Nothing => None,
+            RowsOrigin::Collection(documents) => documents.next(),
+            RowsOrigin::View(rows) => rows.next(),
+            RowsOrigin::Between(rows) => rows.next(),
         }
     }
 }

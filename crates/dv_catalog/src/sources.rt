@@ -10,10 +10,10 @@ ghost use Rattle.dv_catalog.specs.Inner.SourceParts.{with_list};
 ghost use Rattle.dv_catalog.specs.State.{AreOrdered, lists_of};
 
 use crate::collections::Collections;
-use crate::rows::Rows;
+use crate::rows::FoundRows;
 use dv_pipe::Sources;
 use dv_value::{Document, NoMemory, Str};
-use dv_views::Registry;
+use dv_views::ToldRegistry;
 use std::alloc::Global;
 
 /// Under each of the names, the documents of the collection that stands there: none where a view does, or nothing. Fails
@@ -39,7 +39,7 @@ pub(crate) fn documents_under<'a>(
 pub(crate) fn rows_under<'a>(
     alloc: Global,
     collections: &'a Collections,
-    registry: &'a Registry,
+    registry: &'a ToldRegistry,
     names: &[Str],
 ) -> Result<Sources<'a>, NoMemory>
     ensures { IfOk result (λ sources. AreAlike names.now (pipes.lists_of sources) (lists_kept collections.now registry.now)) }
@@ -53,11 +53,15 @@ pub(crate) fn rows_under<'a>(
 }
 
 /// The rows that stand under a namespace; those of a stale view aren't there.
-fn rows_in<'a>(collections: &'a Collections, registry: &'a Registry, namespace: &str) -> Rows<'a>
+fn rows_in<'a>(
+    collections: &'a Collections,
+    registry: &'a ToldRegistry,
+    namespace: &str,
+) -> FoundRows<'a>
     ensures { result ≡ rows_kept namespace.now collections.now registry.now }
 {
     match registry.rows(namespace) {
-        Some(rows) => Rows::of_view(rows),
+        Some(rows) => FoundRows::of_view(rows),
         None => collections.rows(namespace),
     }
 }
@@ -67,7 +71,7 @@ fn add_rows<'a>(
     alloc: Global,
     sources: &mut Sources<'a>,
     name: &str,
-    rows: Rows<'a>,
+    rows: FoundRows<'a>,
 ) -> Result<(), NoMemory>
     ensures { OnOk result (sources.new ≡ with_list name.now rows.entry sources.old) }
 {
@@ -79,7 +83,7 @@ fn add_rows<'a>(
 }
 
 /// References to the rows. Fails where memory is wanting.
-fn references<'a>(alloc: Global, rows: Rows<'a>) -> Result<Vec<&'a Document>, NoMemory>
+fn references<'a>(alloc: Global, rows: FoundRows<'a>) -> Result<Vec<&'a Document>, NoMemory>
     ensures { IfOk result (λ references. rows_referred references.items ≡ rows.entry) }
 {
     let mut references = Vec::new(alloc);

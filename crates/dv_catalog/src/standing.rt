@@ -11,12 +11,12 @@ ghost use Rattle.dv_views.specs.Inner.Views.{AreRight, rows_shown};
 
 use crate::collections::Collections;
 use crate::keyed::first_by_key;
-use crate::rows::Rows;
+use crate::rows::FoundRows;
 use dv_index::IndexedCollection;
 use dv_match::Filter;
 use dv_path::Direction;
 use dv_value::{Document, NoMemory};
-use dv_views::{Registry, RowsById};
+use dv_views::{RowsById, ToldRegistry};
 use std::alloc::Global;
 
 /// What stands under a namespace.
@@ -27,13 +27,13 @@ pub(crate) enum Searched<'a> {
     /// The rows of a view that stand by their `_id`s.
     ById(RowsById<'a>),
     /// The rows of another view, or none.
-    Rows(Rows<'a>),
+    Rows(FoundRows<'a>),
 }
 
 /// What stands under a namespace; the rows of a stale view aren't there.
 pub(crate) fn searched_in<'a>(
     collections: &'a Collections,
-    registry: &'a Registry,
+    registry: &'a ToldRegistry,
     namespace: &str,
 ) -> Searched<'a>
     requires { AreRight (lists_of collections.now) registry.now }
@@ -42,19 +42,19 @@ pub(crate) fn searched_in<'a>(
     if let Some(rows) = registry.rows(namespace) {
         return match by_id(collections, registry, namespace) {
             Some(rows) => Searched::ById(rows),
-            None => Searched::Rows(Rows::of_view(rows)),
+            None => Searched::Rows(FoundRows::of_view(rows)),
         };
     }
     match collections.get(namespace) {
         Some(collection) => Searched::Collection(collection),
-        None => Searched::Rows(Rows::none()),
+        None => Searched::Rows(FoundRows::none()),
     }
 }
 
 /// The rows of the view under a namespace by their `_id`s, where they stand so.
 fn by_id<'a>(
     collections: &Collections,
-    registry: &'a Registry,
+    registry: &'a ToldRegistry,
     namespace: &str,
 ) -> Option<RowsById<'a>>
     requires { AreRight (lists_of collections.now) registry.now }
@@ -62,7 +62,7 @@ fn by_id<'a>(
 {
     let standing = registry.standing(namespace)?;
     // The documents of a collection begin with their `_id`s.
-    collections.ordered(standing.base());
+    collections.law_ordered(standing.base());
     Some(standing.by_id())
 }
 
@@ -89,7 +89,7 @@ pub(crate) fn first_found<'a>(
 /// The first rows that match the filter, in their order: `most` of them, or all. Fails where memory is wanting.
 pub(crate) fn first_matching<'a>(
     alloc: Global,
-    rows: Rows<'a>,
+    rows: FoundRows<'a>,
     filter: &Filter,
     most: Option<usize>,
 ) -> Result<Vec<&'a Document>, NoMemory>

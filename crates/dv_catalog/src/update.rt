@@ -15,17 +15,17 @@ ghost use Rattle.dv_index.specs.Inner.View.{afters as documents_after, befores a
 ghost use Rattle.dv_pipe.specs.Sources.{rows_referred};
 ghost use Rattle.dv_update.specs.Apply.{applied};
 ghost use Rattle.dv_update.specs.Outcome as outcomes;
-ghost use Rattle.dv_update.specs.Parsing.{Gives};
+ghost use Rattle.dv_update.specs.declared.fault.UpdateFault.TheVariants.{NoMemory as no_memory};
+ghost use Rattle.dv_value.specs.Results.{Gives};
 ghost use Rattle.dv_update.specs.UpdateView as seen;
 
 use crate::effect::{Changes, Effect, Updated, Updates};
 use crate::selection::chosen;
-use dv_coll::laws;
+use dv_coll::{key_of_id, laws};
 use dv_command::{Refusal, Updating};
 use dv_index::{IndexedCollection, Replacing};
 use dv_update::{Outcome, Update, UpdateFault};
 use dv_value::{Document, Name, NoMemory};
-use dv_views::key_of_id;
 use std::alloc::Global;
 
 /// What an updating does to a collection: where its documents are wanted whole, each as a whole document. Refused as the first
@@ -68,7 +68,7 @@ fn updated(
     laws::documents_stand_where_they_are_found();
     dv_update::laws::the_id_stays();
     // The documents are in order.
-    let _ = collection.len();
+    collection.law_ascending();
     let documents = chosen(collection, &updating.filter, !updating.multi)?;
     let each = changed_by(alloc, &updating.update, &documents, whole)?;
     let name = name_of(alloc, &updating.update)?;
@@ -136,7 +136,7 @@ fn outcome_of(
     document: &Document,
     whole: bool,
 ) -> Result<Outcome, UpdateFault>
-    ensures applied { Gives (outcomes.outcome_seen (outcomes.sole_name (seen.update update.now)) document.now) result
+    ensures applied { Gives no_memory (outcomes.outcome_seen (outcomes.sole_name (seen.update update.now)) document.now) result
         (applied (seen.update update.now) document.now) }
     ensures same { IfOk result (λ outcome. outcomes.stays outcome ≡ outcomes.stays_so (outcomes.sole_name (seen.update update.now)) document.now outcome) }
 {
@@ -232,7 +232,7 @@ fn put_one(
 {
     laws::what_is_found_has_the_key();
     // The documents begin with their `_id`s.
-    let _ = collection.len();
+    collection.law_ascending();
     let Updated { before, outcome } = document;
     let _ = match outcome {
         Outcome::Same => collection.replace(before)?,

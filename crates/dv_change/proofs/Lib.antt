@@ -10,4 +10,4 @@ pub mod Underway
 pub mod Lists
 pub mod Flat
 pub mod Passing
-pub mod Alive
+pub mod Made

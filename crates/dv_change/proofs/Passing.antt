@@ -11,12 +11,10 @@ use Rattle.dv_change.specs.Difference.{diff}
 use Rattle.dv_change.specs.Inner.Changes.{IsExactChange, IsPositioned}
 use Rattle.dv_change.specs.Inner.DiffLaws.{apply-diff, exact-diff}
 use Rattle.dv_change.specs.Inner.Fed.{AreFresh, AreHeld, ComesIn, IsFed, IsFilled, IsPassed, IsPassedIn, rows_named}
-use Rattle.dv_change.specs.Inner.LiveRows.{lists_of}
 use Rattle.dv_change.specs.Inner.Told.{ComesTo, list_at, told_along, with_old}
 use Rattle.dv_change.specs.Inputs.{input_changed_at}
 use Rattle.dv_change.specs.Raised.{raised}
 use Rattle.dv_change.specs.Work.{Form, handed, owed_by, stage_rows, through_forms, work}
-use Rattle.dv_change.proofs.Flat.{in_order_both}
 use Rattle.dv_change.proofs.Linking.{apply-handed, exact-handed, raised-twice}
 
 module _ {O : Type 0} (makes : O → List Positioned → Positioned → Positioned) (holds : O → List Positioned → Positioned → Type 0)
@@ -127,10 +125,3 @@ module _ {O : Type 0} (makes : O → List Positioned → Positioned → Position
     fresh-held [] (form ∷ forms) fresh = absurd fresh
     fresh-held (o ∷ operators) [] fresh = absurd fresh
     fresh-held (o ∷ operators) (form ∷ forms) fresh = (fresh.0, fresh.1, subst (λ (r : Positioned). AreHeld makes holds operators forms r) (sym (nothing_made o form fresh.0)) (fresh-held operators forms fresh.2))
-
-  -- ---- the lists that operators look into stand in their order
-  pub lists_in_order : (operators : List O) (forms : List Form) (rows : Positioned) → AreHeld makes holds operators forms rows → AllByRecursion (λ (r : Positioned). IsPositioned r) (lists_of forms)
-  lists_in_order [] [] rows held = tt
-  lists_in_order [] (form ∷ forms) rows held = absurd held
-  lists_in_order (o ∷ operators) [] rows held = absurd held
-  lists_in_order (o ∷ operators) (form ∷ forms) rows held = in_order_both form.named (lists_of forms) (positioned o form.named rows held.1).1 (lists_in_order operators forms (stage_rows form rows) held.2)

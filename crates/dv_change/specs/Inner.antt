@@ -16,7 +16,7 @@ pub mod Telling
 pub mod Told
 pub mod ToldLaws
 pub mod Fed
-pub mod LiveRows
+pub mod ToldRows
 pub mod Linked
 pub mod OrderedView
 pub mod Examples

@@ -96,7 +96,7 @@ fn feed_input<T: Turn>(
     ensures begins { OnErr result (BeginsWith out.new.items out.old.items) }
     ensures no_fewer { OnErr result (ticks.old ≤ ticks.new) }
 {
-    change.is_exact();
+    change.law_exact();
     match input {
         Input::Left => {
             let mut changes = Vec::with_capacity(alloc, 1)?;

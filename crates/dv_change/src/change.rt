@@ -40,12 +40,12 @@ impl Change {
     }
 
     /// That each key of its position is that of some value, or the one that no value has. Does nothing.
-    pub fn is_exact(&self)
+    pub fn law_exact(&self)
         ensures { IsExactChange self.now }
     {
         match self {
-            Change::Put { pos, .. } => pos.is_exact(),
-            Change::Gone { pos } => pos.is_exact(),
+            Change::Put { pos, .. } => pos.law_exact(),
+            Change::Gone { pos } => pos.law_exact(),
         }
     }
 }

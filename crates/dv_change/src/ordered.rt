@@ -53,7 +53,7 @@ impl<V: Drop> Ordered<V> {
     pub fn with(self, pos: Pos, value: V) -> Result<Self, NoMemory>
         ensures { IfOk result (λ more. more ≡ put pos value self) }
     {
-        pos.is_exact();
+        pos.law_exact();
         let Ordered { first, mut others } = self;
         match first {
             None => Ok(Ordered {

@@ -22,7 +22,7 @@ pub(crate) fn packed(
     ensures { IfOk result (λ packed. packed.entries ≡ rows.entries) }
 {
     let packed = built_anew(alloc, rows)?;
-    are_exact(&packed);
+    law_exact_rows(&packed);
     Ok(packed)
 }
 
@@ -37,10 +37,10 @@ fn built_anew(
 }
 
 /// That the keys of the positions are those of values, or the one that no value has. Changes nothing.
-fn are_exact(rows: &BTreeMap<Pos, Document>)
+fn law_exact_rows(rows: &BTreeMap<Pos, Document>)
     ensures { AllByRecursion IsExact (keys_of rows.now.entries) }
 {
     'rows: for pos in rows.keys() {
-        pos.is_exact();
+        pos.law_exact();
     }
 }

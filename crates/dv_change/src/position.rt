@@ -39,12 +39,12 @@ impl Part {
     }
 
     /// That its key is that of some value, or the one that no value has. Does nothing.
-    pub fn is_exact(&self)
+    pub fn law_exact(&self)
         ensures { IsExactPart self.now }
     {
         match self {
-            Part::Up(key) => key.is_own(),
-            Part::Down(key) => key.is_own(),
+            Part::Up(key) => key.law_own(),
+            Part::Down(key) => key.law_own(),
             Part::At(_) => {}
         }
     }
@@ -144,7 +144,7 @@ impl Pos {
     pub fn of(alloc: Global, parts: Vec<Part>) -> Result<Self, NoMemory>
         ensures { IfOk result (λ pos. pos ≡ parts.items) }
     {
-        are_exact(parts.as_slice());
+        law_exact_parts(parts.as_slice());
         Ok(Pos {
             place: Place::of(alloc, parts)?,
         })
@@ -154,7 +154,7 @@ impl Pos {
     pub fn of_part(alloc: Global, part: Part) -> Result<Self, NoMemory>
         ensures { IfOk result (λ pos. pos ≡ part ∷ []) }
     {
-        part.is_exact();
+        part.law_exact();
         if let Some(place) = Place::alone(alloc, &part)? {
             return Ok(Pos { place });
         }
@@ -167,7 +167,7 @@ impl Pos {
     pub fn behind_part(&self, alloc: Global, part: Part) -> Result<Self, NoMemory>
         ensures { IfOk result (λ pos. pos ≡ part ∷ self.now) }
     {
-        part.is_exact();
+        part.law_exact();
         if let Some(place) = self.place.behind_part(&part) {
             return Ok(Pos { place });
         }
@@ -177,7 +177,7 @@ impl Pos {
     }
 
     /// That each key of its parts is that of some value, or the one that no value has. Does nothing.
-    pub fn is_exact(&self)
+    pub fn law_exact(&self)
         ensures { IsExact self.now }
     {
         let _ = &self.place;
@@ -234,11 +234,11 @@ impl Pos {
 }
 
 /// That the keys of the parts are those of values, or the one that no value has. Changes nothing.
-fn are_exact(parts: &[Part])
+fn law_exact_parts(parts: &[Part])
     ensures { IsExact parts.now }
 {
     'parts: for part in parts {
-        part.is_exact();
+        part.law_exact();
     }
 }
 

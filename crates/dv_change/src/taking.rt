@@ -4,6 +4,7 @@ ghost use Rattle.std.specs.Prelude.{◌≡◌, IfOk, OnOk};
 ghost use Rattle.dv_change.specs.Changes.{at, with_change};
 ghost use Rattle.dv_change.specs.Inner.Changes.{IsExactChange, IsPositioned, position_changed, row_in};
 ghost use Rattle.dv_change.specs.Inner.Told.{change_told};
+ghost use Rattle.dv_change.specs.Positions.{IsExact};
 
 use crate::change::Change;
 use crate::position::Pos;
@@ -22,6 +23,38 @@ pub struct Taken {
 }
 
 impl Taken {
+    /// A copy of its own, whose rows share their memory. Fails with `NoMemory` when memory runs out.
+    pub fn try_clone(&self) -> Result<Self, NoMemory>
+        ensures { IfOk result (λ copy. copy ≡ self.now) }
+    {
+        Ok(Taken {
+            pos: self.pos.try_clone()?,
+            old: copied(&self.old)?,
+            new: copied(&self.new)?,
+        })
+    }
+
+    /// The change, of its own, whose row shares its memory. Fails with `NoMemory` when memory runs out.
+    pub fn change(&self) -> Result<Change, NoMemory>
+        ensures { IfOk result (λ change. change ≡ change_told self.now) }
+    {
+        let pos = self.pos.try_clone()?;
+        match &self.new {
+            Some(row) => Ok(Change::Put {
+                pos,
+                row: row.try_clone()?,
+            }),
+            None => Ok(Change::Gone { pos }),
+        }
+    }
+
+    /// That each key of its position is that of some value, or the one that no value has. Does nothing.
+    pub fn law_exact(&self)
+        ensures { IsExact self.now.pos }
+    {
+        self.pos.law_exact();
+    }
+
     /// The change.
     pub fn into_change(self) -> Change
         ensures { result ≡ change_told self }
@@ -31,6 +64,16 @@ impl Taken {
             Some(row) => Change::Put { pos, row },
             None => Change::Gone { pos },
         }
+    }
+}
+
+/// The row, where there is one, whose memory is shared.
+fn copied(row: &Option<Document>) -> Result<Option<Document>, NoMemory>
+    ensures { IfOk result (λ copy. copy ≡ row.now) }
+{
+    match row {
+        Some(row) => Ok(Some(row.try_clone()?)),
+        None => Ok(None),
     }
 }
 
@@ -44,7 +87,7 @@ pub fn take_in(rows: &mut BTreeMap<Pos, Document>, change: Change) -> Result<Tak
     ensures old { IfOk result (λ taken. taken.old ≡ at (position_changed change) rows.old.entries) }
     ensures new { IfOk result (λ taken. taken.new ≡ row_in change) }
 {
-    change.is_exact();
+    change.law_exact();
     match change {
         Change::Put { pos, row } => {
             let old = rows.insert(pos.try_clone()?, row.try_clone()?)?;

@@ -69,6 +69,14 @@ impl Collection {
         self.documents.len()
     }
 
+    /// That the documents ascend by their `_id`s, and that each begins with its own. Does nothing.
+    pub fn law_ascending(&self)
+        ensures ascending { IsAscending self.now }
+        ensures identified { AllByRecursion HasId self.now }
+    {
+        let _documents = &self.documents;
+    }
+
     /// Whether there is no document.
     pub fn is_empty(&self) -> bool
         ensures { IsTrue result ↔ (self.now ≡ []) }
@@ -273,8 +281,8 @@ fn take_first_names(document: &mut Document, documents: &BTreeMap<Key, Document>
     }
 }
 
-/// The key of the document's `_id`. Fails where memory is wanting.
-fn key_of_id(document: &Document) -> Result<Key, NoMemory>
+/// The key of the `_id` with which the document begins. Fails with `NoMemory` when memory runs out.
+pub fn key_of_id(document: &Document) -> Result<Key, NoMemory>
     requires { HasId document.now }
     ensures { IfOk result (λ key. key ≡ id_key document.now) }
 {

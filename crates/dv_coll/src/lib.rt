@@ -6,6 +6,6 @@ mod fault;
 pub mod laws;
 mod walk;
 
-pub use collection::{Collection, Iter};
+pub use collection::{Collection, Iter, key_of_id};
 pub use fault::InsertFault;
 pub use walk::Walk;

@@ -8,7 +8,7 @@ ghost use Rattle.dv_refusal.specs.Refusals.{Returns};
 use crate::command::DocumentLists;
 use crate::lists::check_none;
 use crate::namespaces::database;
-use crate::rules::{Place, Rule, check_fields};
+use crate::rules::{FieldPlace, Rule, check_fields};
 use dv_refusal::Refusal;
 use dv_value::Document;
 
@@ -17,7 +17,7 @@ pub(crate) fn looked_database<'a>(rules: &[Rule], body: &'a Document) -> Result<
     ensures { Returns (λ name. name.now) (asking.looked_database (map rule_seen rules.now) body.now) result }
 {
     let database = database(body)?;
-    check_fields(Place::Command, rules, body)?;
+    check_fields(FieldPlace::Command, rules, body)?;
     Ok(database)
 }
 

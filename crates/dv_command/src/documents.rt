@@ -15,12 +15,12 @@ use std::marker::Model;
 /// Documents that are still to come, in order: those of an array, or those of a list beside a body.
 #[derive(Debug, Drop)]
 pub struct Documents<'a> {
-    source: Source<'a>,
+    source: DocumentPlace<'a>,
 }
 
 /// Where documents stand.
 #[derive(Clone, Copy, Debug)]
-enum Source<'a> {
+enum DocumentPlace<'a> {
     Array(&'a [Value]),
     Beside(&'a [Document]),
 }
@@ -49,7 +49,7 @@ impl<'a> Documents<'a> {
         let values = list.as_slice();
         if are_documents(values) {
             Ok(Documents {
-                source: Source::Array(values),
+                source: DocumentPlace::Array(values),
             })
         } else {
             Err(Refusal::TypeMismatch)
@@ -61,7 +61,7 @@ impl<'a> Documents<'a> {
         ensures { result ≡ documents.now }
     {
         Documents {
-            source: Source::Beside(documents),
+            source: DocumentPlace::Beside(documents),
         }
     }
 
@@ -70,8 +70,8 @@ impl<'a> Documents<'a> {
         ensures { result ≡ length self.now }
     {
         match self.source {
-            Source::Array(values) => values.len(),
-            Source::Beside(documents) => documents.len(),
+            DocumentPlace::Array(values) => values.len(),
+            DocumentPlace::Beside(documents) => documents.len(),
         }
     }
 }
@@ -92,17 +92,17 @@ impl<'a> Iterator for Documents<'a> {
 
     fn next(&mut self) -> Option<&'a Document> {
         match self.source {
-            Source::Array(values) => {
+            DocumentPlace::Array(values) => {
                 let (first, behind) = values.split_first()?;
-                self.source = Source::Array(behind);
+                self.source = DocumentPlace::Array(behind);
                 match first {
                     Value::Doc(document) => Some(document),
                     _ => unreachable!(),
                 }
             }
-            Source::Beside(documents) => {
+            DocumentPlace::Beside(documents) => {
                 let (first, behind) = documents.split_first()?;
-                self.source = Source::Beside(behind);
+                self.source = DocumentPlace::Beside(behind);
                 Some(first)
             }
         }

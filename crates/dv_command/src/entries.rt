@@ -12,7 +12,7 @@ ghost use Rattle.dv_command.specs.Inner.View.{deletion_seen, index_seen, updatin
 use crate::asking::IndexAsked;
 use crate::fields::{boolean_under, document_under, only_first_under, text_under, update_under};
 use crate::forms::{filter_of, is_replacement, update_of};
-use crate::rules::{Place, check_fields};
+use crate::rules::{FieldPlace, check_fields};
 use crate::tables::{DELETION_RULES, INDEX_RULES, UPDATING_RULES};
 use dv_candidates::{Path, PathFault};
 use dv_match::Filter;
@@ -34,7 +34,7 @@ pub struct Deletion {
 pub fn deletion_of(alloc: Global, entry: &Document) -> Result<Deletion, Refusal>
     ensures { UnlessWanting deletion_seen (entries.deletion_of entry.now) result }
 {
-    check_fields(Place::Entry, &DELETION_RULES, entry)?;
+    check_fields(FieldPlace::Entry, &DELETION_RULES, entry)?;
     let q = document_under(entry, "q")?;
     let only_first = only_first_under(entry, "limit")?;
     let filter = filter_of(alloc, q)?;
@@ -56,7 +56,7 @@ pub struct Updating {
 pub fn updating_of(alloc: Global, entry: &Document) -> Result<Updating, Refusal>
     ensures { UnlessWanting updating_seen (entries.updating_of entry.now) result }
 {
-    check_fields(Place::Entry, &UPDATING_RULES, entry)?;
+    check_fields(FieldPlace::Entry, &UPDATING_RULES, entry)?;
     let q = document_under(entry, "q")?;
     let u = update_under(entry, "u")?;
     let multi = boolean_under(entry, "multi", false)?;
@@ -90,7 +90,7 @@ const LONGEST_INDEX_NAME: usize = 120;
 pub(crate) fn index_of(alloc: Global, entry: &Document) -> Result<IndexAsked, Refusal>
     ensures { UnlessWanting index_seen (entries.index_asked entry.now) result }
 {
-    check_fields(Place::Entry, &INDEX_RULES, entry)?;
+    check_fields(FieldPlace::Entry, &INDEX_RULES, entry)?;
     let key = document_under(entry, "key")?;
     let name = text_under(entry, "name")?;
     let unique = boolean_under(entry, "unique", false)?;

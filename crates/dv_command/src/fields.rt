@@ -39,7 +39,7 @@ pub(crate) fn value_near<'a>(fields: &'a Document, place: usize, name: &str) -> 
     ensures { option_map (λ value. tree value.now) result ≡ value_under name.now fields.now }
 {
     // No two fields have one name.
-    let _ = fields.len();
+    fields.law_named();
     match fields.entry(place) {
         Some((there, value)) if name == there => Some(value),
         _ => fields.get(name),

@@ -15,7 +15,7 @@ use crate::fields::{
 };
 use crate::forms::{filter_under, pipeline_of, sort_under};
 use crate::namespaces::{database, namespace};
-use crate::rules::{Place, check_fields};
+use crate::rules::{FieldPlace, check_fields};
 use crate::tables::{
     AGGREGATE_RULES, EXPLAIN_RULES, EXPLAINED_RULES, FIND_RULES, GET_MORE_RULES, KILL_CURSORS_RULES,
 };
@@ -174,7 +174,7 @@ pub(crate) fn explain_of<'a>(
     let inside = explained(body)?;
     let database = database(body)?;
     // The command's own field stands first, so what is in it is looked at before the other fields.
-    check_fields(Place::Command, &EXPLAINED_RULES, inside)?;
+    check_fields(FieldPlace::Command, &EXPLAINED_RULES, inside)?;
     checked_database(&EXPLAIN_RULES, body, lists)?;
     let find = find_in(alloc, database, inside)?;
     Ok(Asked::Explain(Explain { find }))

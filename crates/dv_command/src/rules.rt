@@ -18,7 +18,7 @@ use dv_value::{Document, Value};
 
 /// Where fields are.
 #[derive(Clone, Copy)]
-pub(crate) enum Place {
+pub(crate) enum FieldPlace {
     /// In a command, in which some are ignored.
     Command,
     /// In an entry of its list.
@@ -27,7 +27,7 @@ pub(crate) enum Place {
 
 /// What the value of a field has to be.
 #[derive(Clone, Copy)]
-pub(crate) enum Kind {
+pub(crate) enum FieldKind {
     Anything,
     Text,
     Boolean,
@@ -57,12 +57,16 @@ pub(crate) enum Kind {
 
 /// A field that there may be: its name, and what its value has to be.
 #[derive(Clone, Copy)]
-pub(crate) struct Rule(pub &'static str, pub Kind);
+pub(crate) struct Rule(pub &'static str, pub FieldKind);
 
 /// Checks fields in written order. The first one is returned that is unknown (`FailedToParse`) or has a value of another kind:
 /// `TypeMismatch` if the value is of another type, and `BadValue` if it is a number out of its rules. For a value that may only be
 /// an empty document, or false, and isn't, `FailedToParse` is returned.
-pub(crate) fn check_fields(place: Place, rules: &[Rule], document: &Document) -> Result<(), Refusal>
+pub(crate) fn check_fields(
+    place: FieldPlace,
+    rules: &[Rule],
+    document: &Document,
+) -> Result<(), Refusal>
     ensures { result ≡ defined.check_fields (place_seen place) (map rule_seen rules.now) document.now }
 {
     'fields: for index in 0..document.len() {
@@ -74,7 +78,7 @@ pub(crate) fn check_fields(place: Place, rules: &[Rule], document: &Document) ->
 }
 
 /// Looks at one field.
-fn check_field(place: Place, rules: &[Rule], name: &str, value: &Value) -> Result<(), Refusal>
+fn check_field(place: FieldPlace, rules: &[Rule], name: &str, value: &Value) -> Result<(), Refusal>
     ensures { result ≡ defined.check_field (place_seen place) (map rule_seen rules.now) (name.now, tree value.now) }
 {
     if is_ignored(place, name) {
@@ -87,12 +91,12 @@ fn check_field(place: Place, rules: &[Rule], name: &str, value: &Value) -> Resul
 }
 
 /// Whether a field of the name is ignored, whatever it holds: some are in every command.
-fn is_ignored(place: Place, name: &str) -> bool
+fn is_ignored(place: FieldPlace, name: &str) -> bool
     ensures { result ≡ defined.is_ignored (place_seen place) name.now }
 {
     match place {
-        Place::Command => is_ignored_in_commands(name),
-        Place::Entry => false,
+        FieldPlace::Command => is_ignored_in_commands(name),
+        FieldPlace::Entry => false,
     }
 }
 
@@ -115,7 +119,7 @@ fn is_ignored_in_commands(name: &str) -> bool
 }
 
 /// What the rules say of a field of the name; `None` where there is no such field.
-fn kind_in(rules: &[Rule], name: &str) -> Option<Kind>
+fn kind_in(rules: &[Rule], name: &str) -> Option<FieldKind>
     ensures { option_map kind_seen result ≡ defined.kind_in (map rule_seen rules.now) name.now }
 {
     'rules: for rule in rules {
@@ -127,25 +131,25 @@ fn kind_in(rules: &[Rule], name: &str) -> Option<Kind>
 }
 
 /// Looks at a value that has to be of the kind.
-fn check_value(kind: Kind, value: &Value) -> Result<(), Refusal>
+fn check_value(kind: FieldKind, value: &Value) -> Result<(), Refusal>
     ensures { result ≡ defined.check_value (kind_seen kind) (tree value.now) }
 {
     match kind {
-        Kind::Anything => Ok(()),
-        Kind::Text => text_of(value).map(|_| ()),
-        Kind::Boolean => boolean_of(value).map(|_| ()),
-        Kind::Document => document_of(value).map(|_| ()),
-        Kind::Documents => documents_of(value).map(|_| ()),
-        Kind::Array => array_of(value).map(|_| ()),
-        Kind::Integer => integer_of(value).map(|_| ()),
-        Kind::Integers => check_integers(value),
-        Kind::Natural => natural_of(value).map(|_| ()),
-        Kind::HowMany => only_first_of(value).map(|_| ()),
-        Kind::Update => update_of(value).map(|_| ()),
-        Kind::OnlyFalse => check_false(value),
-        Kind::EmptyDocument => check_empty(value),
-        Kind::Single => check_single(document_of(value)?),
-        Kind::Cursor => check_cursor(document_of(value)?),
+        FieldKind::Anything => Ok(()),
+        FieldKind::Text => text_of(value).map(|_| ()),
+        FieldKind::Boolean => boolean_of(value).map(|_| ()),
+        FieldKind::Document => document_of(value).map(|_| ()),
+        FieldKind::Documents => documents_of(value).map(|_| ()),
+        FieldKind::Array => array_of(value).map(|_| ()),
+        FieldKind::Integer => integer_of(value).map(|_| ()),
+        FieldKind::Integers => check_integers(value),
+        FieldKind::Natural => natural_of(value).map(|_| ()),
+        FieldKind::HowMany => only_first_of(value).map(|_| ()),
+        FieldKind::Update => update_of(value).map(|_| ()),
+        FieldKind::OnlyFalse => check_false(value),
+        FieldKind::EmptyDocument => check_empty(value),
+        FieldKind::Single => check_single(document_of(value)?),
+        FieldKind::Cursor => check_cursor(document_of(value)?),
     }
 }
 

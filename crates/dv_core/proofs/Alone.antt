@@ -13,7 +13,7 @@ use Rattle.dv_catalog.specs.declared.failure.Stopped.{Stopped}
 use Rattle.dv_coll.specs.Collection.{found, id_key}
 use Rattle.dv_command.specs.Asked.{Asked, asked_by}
 use Rattle.dv_command.specs.Asked as asking
-use Rattle.dv_command.specs.Replies.{document_of, refusal_reply, write_error, write_reply}
+use Rattle.dv_command.specs.Replies.{document_of, write_error, write_reply}
 use Rattle.dv_command.specs.declared.asking.WriteKind.TheVariants.{Insert}
 use Rattle.dv_command.specs.declared.command.Command.{Command}
 use Rattle.dv_path.specs.Names.{has_dot}
@@ -88,8 +88,11 @@ module _ (old : State) (session : ℕ) (command : Command) (asked : asking.Write
         ∙ ap (λ (b : Bool). answer_by old asked.namespace asked.ordered b (done_to c (insert_one d))) on
         ∙ refused_by old asked.namespace asked.ordered _ refusal (rw on at is)
 
-  pub load_on_view : is_view asked.namespace old.catalog.views ≡ true → (insert_alone asked.namespace d old ≡ Err OnView) × (step old session command ≡ record { reply = refusal_reply OnView; state = old })
-  load_on_view on = (rw on refl, carried ∙ rw on refl)
+  pub load_on_view : is_view asked.namespace old.catalog.views ≡ true → step old session command ≡ answered old (Err OnView)
+  load_on_view on = carried ∙ rw on refl
+
+pub alone_on_view : (old : State) (asked : asking.Write) (d : List Field) → is_view asked.namespace old.catalog.views ≡ true → insert_alone asked.namespace d old ≡ Err OnView
+alone_on_view old asked d on = rw on refl
 
 -- ---- the text of a namespace
 

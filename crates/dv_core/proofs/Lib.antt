@@ -37,3 +37,4 @@ mod Alone
 mod WorkedLoads
 pub mod Single
 pub mod Firsts
+mod Again

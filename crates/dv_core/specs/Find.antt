@@ -1,6 +1,6 @@
 -- The replies to a find and an aggregate (MongoDB manual, "find", "aggregate": their output, `batchSize`, `singleBatch`). Which rows
 -- can't be returned is this server's own.
-use Rattle.std.specs.Prelude.{ℕ, not, Bool, false, List, [], ◌∷◌, map, Option, Some, None, Result, Ok, Err, if◌then◌else◌}
+use Rattle.std.specs.Prelude.{◌≡◌, ℕ, not, Bool, false, List, [], ◌∷◌, map, Option, Some, None, Result, Ok, Err, if◌then◌else◌}
 use Rattle.std.specs.List.{list_all}
 use Rattle.dv_value.specs.Tree.{Field}
 use Rattle.dv_cursor.specs.Batch.{batch, rows_behind}
@@ -41,6 +41,11 @@ replied namespace count rows told =
 -- the reply with the first batch of these rows, and the cursors with a new one that keeps the others
 abbrev pub first_batch : ℕ → List ℕ → ℕ → Bool → List (List Field) → Cursors → Result (List Field × Cursors) Refusal
 first_batch session namespace count single rows cursors = kept session namespace (kept_by_cursor count single rows) cursors >>= replied namespace count rows
+
+-- the first batch of these rows is refused so, whatever its session and its namespace are
+abbrev pub FirstIsRefused : Refusal → ℕ → Bool → List (List Field) → Cursors → Type 0
+FirstIsRefused refusal count single rows cursors =
+    (session : ℕ) (namespace : List ℕ) → first_batch session namespace count single rows cursors ≡ Err refusal
 
 -- the reply to a find, and the cursors after it
 abbrev pub reply_to_find : ℕ → Find → State → Cursors → Result (List Field × Cursors) Refusal

@@ -10,6 +10,7 @@ pub mod Marks
 pub mod Step
 pub mod Told
 pub mod Load
+pub mod Steps
 pub mod Runs
 pub mod Part
 pub mod Sound

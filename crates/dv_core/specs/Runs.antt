@@ -1,15 +1,19 @@
 -- What the replies of a run say about the rows of a cursor.
 use Rattle.std.specs.Prelude.{◌≡◌, ◌≢◌, ◌⊎◌, ℕ, ℤ, pos, negsuc, ◌==◌, ◌&&◌, ◌||◌, not, Bool, true, false, List, [], ◌∷◌, ◌++◌, map, Option, Some, None, Result, Ok, Err, if◌then◌else◌}
 use Rattle.dv_value.specs.Tree.{Field}
-use Rattle.dv_command.specs.Asked.{Asked, GetMore, get_more, asked_by}
-use Rattle.dv_command.specs.Replies.{document_of, first_batch_reply}
+use Rattle.dv_command.specs.Asked.{Aggregate, Asked, Find, GetMore, get_more, asked_by}
+use Rattle.dv_command.specs.Replies.{document_of, first_batch_reply, next_batch_reply}
 use Rattle.dv_command.specs.declared.command.Command.{Command}
 use Rattle.dv_refusal.specs.declared.refusal.Refusal.{Refusal}
 use Rattle.dv_catalog.specs.Marks.{Marks}
+use Rattle.dv_catalog.specs.Scan.{scan}
+use Rattle.dv_catalog.specs.State.{rows_of}
 use Rattle.dv_catalog.specs.State as stored
+use Rattle.dv_catalog.specs.Views.{aggregated}
 use Rattle.dv_cursor.specs.Batch.{batch, rows_behind}
+use Rattle.dv_cursor.specs.Cursors.{rows_to_come}
 use Rattle.dv_core.specs.More.{rows_asked, rows_wanted}
-use Rattle.dv_core.specs.State.{State, standing}
+use Rattle.dv_core.specs.State.{State, empty_store_state, standing}
 use Rattle.dv_core.specs.Step.{Answer, answered, step, end_session}
 
 -- an event of a run: a command of a session is carried out as defined; a session ends; a command runs out of memory and leaves these
@@ -79,12 +83,36 @@ tells_last session id (ends other) state = false
 tells_last session id (wants catalog) state = false
 tells_last session id (stands marks) state = false
 
+-- the command asks more of the cursor of its session with this id, which has rows to come
+abbrev pub AsksMore : ℕ → ℕ → Command → GetMore → State → Type 0
+AsksMore session id command asked state =
+    (asked_by command ≡ Ok (get_more asked)) × (asked.id ≡ pos id)
+    × ((rows : List (List Field)) × (rows_to_come session asked.namespace id state.cursors ≡ Some rows))
+
+-- the reply to a getMore with the rows that it returns from the cursor with this session and id; its id is 0 if these are the last
+abbrev pub reply_told : ℕ → ℕ → Command → GetMore → State → List Field
+reply_told session id command asked state =
+    let move = carries session command in
+    next_batch_reply asked.namespace (if tells_last session id move state then 0 else id) (map document_of (rows_told session id move state))
+
 -- ---- a run
 
 -- the state after these events
 abbrev pub state_behind_all : List Move → State → State
 state_behind_all [] state = state
 state_behind_all (move ∷ moves) state = state_behind_all moves (state_after_move move state)
+
+-- the state after these events, from an empty store on
+abbrev pub state_of_run : List Move → State
+state_of_run moves = state_behind_all moves empty_store_state
+
+-- an event leads to the new state, once the marks of its views have become those of the new state
+abbrev pub LeadsTo : Move → State → State → Type 0
+LeadsTo move old new = new ≡ state_behind_all (move ∷ stands new.marks ∷ []) old
+
+-- some command that ran out of memory leads to the new state
+abbrev pub WantLeadsTo : State → State → Type 0
+WantLeadsTo old new = (catalog : stored.State) × LeadsTo (wants catalog) old new
 
 -- the rows that the replies to these events return from the cursor
 abbrev pub all_told : ℕ → ℕ → List Move → State → List (List Field)
@@ -115,3 +143,14 @@ pub record IsToldOf (session : ℕ) (namespace : List ℕ) (count : ℕ) (single
 abbrev pub Shows : ℕ → List ℕ → ℕ → Bool → List (List Field) → State → Answer → Type 0
 Shows session namespace count single rows state answer =
     ((refusal : Refusal) × (answer ≡ answered state (Err refusal))) ⊎ IsToldOf session namespace count single rows answer.reply answer.state
+
+-- the answer to a find of a session: it is refused, or returns the documents that the find asks for
+abbrev pub ShowsFound : Find → State → ℕ → Answer → Type 0
+ShowsFound asked state session answer =
+    Shows session asked.namespace asked.batch_size asked.single_batch
+    (scan asked.filter asked.sort asked.skip asked.limit (rows_of asked.namespace state.catalog)) state answer
+
+-- the answer to an aggregate of a session: it is refused, or returns the rows of the pipeline
+abbrev pub ShowsAggregated : Aggregate → State → ℕ → Answer → Type 0
+ShowsAggregated asked state session answer =
+    Shows session asked.namespace asked.batch_size false (aggregated asked.stages asked.namespace state.catalog) state answer

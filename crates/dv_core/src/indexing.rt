@@ -8,7 +8,7 @@ ghost use Rattle.dv_keyed.specs.Inner.View.{form_of_new};
 ghost use Rattle.dv_refusal.specs.Refusals.{UnlessWanting};
 ghost use Rattle.std.specs.Prelude.{Ok};
 
-use dv_catalog::{Explained, Way};
+use dv_catalog::{Access, Explained};
 use dv_command::replies::explain_reply;
 use dv_command::{IndexAsked, Refusal};
 use dv_index::NewIndex;
@@ -21,9 +21,9 @@ pub(crate) fn explained(alloc: Global, told: Explained) -> Result<Document, Refu
 {
     let Explained { way, documents } = told;
     let reply = match way {
-        Way::View => explain_reply(alloc, "VIEW", None, documents)?,
-        Way::Index(name) => explain_reply(alloc, "IXSCAN", Some(&name), documents)?,
-        Way::All => explain_reply(alloc, "COLLSCAN", None, documents)?,
+        Access::View => explain_reply(alloc, "VIEW", None, documents)?,
+        Access::Index(name) => explain_reply(alloc, "IXSCAN", Some(&name), documents)?,
+        Access::All => explain_reply(alloc, "COLLSCAN", None, documents)?,
     };
     Ok(reply)
 }

@@ -1,45 +1,40 @@
 //! What holds of every step of the machine.
 
-ghost use Rattle.std.specs.Prelude.{◌≡◌, ◌≤◌, ◌↔◌, ◌⊎◌, Bool, ℕ, IsSome, List, [], ◌∷◌, Some, None, Ok, Err, true, false, codes, pos, length, map, if◌then◌else◌};
-ghost use Rattle.dv_value.specs.Names.{value_under};
+ghost use Rattle.std.specs.Prelude.{◌≡◌, ◌≤◌, ◌↔◌, ◌⊎◌, Bool, ℕ, IsSome, List, ◌∷◌, None, Ok, Err, true, false, length};
+ghost use Rattle.std.specs.Str.{bytes_eq};
 ghost use Rattle.dv_value.specs.Spelling.{Fits};
-ghost use Rattle.dv_value.specs.Tree.{Field, int32};
-ghost use Rattle.dv_command.specs.Asked.{Aggregate, Asked, Create, Drop, Find, GetMore, aggregate, create, drop, find, get_more, asked_by};
+ghost use Rattle.dv_value.specs.Tree.{Field};
+ghost use Rattle.dv_command.specs.Asked.{Aggregate, Asked, Create, Drop, Find, GetMore, aggregate, create, drop, find, asked_by};
 ghost use Rattle.dv_command.specs.Asked as asking;
-ghost use Rattle.dv_command.specs.Replies.{document_of, next_batch_reply, refusal_reply, write_error, write_reply};
+ghost use Rattle.dv_command.specs.Replies.{refusal_reply};
 ghost use Rattle.dv_command.specs.Sound.{AreSpellable};
-ghost use Rattle.dv_command.specs.declared.asking.WriteKind.TheVariants.{Insert, Delete};
+ghost use Rattle.dv_command.specs.declared.asking.WriteKind.TheVariants.{Delete};
 ghost use Rattle.dv_command.specs.declared.command.Command.{Command};
 ghost use Rattle.dv_refusal.specs.declared.refusal.Refusal.{Refusal};
 ghost use Rattle.dv_refusal.specs.declared.refusal.Refusal.TheVariants.{LimitReached, OnView, TooLarge};
 ghost use Rattle.dv_core.specs.declared.outcome.Outcome.{Outcome};
 ghost use Rattle.dv_core.specs.declared.outcome.Outcome.TheVariants.{Reply, Wanting};
 ghost use Rattle.dv_core.specs.Inner.Examples as examples;
-ghost use Rattle.dv_core.specs.Find.{are_too_large, first_batch};
+ghost use Rattle.dv_core.specs.Find.{FirstIsRefused, are_too_large};
 ghost use Rattle.dv_core.specs.Load.{IsLoaded, insert_alone, loaded, namespace_in};
 ghost use Rattle.dv_core.specs.Marks.{HasItsMarks};
-ghost use Rattle.dv_core.specs.Part.{IsPart};
+ghost use Rattle.dv_core.specs.Part.{LeavesPart};
 ghost use Rattle.dv_core.specs.Sound.{HasSpelling, IsOrderly, IsSound, IsSoundCommand, IsSoundDocument, IsTold};
-ghost use Rattle.dv_catalog.specs.State.{Namespaces, documents_of, is_view, rows_of};
-ghost use Rattle.dv_core.specs.State.{HasSameDocuments, State, empty_store_state};
-ghost use Rattle.std.specs.Str.{bytes_eq};
-ghost use Rattle.dv_core.specs.Runs.{Move, Shows, carries, stands, wants, rows_told, state_behind_all, tells_last};
+ghost use Rattle.dv_catalog.specs.State.{Namespaces, is_view, rows_of};
+ghost use Rattle.dv_core.specs.State.{State, empty_store_state};
+ghost use Rattle.dv_core.specs.Runs.{AsksMore, LeadsTo, Move, ShowsAggregated, ShowsFound, WantLeadsTo, carries, reply_told, state_of_run};
 ghost use Rattle.dv_cursor.specs.Batch.{rows_behind};
-ghost use Rattle.dv_cursor.specs.Cursors.{Cursors, free_id, rows_to_come};
-ghost use Rattle.dv_catalog.specs.Scan.{scan};
-ghost use Rattle.dv_catalog.specs.State as stored;
-ghost use Rattle.dv_catalog.specs.Views.{aggregated};
+ghost use Rattle.dv_cursor.specs.Cursors.{Cursors, free_id};
 ghost use Rattle.dv_core.specs.Statements.{WriteCounts, Written, carry_out, IsCutWrite};
-ghost use Rattle.dv_core.specs.Step.{IsLeft, MemoryStep, counted_step, step, asked_write, makes, moves, indexes, end_session};
+ghost use Rattle.dv_core.specs.Step.{MemoryStep, counted_step, step, asked_write, makes, moves, indexes, end_session};
+ghost use Rattle.dv_core.specs.Steps.{AnswersInsert, ChangesNothing, CollectionRefuses, EachAnswer, EachStep, IsAllowed, IsRefused, Keeps, KeepsDocuments, SaysRefused};
 ghost use Rattle.dv_core.specs.Storable.{storable, is_within_limits};
 
 /// A command that is refused, with `ok: 0` in its reply, changed nothing, also if memory ran out; but stale views that are needed
 /// for what it reads may have been recomputed.
 pub fn a_refused_command_changes_nothing()
-    ensures plain { (old new : State) (session : ℕ) (command : Command) (reply : List Field) → MemoryStep old session command (Reply reply) new
-        → value_under (codes "ok") reply ≡ Some (int32 (pos 0)) → IsLeft old (asked_by command) new }
-    ensures wanting { (old new : State) (session : ℕ) (command : Command) (reply : List Field) → MemoryStep old session command (Wanting reply) new
-        → value_under (codes "ok") reply ≡ Some (int32 (pos 0)) → IsLeft old (asked_by command) new }
+    ensures plain { (reply : List Field) → SaysRefused reply → ChangesNothing (Reply reply) }
+    ensures wanting { (reply : List Field) → SaysRefused reply → ChangesNothing (Wanting reply) }
 {}
 
 /// Only a write, a create, a drop, and what makes and drops indexes change what is under namespaces; no other command does,
@@ -47,26 +42,19 @@ pub fn a_refused_command_changes_nothing()
 /// nothing changes nothing, as it is refused. Of the first a write and what makes and drops indexes leave the views, a create and
 /// indexes the documents of each namespace, and a drop those of each other namespace.
 pub fn only_writes_change_documents()
-    ensures others { (old new : State) (session : ℕ) (command : Command) (asked : Asked) (outcome : Outcome) → asked_by command ≡ Ok asked
-        → asked_write asked ≡ None → makes asked ≡ false → MemoryStep old session command outcome new → new.catalog ≡ old.catalog }
-    ensures cursors { (old new : State) (session : ℕ) (command : Command) (asked : Asked) (outcome : Outcome) → asked_by command ≡ Ok asked → moves asked ≡ false
-        → MemoryStep old session command outcome new → new.cursors ≡ old.cursors }
-    ensures refused { (old new : State) (session : ℕ) (command : Command) (refusal : Refusal) (outcome : Outcome) → asked_by command ≡ Err refusal
-        → MemoryStep old session command outcome new → new ≡ old }
-    ensures views { (old new : State) (session : ℕ) (command : Command) (asked : Asked) (outcome : Outcome) → asked_by command ≡ Ok asked → makes asked ≡ false
-        → MemoryStep old session command outcome new → new.catalog.views ≡ old.catalog.views }
-    ensures created { (old new : State) (session : ℕ) (command : Command) (asked : Create) (outcome : Outcome) → asked_by command ≡ Ok (create asked)
-        → MemoryStep old session command outcome new → (namespace : List ℕ) → HasSameDocuments namespace old new }
-    ensures dropped { (old new : State) (session : ℕ) (command : Command) (asked : Drop) (outcome : Outcome) → asked_by command ≡ Ok (drop asked)
-        → MemoryStep old session command outcome new → (namespace : List ℕ) → bytes_eq asked.namespace namespace ≡ false → HasSameDocuments namespace old new }
-    ensures indexed { (old new : State) (session : ℕ) (command : Command) (asked : Asked) (outcome : Outcome) → asked_by command ≡ Ok asked → indexes asked ≡ true
-        → MemoryStep old session command outcome new → (new.catalog.views ≡ old.catalog.views) × ((namespace : List ℕ) → HasSameDocuments namespace old new) }
+    ensures others { (asked : Asked) → asked_write asked ≡ None → makes asked ≡ false → Keeps (Ok asked) (λ state. state.catalog) }
+    ensures cursors { (asked : Asked) → moves asked ≡ false → Keeps (Ok asked) (λ state. state.cursors) }
+    ensures refused { (refusal : Refusal) → Keeps (Err refusal) (λ state. state) }
+    ensures views { (asked : Asked) → makes asked ≡ false → Keeps (Ok asked) (λ state. state.catalog.views) }
+    ensures created { (asked : Create) (namespace : List ℕ) → KeepsDocuments (Ok (create asked)) namespace }
+    ensures dropped { (asked : Drop) (namespace : List ℕ) → bytes_eq asked.namespace namespace ≡ false → KeepsDocuments (Ok (drop asked)) namespace }
+    ensures indexed { (asked : Asked) → indexes asked ≡ true
+        → Keeps (Ok asked) (λ state. state.catalog.views) × ((namespace : List ℕ) → KeepsDocuments (Ok asked) namespace) }
 {}
 
 /// If memory runs out for no view, a step leaves views as they are counted: so this is one of the steps that are allowed.
 pub fn the_counted_step_is_allowed()
-    ensures { (state : State) (session : ℕ) (command : Command) → let answer = counted_step state session command in
-        MemoryStep state session command (Reply answer.reply) answer.state }
+    ensures { (state : State) (session : ℕ) (command : Command) → IsAllowed state session command (counted_step state session command) }
 {}
 
 /// Each view has its mark, and no other marks are there: so it is before the first command, and so after each command, each
@@ -81,9 +69,7 @@ pub fn each_view_has_its_mark()
 
 /// A delete leaves some of the documents of each namespace, in their order, whatever it is answered.
 pub fn a_delete_leaves_a_part()
-    ensures { (old new : State) (session : ℕ) (command : Command) (asked : asking.Write) (outcome : Outcome) → asked_by command ≡ Ok (asking.write asked)
-        → asked.kind ≡ Delete → MemoryStep old session command outcome new → (namespace : List ℕ)
-        → IsPart (documents_of namespace new.catalog.namespaces) (documents_of namespace old.catalog.namespaces) }
+    ensures { (asked : asking.Write) → asked.kind ≡ Delete → EachStep (Ok (asking.write asked)) LeavesPart }
 {}
 
 /// What every store keeps, whatever commands and loads bring: the documents of each namespace are in the order of their `_id`s, no
@@ -175,21 +161,14 @@ pub fn an_ordered_write_ends_at_its_first_error()
 /// a cursor are the rows and the id of its reply; and what a command leads to, also if memory runs out, are moves of a run: its
 /// own, and the views' states afterwards.
 pub fn a_cursors_batches_are_a_front()
-    ensures find { (before : List Move) (session : ℕ) (command : Command) (asked : Find) → asked_by command ≡ Ok (find asked)
-        → let state = state_behind_all before empty_store_state in
-        Shows session asked.namespace asked.batch_size asked.single_batch
-        (scan asked.filter asked.sort asked.skip asked.limit (rows_of asked.namespace state.catalog)) state (step state session command) }
-    ensures pipeline { (before : List Move) (session : ℕ) (command : Command) (asked : Aggregate) → asked_by command ≡ Ok (aggregate asked)
-        → let state = state_behind_all before empty_store_state in
-        Shows session asked.namespace asked.batch_size false (aggregated asked.stages asked.namespace state.catalog) state (step state session command) }
-    ensures replies { (state : State) (session id : ℕ) (command : Command) (asked : GetMore) (rows : List (List Field)) → asked_by command ≡ Ok (get_more asked)
-        → asked.id ≡ pos id → rows_to_come session asked.namespace id state.cursors ≡ Some rows
-        → (step state session command).reply
-        ≡ next_batch_reply asked.namespace (if tells_last session id (carries session command) state then 0 else id)
-        (map document_of (rows_told session id (carries session command) state)) }
+    ensures find { (before : List Move) (asked : Find) → let state = state_of_run before in
+        EachAnswer state (find asked) (ShowsFound asked state) }
+    ensures pipeline { (before : List Move) (asked : Aggregate) → let state = state_of_run before in
+        EachAnswer state (aggregate asked) (ShowsAggregated asked state) }
+    ensures replies { (state : State) (session id : ℕ) (command : Command) (asked : GetMore) → AsksMore session id command asked state
+        → (step state session command).reply ≡ reply_told session id command asked state }
     ensures moves { (old new : State) (session : ℕ) (command : Command) (outcome : Outcome) → MemoryStep old session command outcome new
-        → (new ≡ state_behind_all (carries session command ∷ stands new.marks ∷ []) old)
-        ⊎ ((catalog : stored.State) × (new ≡ state_behind_all (wants catalog ∷ stands new.marks ∷ []) old)) }
+        → LeadsTo (carries session command) old new ⊎ WantLeadsTo old new }
 {
     dv_cursor::laws::a_batch_is_a_front();
     dv_cursor::laws::a_change_leaves_other_cursors();
@@ -204,16 +183,12 @@ pub fn the_end_of_a_session_leaves_documents()
 /// refused, an insert on a view is refused for that, and any other one reports that error of its statement. The text that names a
 /// namespace is the namespace.
 pub fn a_load_is_an_insert_of_one_document()
-    ensures stored { (state new : State) (session : ℕ) (command : Command) (asked : asking.Write) (d : List Field)
-        → asked_by command ≡ Ok (asking.write asked) → asked.kind ≡ Insert → asked.entries ≡ d ∷ [] → insert_alone asked.namespace d state ≡ Ok new
-        → step state session command ≡ record { reply = write_reply 1 []; state = new } }
-    ensures refused { (state : State) (session : ℕ) (command : Command) (asked : asking.Write) (d : List Field) (refusal : Refusal)
-        → asked_by command ≡ Ok (asking.write asked) → asked.kind ≡ Insert → asked.entries ≡ d ∷ []
-        → is_view asked.namespace state.catalog.views ≡ false → insert_alone asked.namespace d state ≡ Err refusal
-        → step state session command ≡ record { reply = write_reply 0 (document_of (write_error 0 refusal) ∷ []); state = state } }
-    ensures on_view { (state : State) (session : ℕ) (command : Command) (asked : asking.Write) (d : List Field) → asked_by command ≡ Ok (asking.write asked)
-        → is_view asked.namespace state.catalog.views ≡ true → (insert_alone asked.namespace d state ≡ Err OnView)
-        × (step state session command ≡ record { reply = refusal_reply OnView; state = state }) }
+    ensures stored { (state new : State) (asked : asking.Write) (d : List Field) → insert_alone asked.namespace d state ≡ Ok new
+        → AnswersInsert state asked d (Ok new) }
+    ensures refused { (state : State) (asked : asking.Write) (d : List Field) (refusal : Refusal)
+        → CollectionRefuses refusal asked.namespace d state → AnswersInsert state asked d (Err refusal) }
+    ensures on_view { (state : State) (asked : asking.Write) (d : List Field) → is_view asked.namespace state.catalog.views ≡ true
+        → (insert_alone asked.namespace d state ≡ Err OnView) × IsRefused state (asking.write asked) OnView }
     ensures named { (text namespace : List ℕ) → namespace_in text ≡ Ok namespace → namespace ≡ text }
 {}
 
@@ -275,8 +250,8 @@ pub fn wants_by_example()
 /// A row over the limits refuses the command, wherever it is, also after the first batch; that there is no room for a cursor is
 /// reported before it.
 pub fn each_row_is_within_the_limits()
-    ensures refused { (session count : ℕ) (single : Bool) (namespace : List ℕ) (rows : List (List Field)) (cursors : Cursors)
-        → are_too_large rows ≡ true → IsSome (free_id cursors) → first_batch session namespace count single rows cursors ≡ Err TooLarge }
-    ensures behind { (session count : ℕ) (namespace : List ℕ) (row : List Field) (rows rest : List (List Field)) (cursors : Cursors)
-        → rows_behind count rows ≡ row ∷ rest → free_id cursors ≡ None → first_batch session namespace count false rows cursors ≡ Err LimitReached }
+    ensures refused { (count : ℕ) (single : Bool) (rows : List (List Field)) (cursors : Cursors) → are_too_large rows ≡ true → IsSome (free_id cursors)
+        → FirstIsRefused TooLarge count single rows cursors }
+    ensures behind { (count : ℕ) (row : List Field) (rows rest : List (List Field)) (cursors : Cursors) → rows_behind count rows ≡ row ∷ rest
+        → free_id cursors ≡ None → FirstIsRefused LimitReached count false rows cursors }
 {}

@@ -19,7 +19,7 @@ use dv_command::{
 };
 use dv_cursor::Cursors;
 use dv_value::{Document, NoMemory};
-use dv_views::Rows;
+use dv_views::ViewRows;
 use dv_views::laws::what_is_shown_is_right;
 use std::alloc::Global;
 use std::marker::Model;
@@ -320,7 +320,7 @@ impl Machine {
     }
 
     /// The rows that the view of a namespace keeps, in their order. None if there is no view there, or a stale one.
-    pub fn stored_rows(&self, namespace: &str) -> Option<Rows<'_>>
+    pub fn stored_rows(&self, namespace: &str) -> Option<ViewRows<'_>>
         ensures { result ≡ stored_of namespace.now (marked self.now) }
     {
         self.catalog.stored_rows(namespace)

@@ -2,7 +2,7 @@
 
 ghost use Rattle.std.specs.Prelude.{◌≡◌};
 
-use dv_command::{Command, Refusal, first_name};
+use dv_command::{Command, Refusal, WriteKind, first_name};
 use std::alloc::Global;
 
 /// How many bytes are kept.
@@ -21,6 +21,8 @@ pub struct Reserve {
     alloc: Global,
     pieces: Vec<Vec<u8>>,
     missing: usize,
+    /// Whether there may be views.
+    has_views: bool,
 }
 
 impl Reserve {
@@ -30,13 +32,30 @@ impl Reserve {
             alloc,
             pieces: Vec::new(alloc),
             missing: KEPT,
+            has_views: false,
         };
         let _ = reserve.take();
         reserve
     }
 
+    /// Makes ready for a command, and answers whether it may be carried out. For one that stores something all bytes are taken
+    /// that are missing; for another there is room beside them, or they are given back. A delete gives them back itself where
+    /// memory is wanting; but not where it is wanting for a view alone, which is stale then.
+    pub(crate) fn prepare(&mut self, command: &Command) -> bool {
+        match need_of(command) {
+            Need::Kept => return self.take(),
+            Need::KeptForView => {
+                self.has_views = true;
+                return self.take();
+            }
+            Need::RoomToRead if !self.has_views => self.leave(SMALLEST),
+            Need::Room | Need::RoomToRead => self.make_room(),
+        }
+        true
+    }
+
     /// Takes those that are missing, and answers whether they could be had, but for less than a piece.
-    pub(crate) fn take(&mut self) -> bool {
+    fn take(&mut self) -> bool {
         let mut size = self.missing;
         'pieces: while size >= SMALLEST {
             if self.add(size) {
@@ -57,11 +76,31 @@ impl Reserve {
 
     /// Gives all back, unless enough are left beside them.
     pub(crate) fn make_room(&mut self) {
-        if self.add(ENOUGH) {
+        self.leave(ENOUGH);
+    }
+
+    /// Gives all back, unless so many bytes are left beside them.
+    fn leave(&mut self, size: usize) {
+        if self.add(size) {
             let _ = self.pieces.pop();
         } else {
             self.give_back();
         }
+    }
+
+    /// Makes room behind a statement that was stopped, if it is one of a delete. Answers whether all was given back, so that the
+    /// statement may be carried out once more.
+    pub(crate) fn makes_room_behind(&mut self, kind: WriteKind, refusal: &Refusal) -> bool {
+        if !matches!(kind, WriteKind::Delete) {
+            return false;
+        }
+        if matches!(refusal, Refusal::WantOfMemory) {
+            self.give_back();
+            return true;
+        }
+        // The statement's error takes some.
+        self.make_room();
+        false
     }
 
     /// Gives all back where a refusal is for want of memory.
@@ -82,11 +121,32 @@ impl Reserve {
     }
 }
 
-/// Whether a command stores something: documents, rows of views, an index or a cursor. The others take no memory for long.
-pub(crate) fn keeps(command: &Command) -> bool {
-    match name_of(command) {
-        "insert" | "update" | "find" | "aggregate" | "create" | "createIndexes" | "explain" => true,
-        _ => false,
+/// What of the memory that is kept a command needs.
+enum Need {
+    /// That all of it is kept, since it stores something: documents, rows of views, an index or a cursor.
+    Kept,
+    /// The same; the command may make a view.
+    KeptForView,
+    /// Enough beside it for a command that takes no memory for long.
+    Room,
+    /// Enough beside it for a delete to be read.
+    RoomToRead,
+}
+
+/// What a command needs, by its name.
+fn need_of(command: &Command) -> Need {
+    let name = name_of(command);
+    // By the first letter, so that a name is compared with few others.
+    match name.as_bytes().first() {
+        Some(b'a') if name == "aggregate" => Need::Kept,
+        Some(b'c') if name == "create" => Need::KeptForView,
+        Some(b'c') if name == "createIndexes" => Need::Kept,
+        Some(b'd') if name == "delete" => Need::RoomToRead,
+        Some(b'e') if name == "explain" => Need::Kept,
+        Some(b'f') if name == "find" => Need::Kept,
+        Some(b'i') if name == "insert" => Need::Kept,
+        Some(b'u') if name == "update" => Need::Kept,
+        _ => Need::Room,
     }
 }
 

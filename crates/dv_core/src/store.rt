@@ -4,10 +4,10 @@ use crate::answers::{refuse, told};
 use crate::laws::states_stay_orderly;
 use crate::machine::Machine;
 use crate::outcome::{Outcome, Told};
-use crate::reserve::{Reserve, keeps};
+use crate::reserve::Reserve;
 use dv_command::{Command, Refusal};
 use dv_value::Document;
-use dv_views::Rows;
+use dv_views::ViewRows;
 use std::alloc::Global;
 use std::marker::Model;
 
@@ -81,9 +81,7 @@ impl Store {
         ensures id { HasId result }
     {
         states_stay_orderly();
-        if !keeps(command) {
-            self.reserve.make_room();
-        } else if !self.reserve.take() {
+        if !self.reserve.prepare(command) {
             return Told::Outcome(refuse(self.alloc, &mut self.reserve, Refusal::WantOfMemory));
         }
         self.machine.carry_out(session, command, &mut self.reserve)
@@ -130,7 +128,7 @@ impl Store {
 
     /// The rows that the view of a namespace keeps, in their order: at every moment those of its pipeline, run from scratch over
     /// what it reads. None if there is no view there, or a stale one. Takes no memory.
-    pub fn stored_rows(&self, namespace: &str) -> Option<Rows<'_>>
+    pub fn stored_rows(&self, namespace: &str) -> Option<ViewRows<'_>>
         ensures { result ≡ stored_of namespace.now (marked self.now) }
     {
         self.machine.stored_rows(namespace)

@@ -96,7 +96,7 @@ fn write_next(
     ensures step { WritesNext namespace.now ordered (statement_of kind entry.now) written.old catalog.old result written.new catalog.new }
     ensures views { catalog.new.state.views ≡ catalog.old.state.views }
 {
-    match write_one(alloc, catalog, kind, namespace, entry) {
+    match write_one(alloc, reserve, catalog, kind, namespace, entry) {
         Ok(counted) => {
             written.count(counted);
             Ok(Next::Due)
@@ -109,9 +109,35 @@ fn write_next(
 }
 
 /// Carries out one statement, and answers what it is counted for. Where it is refused, nothing is changed; where memory is
-/// wanting, it ends behind some of its changes.
+/// wanting, it ends behind some of its changes. A delete takes of the reserve where memory is wanting before the first of them.
 fn write_one(
     alloc: Global,
+    reserve: &mut Reserve,
+    catalog: &mut Catalog,
+    kind: WriteKind,
+    namespace: &str,
+    entry: &Document,
+) -> Result<Counted, Stopped>
+    requires { is_view namespace.now catalog.old.state.views ≡ false }
+    ensures makes { MakesCounted namespace.now (statement_of kind entry.now) catalog.old result catalog.new }
+    ensures views { catalog.new.state.views ≡ catalog.old.state.views }
+    ensures marks { StandBehind namespace.now (statement_of kind entry.now) catalog.old result catalog.new.marks }
+{
+    match write_once(alloc, reserve, catalog, kind, namespace, entry) {
+        Ok(counted) => Ok(counted),
+        Err(stopped) => {
+            if stopped.done > 0 || !reserve.makes_room_behind(kind, &stopped.refusal) {
+                return Err(stopped);
+            }
+            write_once(alloc, reserve, catalog, kind, namespace, entry)
+        }
+    }
+}
+
+/// The same with the memory that there is.
+fn write_once(
+    alloc: Global,
+    reserve: &mut Reserve,
     catalog: &mut Catalog,
     kind: WriteKind,
     namespace: &str,
@@ -131,6 +157,13 @@ fn write_one(
             })
         }
         WriteKind::Update => catalog.update(namespace, &updating_of(alloc, entry)?),
-        WriteKind::Delete => catalog.delete(namespace, &deletion_of(alloc, entry)?),
+        WriteKind::Delete => {
+            let deletion = deletion_of(alloc, entry)?;
+            // Of several documents only some may go where memory is wanting.
+            if !deletion.only_first {
+                reserve.make_room();
+            }
+            catalog.delete(namespace, &deletion)
+        }
     }
 }

@@ -7,29 +7,29 @@ ghost use Rattle.std.specs.Ordering.{nat_cmp};
 ghost use Rattle.dv_value.specs.Tree.{Field};
 ghost use Rattle.dv_cursor.specs.Batch.{batch, rows_behind, can_hold};
 ghost use Rattle.dv_cursor.specs.Cursors.{Cursors, added, advanced, closed, cursor_behind, free_id, without_session};
-ghost use Rattle.dv_cursor.specs.Inner.Runs.{Event, IsWithinBatch, behind_all, ids_given, is_cursor_place, batches_joined};
+ghost use Rattle.dv_cursor.specs.Inner.Runs.{Event, IsWithinBatch, Rows, batches_joined, behind_all, changed_at, cursor_at, ids_given, opened};
 
 /// A batch and the rows after it are the rows.
 pub fn a_batch_is_a_front()
-    ensures { (count : ℕ) (rows : List (List Field)) → batch count rows ++ rows_behind count rows ≡ rows }
+    ensures { (count : ℕ) (rows : Rows) → batch count rows ++ rows_behind count rows ≡ rows }
 {}
 
 /// A batch is within its bounds: no more rows than `count`, and if there is more than one no more bytes than the limit. No longer
 /// prefix is, and if any row may go into it, one does.
 pub fn a_batch_is_full()
-    ensures within { (count : ℕ) (rows : List (List Field)) → IsWithinBatch count (batch count rows) }
-    ensures longest { (count n : ℕ) (rows : List (List Field)) → length (batch count rows) < n → n ≤ length rows → can_hold count (take n rows) ≡ false }
-    ensures some { (count : ℕ) (row : List Field) (rows : List (List Field)) → 0 < count → batch count (row ∷ rows) ≢ [] }
+    ensures within { (count : ℕ) (rows : Rows) → IsWithinBatch count (batch count rows) }
+    ensures longest { (count n : ℕ) (rows : Rows) → length (batch count rows) < n → n ≤ length rows → can_hold count (take n rows) ≡ false }
+    ensures some { (count : ℕ) (row : List Field) (rows : Rows) → 0 < count → batch count (row ∷ rows) ≢ [] }
 {}
 
 /// A batch of at most so many rows needs no row after these.
 pub fn a_batch_needs_no_later_row()
-    ensures { (count : ℕ) (rows : List (List Field)) → batch count (take count rows) ≡ batch count rows }
+    ensures { (count : ℕ) (rows : Rows) → batch count (take count rows) ≡ batch count rows }
 {}
 
 /// Batches that are returned one after the other, joined, are a prefix of the rows.
 pub fn batches_are_a_front()
-    ensures { (counts : List ℕ) (rows : List (List Field)) → batches_joined counts rows ++ behind_all counts rows ≡ rows }
+    ensures { (counts : List ℕ) (rows : Rows) → batches_joined counts rows ++ behind_all counts rows ≡ rows }
 {}
 
 /// No id is given twice: in any run of events each id that is given is greater than those before it.
@@ -40,19 +40,15 @@ pub fn ids_are_given_once()
 /// What is under a session and an id after cursors are changed: each change is of one cursor, or of a session's, and leaves the
 /// others.
 pub fn a_change_leaves_other_cursors()
-    ensures added { (session id other : ℕ) (namespace : List ℕ) (rows : List (List Field)) (cursors : Cursors)
-        → finite.get (added other namespace rows cursors).kept (session, id)
-        ≡ (if is_cursor_place other cursors.next session id then Some (record { namespace = namespace; rows = rows })
-        else finite.get cursors.kept (session, id)) }
+    ensures added { (session id other : ℕ) (namespace : List ℕ) (rows : Rows) (cursors : Cursors)
+        → cursor_at session id (added other namespace rows cursors) ≡ changed_at other cursors.next (opened namespace rows) session id cursors }
     ensures advanced { (session id other number count : ℕ) (cursors : Cursors)
-        → finite.get (advanced other number count cursors).kept (session, id)
-        ≡ (if is_cursor_place other number session id then cursor_behind count (finite.get cursors.kept (other, number))
-        else finite.get cursors.kept (session, id)) }
+        → cursor_at session id (advanced other number count cursors)
+        ≡ changed_at other number (cursor_behind count (cursor_at other number cursors)) session id cursors }
     ensures closed { (session id other number : ℕ) (cursors : Cursors)
-        → finite.get (closed other number cursors).kept (session, id)
-        ≡ (if is_cursor_place other number session id then None else finite.get cursors.kept (session, id)) }
+        → cursor_at session id (closed other number cursors) ≡ changed_at other number None session id cursors }
     ensures ended { (session id other : ℕ) (cursors : Cursors)
-        → finite.get (without_session other cursors).kept (session, id) ≡ (if session == other then None else finite.get cursors.kept (session, id)) }
+        → cursor_at session id (without_session other cursors) ≡ (if session == other then None else cursor_at session id cursors) }
     ensures next { (session id count : ℕ) (cursors : Cursors) → (advanced session id count cursors).next ≡ cursors.next }
 {}
 

@@ -25,6 +25,10 @@ pub record Begins (bytes : List ℕ) (document : List Field) (behind : List ℕ)
   pub spells : Spells document front
   pub fits : Fits document
 
+-- this holds of each document with whose encoding the bytes begin, and of the bytes behind it
+abbrev pub EachBegun : List ℕ → (List Field → List ℕ → Type 0) → Type 0
+EachBegun bytes IsSo = (document : List Field) (behind : List ℕ) → Begins bytes document behind → IsSo document behind
+
 -- the document with this number, counted from 1, is the first one with a fault: the documents before it are valid and end at this
 -- offset, where it begins, and this is its first fault
 pub record FirstFault (bytes : List ℕ) (number at : ℕ) (fault : BsonFault) : Type 0 where

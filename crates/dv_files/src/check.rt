@@ -3,7 +3,7 @@
 ghost use Rattle.std.specs.Prelude.{◌≡◌, ◌≢◌, ◌⊎◌, ◌<◌, ◌≤◌, ℕ, List, Ok, Err, length, IfErr, IfOk, IfSome, OnOk};
 ghost use Rattle.std.specs.Io.KnownBytes.{Appends, Keeps};
 ghost use Rattle.dv_value.specs.Tree.{Field};
-ghost use Rattle.dv_files.specs.Check.{check_read_failed, check_write_failed};
+ghost use Rattle.dv_files.specs.Check.{IsCounted, IsOutside, IsReadable, IsRefusedFor, check_read_failed, check_write_failed};
 ghost use Rattle.dv_files.specs.File.{FirstFault, Holds, ok_line};
 ghost use Rattle.dv_streams.specs.Failures.{failures_behind, failures_told};
 ghost use Rattle.dv_value.specs.declared.fault.BsonFault.{BsonFault};
@@ -74,15 +74,13 @@ pub fn check<R: ByteIn, W: TextOut>(
     reader: &mut R,
     writer: &mut W,
 ) -> Result<(), CheckFault>
-    ensures ok { OnOk result (IfSome (R.remaining reader.old) (λ file. (documents : List (List Field)) × Holds documents file
-        × (length file ≤ 1073741824) × Appends (W.contents writer.old) (W.contents writer.new) (ok_line (length documents)))) }
+    ensures ok { OnOk result (IfSome (R.remaining reader.old) (IsCounted (W.contents writer.old) (W.contents writer.new))) }
     ensures only { (documents : List (List Field)) → IfSome (R.remaining reader.old) (λ file. Holds documents file → length file ≤ 1073741824
-        → IfErr result (λ e. (e ≡ CheckFault.Read) ⊎ (e ≡ CheckFault.Write) ⊎ (e ≡ CheckFault.NoMemory))) }
+        → IfErr result IsOutside) }
     ensures refused { (number at : ℕ) (fault : BsonFault) → result ≡ Err (CheckFault.Document number at fault)
-        → IfSome (R.remaining reader.old) (λ file. FirstFault file number at fault × (length file ≤ 1073741824)) }
+        → IfSome (R.remaining reader.old) (IsRefusedFor number at fault) }
     ensures large { result ≡ Err CheckFault.TooLarge → IfSome (R.remaining reader.old) (λ file. 1073741824 < length file) }
-    ensures tried { result ≡ Err CheckFault.Write → IfSome (R.remaining reader.old) (λ file. (documents : List (List Field))
-        × Holds documents file × (length file ≤ 1073741824)) }
+    ensures tried { result ≡ Err CheckFault.Write → IfSome (R.remaining reader.old) IsReadable }
     ensures unwritten { IfErr result (λ e. (e ≡ CheckFault.Write) ⊎ Keeps (W.contents writer.old) (W.contents writer.new)) }
     ensures reader { R.failures reader.new ≡ failures_told check_read_failed result (R.failures reader.old) }
     ensures writer { W.failures writer.new ≡ failures_told check_write_failed result (W.failures writer.old) }

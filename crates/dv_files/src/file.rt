@@ -1,9 +1,9 @@
 //! Files of documents, read to their ends.
 
-ghost use Rattle.std.specs.Prelude.{◌≡◌, ◌⊎◌, ◌<◌, ◌≤◌, ℕ, List, Err, Some, length, IfErr, IfOk, IfSome, MatchResult};
+ghost use Rattle.std.specs.Prelude.{◌≡◌, ◌⊎◌, ◌<◌, ◌≤◌, List, Err, Some, length, IfErr, IfOk, IfSome, MatchResult};
 ghost use Rattle.dv_bson.specs.Reading.{first_fault};
 ghost use Rattle.dv_value.specs.Tree.{Field};
-ghost use Rattle.dv_files.specs.File.{Begins, file_read_failed};
+ghost use Rattle.dv_files.specs.File.{Begins, EachBegun, file_read_failed};
 ghost use Rattle.dv_streams.specs.Failures.{failures_told};
 
 use dv_bson::{check_document, read_document};
@@ -59,8 +59,8 @@ pub fn read_file<R: ByteIn>(alloc: Global, reader: &mut R) -> Result<Vec<u8>, Fi
 /// The first document of the bytes, and the bytes after it.
 pub fn first_document(alloc: Global, bytes: &[u8]) -> Result<(Document, &[u8]), BsonFault>
     ensures found { IfOk result (λ found. Begins bytes.now found.0 found.1.now) }
-    ensures only { (document : List Field) (behind : List ℕ) → Begins bytes.now document behind
-        → MatchResult result (λ found. (found.0 ≡ document) × (found.1.now ≡ behind)) (λ e. e ≡ BsonFault.NoMemory) }
+    ensures only { EachBegun bytes.now (λ document behind.
+        MatchResult result (λ found. (found.0 ≡ document) × (found.1.now ≡ behind)) (λ e. e ≡ BsonFault.NoMemory)) }
     ensures refused { IfErr result (λ e. (e ≡ BsonFault.NoMemory) ⊎ (first_fault bytes.now ≡ Some e)) }
 {
     let (document, length) = read_document(alloc, bytes)?;
@@ -70,8 +70,7 @@ pub fn first_document(alloc: Global, bytes: &[u8]) -> Result<(Document, &[u8]), 
 /// The bytes after the first document of the bytes, which is not built.
 pub fn behind_document(alloc: Global, bytes: &[u8]) -> Result<&[u8], BsonFault>
     ensures found { IfOk result (λ behind. (document : List Field) × Begins bytes.now document behind.now) }
-    ensures only { (document : List Field) (behind : List ℕ) → Begins bytes.now document behind
-        → MatchResult result (λ rest. rest.now ≡ behind) (λ e. e ≡ BsonFault.NoMemory) }
+    ensures only { EachBegun bytes.now (λ document behind. MatchResult result (λ rest. rest.now ≡ behind) (λ e. e ≡ BsonFault.NoMemory)) }
     ensures refused { IfErr result (λ e. (e ≡ BsonFault.NoMemory) ⊎ (first_fault bytes.now ≡ Some e)) }
 {
     let length = check_document(alloc, bytes)?;

@@ -57,7 +57,7 @@ impl LimitOperator {
         ensures begins { OnErr result (BeginsWith out.new.items out.old.items) }
         ensures no_fewer { OnErr result (ticks.old ≤ ticks.new) }
     {
-        pos.is_exact();
+        pos.law_exact();
         if self.is_behind(&pos) {
             // Nothing that is shown changes.
             self.change_rest(pos, row)?;
@@ -168,7 +168,7 @@ impl LimitOperator {
         ensures count { OnOk result (self.new.count ≡ self.old.count) }
         ensures left { OnOk result (limit_rows self.new ≡ put pos row (limit_rows self.old)) }
     {
-        pos.is_exact();
+        pos.law_exact();
         self.front.insert(pos, row)?;
         self.spill()
     }

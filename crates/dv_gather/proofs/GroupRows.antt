@@ -21,7 +21,7 @@ use Rattle.dv_gather.specs.Extremes.{better, extreme_from}
 use Rattle.dv_gather.specs.Inner.Gathering.{Entry, listed, group_put, gathered}
 use Rattle.dv_gather.specs.Grouping.{Accumulation, Grouping, key_in, keyed, with_present, values_over, accumulated, with_accumulated, key_of_group, group_row, grouped}
 use Rattle.dv_gather.specs.Sums.{addend, is_int64, total}
-use Rattle.dv_gather.specs.Inner.Tallies.{Tallied, with_present_at, with_values_from, with_values, with_tallied_row, without_rows, with_row_under, with_rows_put, with_finished, key_or_null, finished_row}
+use Rattle.dv_gather.specs.Inner.Tallies.{Tallied, with_present_at, with_values_from, with_values, with_tallied_row, without_rows, with_row_under, with_rows_put, with_named, key_or_null, finished_row}
 use Rattle.dv_gather.specs.Inner.Totals.{Total, summed, best, all, of_none, with_value, with_each, with_total_at, finished}
 use Rattle.dv_gather.proofs.Grouped.{groups-are}
 
@@ -138,10 +138,10 @@ totals-more (a ∷ fields) ds d =
     at-first None = refl
     at-first (Some v) = refl
 
-finished-fields : (fields : List Accumulation) (ds : List Row) (fs : List Field) → with_finished fields (map (total_over ds) fields) fs ≡ with_accumulated fields ds fs
+finished-fields : (fields : List Accumulation) (ds : List Row) (fs : List Field) → with_named fields (map finished (map (total_over ds) fields)) fs ≡ with_accumulated fields ds fs
 finished-fields [] ds fs = refl
 finished-fields (a ∷ fields) ds fs =
-    ap (λ v. with_finished fields (map (total_over ds) fields) (with_field_behind a.name (Some v) fs)) (finished-each a.accumulator (values_over a.argument ds))
+    ap (λ v. with_named fields (map finished (map (total_over ds) fields)) (with_field_behind a.name (Some v) fs)) (finished-each a.accumulator (values_over a.argument ds))
     ∙ finished-fields fields ds (with_field_behind a.name (Some (accumulated a.accumulator (values_over a.argument ds))) fs)
 
 -- ---- groups

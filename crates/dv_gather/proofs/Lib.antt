@@ -1,5 +1,7 @@
 pub mod Lists
 pub mod Gathered
+pub mod NamedAlike
+pub mod RowsAlike
 pub mod Shared
 pub mod Placed
 pub mod Grouped

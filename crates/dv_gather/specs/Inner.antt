@@ -1,4 +1,5 @@
 -- Definitions and lemmas that need not be believed: invariants, codings, and words of bodies and proofs.
+pub mod Alike
 pub mod Bounds
 pub mod Counting
 pub mod Examples

@@ -4,8 +4,8 @@ ghost use Rattle.std.specs.Prelude.{◌≡◌, map, codes, IfOk};
 ghost use Rattle.dv_value.specs.Names.{value_under, without};
 ghost use Rattle.dv_value.specs.View.{tree};
 ghost use Rattle.dv_row.specs.Inner.ExpressionView.{expression_seen};
-ghost use Rattle.dv_row.specs.Parsing.{Gives};
-ghost use Rattle.dv_value.specs.Results.{each};
+ghost use Rattle.dv_value.specs.Results.{Gives, each};
+ghost use Rattle.dv_row.specs.declared.fault.PipelineFault.TheVariants.{NoMemory as no_memory};
 ghost use Rattle.dv_gather.specs.GroupParsing as defined;
 ghost use Rattle.dv_gather.specs.Inner.GroupView.{accumulation};
 
@@ -21,7 +21,7 @@ impl Group {
     /// and with `NoMemory`.
     #[tactic(auto, unfolding(crate::specs::GroupParsing::group_in))]
     pub fn parse(alloc: Global, value: &Value) -> Result<Group, PipelineFault>
-        ensures { Gives (λ group. group) result (defined.group_in (tree value.now)) }
+        ensures { Gives no_memory (λ group. group) result (defined.group_in (tree value.now)) }
     {
         match value {
             Value::Doc(document) => Group::of_document(alloc, document),
@@ -30,7 +30,7 @@ impl Group {
     }
 
     fn of_document(alloc: Global, document: &Document) -> Result<Group, PipelineFault>
-        ensures { Gives (λ group. group) result (defined.group_of document.now) }
+        ensures { Gives no_memory (λ group. group) result (defined.group_of document.now) }
     {
         let key = key_of(alloc, document)?;
         let others = others_of(document)?;
@@ -41,7 +41,7 @@ impl Group {
 
 /// The expression under `_id`.
 fn key_of(alloc: Global, document: &Document) -> Result<Expr, PipelineFault>
-    ensures { Gives expression_seen result (defined.key_form (value_under (codes "_id") document.now)) }
+    ensures { Gives no_memory expression_seen result (defined.key_form (value_under (codes "_id") document.now)) }
 {
     match document.get("_id") {
         Some(key) => Expr::parse(alloc, key),
@@ -60,7 +60,7 @@ fn others_of(document: &Document) -> Result<Document, NoMemory>
 
 /// The fields of a group.
 fn fields_of(alloc: Global, document: &Document) -> Result<Vec<GroupField>, PipelineFault>
-    ensures { Gives (λ fields. map accumulation fields.items) result (each defined.field_in document.now) }
+    ensures { Gives no_memory (λ fields. map accumulation fields.items) result (each defined.field_in document.now) }
 {
     let mut fields = Vec::new(alloc);
     'fields: for place in 0..document.len() {
@@ -74,7 +74,7 @@ fn fields_of(alloc: Global, document: &Document) -> Result<Vec<GroupField>, Pipe
 
 /// The field of this name.
 fn field_of(alloc: Global, name: &str, value: &Value) -> Result<GroupField, PipelineFault>
-    ensures { Gives accumulation result (defined.accumulation_in name.now (tree value.now)) }
+    ensures { Gives no_memory accumulation result (defined.accumulation_in name.now (tree value.now)) }
 {
     match value {
         Value::Doc(document) => field_alone(alloc, name, document),
@@ -84,7 +84,7 @@ fn field_of(alloc: Global, name: &str, value: &Value) -> Result<GroupField, Pipe
 
 /// The field that one accumulator with its expression makes.
 fn field_alone(alloc: Global, name: &str, document: &Document) -> Result<GroupField, PipelineFault>
-    ensures { Gives accumulation result (defined.accumulator_alone name.now document.now) }
+    ensures { Gives no_memory accumulation result (defined.accumulator_alone name.now document.now) }
 {
     if document.len() != 1 {
         return Err(PipelineFault::BadSpec);

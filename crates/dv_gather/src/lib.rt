@@ -3,6 +3,7 @@
 
 mod accumulator;
 mod adding;
+mod alike;
 mod extreme;
 mod group;
 mod group_parsing;

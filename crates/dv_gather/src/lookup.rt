@@ -6,6 +6,7 @@ ghost use Rattle.dv_value.specs.View.{tree};
 ghost use Rattle.dv_gather.specs.Inner.KeySets.{referred};
 ghost use Rattle.dv_gather.specs.Lookups as defined;
 
+use crate::alike::{has_names_of, row_like};
 use crate::joining::{matches_of, places_of};
 use dv_candidates::Path;
 use dv_order::Key;
@@ -90,6 +91,11 @@ impl Lookup {
         ensures { IfOk result (λ joined. joined ≡ defined.set_field self.now.target (array (elements_of values)) row.now) }
     {
         let target = self.target.as_str();
+        if let Some(before) = before {
+            if has_names_of(before, row, target) {
+                return row_like(alloc, before, row, Value::Array(values));
+            }
+        }
         let mut joined = copy_for(alloc, row, target, before)?;
         set_field(&mut joined, target, Value::Array(values))?;
         Ok(joined)

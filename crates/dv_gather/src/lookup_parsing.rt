@@ -3,7 +3,8 @@
 ghost use Rattle.std.specs.Prelude.{◌≡◌};
 ghost use Rattle.dv_value.specs.Names as names;
 ghost use Rattle.dv_value.specs.View.{tree};
-ghost use Rattle.dv_row.specs.Parsing.{Gives};
+ghost use Rattle.dv_value.specs.Results.{Gives};
+ghost use Rattle.dv_row.specs.declared.fault.PipelineFault.TheVariants.{NoMemory as no_memory};
 ghost use Rattle.dv_gather.specs.Lookups as defined;
 
 use crate::lookup::Lookup;
@@ -20,7 +21,7 @@ impl Lookup {
     /// `NoMemory`.
     #[tactic(auto, unfolding(crate::specs::Lookups::lookup_in))]
     pub fn parse(alloc: Global, value: &Value) -> Result<Lookup, PipelineFault>
-        ensures { Gives (λ lookup. lookup) result (defined.lookup_in (tree value.now)) }
+        ensures { Gives no_memory (λ lookup. lookup) result (defined.lookup_in (tree value.now)) }
     {
         match value {
             Value::Doc(options) => Lookup::of_options(alloc, options),
@@ -29,7 +30,7 @@ impl Lookup {
     }
 
     fn of_options(alloc: Global, options: &Document) -> Result<Lookup, PipelineFault>
-        ensures { Gives (λ lookup. lookup) result (defined.lookup_of options.now) }
+        ensures { Gives no_memory (λ lookup. lookup) result (defined.lookup_of options.now) }
     {
         if options.len() != 4 {
             return Err(PipelineFault::BadSpec);
@@ -45,7 +46,7 @@ impl Lookup {
 
 /// The name of the collection.
 fn from_option(alloc: Global, options: &Document) -> Result<Str, PipelineFault>
-    ensures { Gives (λ name. name) result (defined.from_option options.now) }
+    ensures { Gives no_memory (λ name. name) result (defined.from_option options.now) }
 {
     let text = text_option("from", options)?;
     if text.is_empty() || begins_with_dollar(text) || has_zero(text) {
@@ -56,7 +57,7 @@ fn from_option(alloc: Global, options: &Document) -> Result<Str, PipelineFault>
 
 /// The path under the name.
 fn field_option(alloc: Global, name: &str, options: &Document) -> Result<Path, PipelineFault>
-    ensures { Gives (λ path. path) result (defined.field_option name.now options.now) }
+    ensures { Gives no_memory (λ path. path) result (defined.field_option name.now options.now) }
 {
     let text = text_option(name, options)?;
     Ok(Path::parse(alloc, text)?)
@@ -64,7 +65,7 @@ fn field_option(alloc: Global, name: &str, options: &Document) -> Result<Path, P
 
 /// The name of the field with the documents.
 fn as_option(alloc: Global, options: &Document) -> Result<Str, PipelineFault>
-    ensures { Gives (λ name. name) result (defined.as_option options.now) }
+    ensures { Gives no_memory (λ name. name) result (defined.as_option options.now) }
 {
     let text = text_option("as", options)?;
     if has_dot(text) || begins_with_dollar(text) || has_zero(text) {
@@ -82,7 +83,7 @@ fn has_zero(text: &str) -> bool
 
 /// The text under the name.
 fn text_option<'a>(name: &str, options: &'a Document) -> Result<&'a str, PipelineFault>
-    ensures { Gives (λ text. text.now) result (defined.text_option name.now options.now) }
+    ensures { Gives no_memory (λ text. text.now) result (defined.text_option name.now options.now) }
 {
     match options.get(name) {
         Some(Value::Text(text)) => Ok(text.as_str()),

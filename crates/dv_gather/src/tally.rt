@@ -1,16 +1,17 @@
 //! Groups so far.
 
-ghost use Rattle.std.specs.Prelude.{◌≡◌, ℕ, suc, map, IfOk, OnOk};
+ghost use Rattle.std.specs.Prelude.{◌≡◌, ℕ, suc, map, IfOk, IfSome, OnOk};
 ghost use Rattle.dv_value.specs.View.{tree};
 ghost use Rattle.dv_row.specs.Inner.RowValueView.{row_value};
 ghost use Rattle.dv_gather.specs.Inner.Bounds.{AreWithin, most};
 ghost use Rattle.dv_gather.specs.Inner.GroupView.{accumulation};
 ghost use Rattle.dv_gather.specs.Inner.Tallies as defined;
+ghost use Rattle.dv_gather.specs.Inner.Tallies.{IsRowOf};
 ghost use Rattle.dv_gather.specs.Inner.TotalView.{keys_seen, tally_seen, total_seen};
 
 use crate::group::GroupField;
 use crate::total::{Total, add_at};
-use dv_row::{RowValue, push_field, row_beside};
+use dv_row::{RowValue, push_field};
 use dv_value::{Document, NoMemory, Value};
 use std::alloc::Global;
 
@@ -80,30 +81,60 @@ impl Tally {
         add_each(alloc, &mut self.totals, fields, row)
     }
 
-    /// The group's row. A row before it lends its names. Fails where memory is wanting.
+    /// The group's row. That of another group, if there is one, lends its names. Fails where memory is wanting.
     pub(crate) fn row(
         self,
         alloc: Global,
         fields: &[GroupField],
-        before: Option<&Document>,
+        another: Option<&Document>,
     ) -> Result<Document, NoMemory>
+        requires { IfSome another (λ other. IsRowOf (map accumulation fields.now) other.now) }
         ensures { IfOk result (λ row. row ≡ defined.finished_row (map accumulation fields.now) (tally_seen self)) }
     {
-        let Tally { key, totals } = self;
-        let mut row = row_beside(alloc, before)?;
-        push_field(&mut row, "_id", Some(spelled(key)))?;
-        let mut totals = totals.into_iter();
-        'fields: for field in fields {
-            let Some(total) = totals.next() else {
-                break;
-            };
-            let value = total.value(alloc)?;
-            push_field(&mut row, field.name.as_str(), Some(value))?;
-        }
+        let values = self.values(alloc)?;
+        let mut row = match another {
+            // A row with so many fields has each of the names.
+            Some(other) if other.len() == values.len() && fields.len() < values.len() => {
+                Document::like(other, values)?
+            }
+            _ => named_row(alloc, fields, values)?,
+        };
         // Its length is asked more than once before it is written.
         row.keep_size();
         Ok(row)
     }
+
+    /// The key, and what comes of the totals. Fails where memory is wanting.
+    fn values(self, alloc: Global) -> Result<Vec<Value>, NoMemory>
+        ensures { IfOk result (λ values. map tree values.items ≡ defined.row_values (tally_seen self)) }
+    {
+        let Tally { key, totals } = self;
+        let mut values = Vec::with_capacity(alloc, totals.len().saturating_add(1))?;
+        values.push(spelled(key))?;
+        'totals: for total in totals {
+            values.push(total.value(alloc)?)?;
+        }
+        Ok(values)
+    }
+}
+
+/// The row of these values: the key, and one for each field. Fails where memory is wanting.
+fn named_row(alloc: Global, fields: &[GroupField], values: Vec<Value>) -> Result<Document, NoMemory>
+    ensures { IfOk result (λ row. row ≡ defined.row_of (map accumulation fields.now) (map tree values.items)) }
+{
+    let mut row = Document::new(alloc);
+    let mut values = values.into_iter();
+    let Some(key) = values.next() else {
+        return Ok(row);
+    };
+    push_field(&mut row, "_id", Some(key))?;
+    'fields: for field in fields {
+        let Some(value) = values.next() else {
+            break;
+        };
+        push_field(&mut row, field.name.as_str(), Some(value))?;
+    }
+    Ok(row)
 }
 
 /// Takes a row's values into the totals of the fields. Fails where memory is wanting.

@@ -16,7 +16,7 @@ use Rattle.dv_gather.specs.Grouping.{Accumulation, Grouping, key_in, row_shown, 
 use Rattle.dv_group.specs.declared.bundle.Bundle.{Bundle}
 use Rattle.dv_group.specs.declared.running.Running as memory
 use Rattle.dv_group.specs.declared.running.Running.TheVariants.{Summed}
-use Rattle.dv_group.specs.declared.running.Way.TheVariants.{Comes, Goes}
+use Rattle.dv_group.specs.declared.running.Motion.TheVariants.{Comes, Goes}
 use Rattle.dv_group.specs.declared.summing.KeptSum.{KeptSum}
 use Rattle.dv_group.specs.Inner.Members.{set_at}
 use Rattle.dv_group.specs.Inner.Room.{AreNarrowIn, HaveRoom, IsBundle, IsNarrow, IsNarrowIn, IsNarrowValue, most_rows}

@@ -16,8 +16,8 @@ use Rattle.dv_gather.specs.declared.accumulator.Accumulator.{Accumulator}
 use Rattle.dv_gather.specs.declared.accumulator.Accumulator.TheVariants.{Sum, Min, Max, Push}
 use Rattle.dv_gather.specs.Grouping.{Accumulation, accumulated, field_over, values_over, with_accumulated}
 use Rattle.dv_gather.specs.Sums.{spelled}
-use Rattle.dv_group.specs.declared.running.Way.{Way}
-use Rattle.dv_group.specs.declared.running.Way.TheVariants.{Comes, Goes}
+use Rattle.dv_group.specs.declared.running.Motion.{Motion}
+use Rattle.dv_group.specs.declared.running.Motion.TheVariants.{Comes, Goes}
 use Rattle.dv_group.specs.Inner.Room.{AreNarrowIn, HasRoomFor, HaveRoom, IsNarrow, IsNarrowFor, IsNarrowIn, IsWithinRows, most_rows}
 use Rattle.dv_group.specs.Inner.Running.{Running, moved_at, moved_by, moved_from, running_by, running_of, summed, told_by, with_running_row, with_told, without_row}
 use Rattle.dv_group.proofs.Pushing.{pushed-gone, pushed-put, pushed-values}
@@ -105,7 +105,7 @@ told a rows are Push is = ap (λ vs. array (elements_of vs)) (pushed-values a ro
 
 -- ---- all fields
 
-moved-past : (way : Way) (p : PosTree) (d : Row) (a : Accumulation) (done : List Running) (t : Running) (ts : List Running) → moved_at way p d (length done) a (done ++ t ∷ ts) ≡ done ++ moved_by way a p d t ∷ ts
+moved-past : (way : Motion) (p : PosTree) (d : Row) (a : Accumulation) (done : List Running) (t : Running) (ts : List Running) → moved_at way p d (length done) a (done ++ t ∷ ts) ≡ done ++ moved_by way a p d t ∷ ts
 moved-past way p d a [] t ts = refl
 moved-past way p d a (u ∷ done) t ts = ap (λ us. u ∷ us) (moved-past way p d a done t ts)
 
@@ -113,7 +113,7 @@ length-more : {A : Type 0} (done : List A) (t : A) → length (done ++ t ∷ [])
 length-more [] t = refl
 length-more (u ∷ done) t = ap suc (length-more done t)
 
-moved-each : (way : Way) (p : PosTree) (d : Row) (before after : Accumulation → Running) → ((a : Accumulation) → moved_by way a p d (before a) ≡ after a)
+moved-each : (way : Motion) (p : PosTree) (d : Row) (before after : Accumulation → Running) → ((a : Accumulation) → moved_by way a p d (before a) ≡ after a)
     → (done : List Running) (fields : List Accumulation) → moved_from way p d (length done) fields (done ++ map before fields) ≡ done ++ map after fields
 moved-each way p d before after step done [] = refl
 moved-each way p d before after step done (a ∷ fields) =
@@ -130,7 +130,7 @@ module _ (fields : List Accumulation) (p : PosTree) (d : Row) (rows : Positioned
   all-went there = moved-each Goes p d (λ a. running_of a rows) (λ a. running_of a (gone p rows)) (λ a. went a p d rows are x a.accumulator refl there) [] fields
 
 module _ (p : PosTree) (d : Row) (rows : Positioned) (are : IsPositioned rows) (x : IsExact p) (few : length rows ≤ most_rows) where
-  rooms : (way : Way) → ((a : Accumulation) → AllByRecursion (λ e. IsNarrow a e.1) rows → HasRoomFor way a p d (running_of a rows))
+  rooms : (way : Motion) → ((a : Accumulation) → AllByRecursion (λ e. IsNarrow a e.1) rows → HasRoomFor way a p d (running_of a rows))
       → (fields : List Accumulation) → AllByRecursion (λ a. AllByRecursion (λ e. IsNarrow a e.1) rows) fields → HaveRoom way fields p d (map (λ a. running_of a rows) fields)
   rooms way one [] all = tt
   rooms way one (a ∷ fields) all = (one a all.0, rooms way one fields all.1)

@@ -7,7 +7,7 @@ use Rattle.dv_row.specs.Row.{Row}
 use Rattle.dv_change.specs.Positions.{PosTree}
 use Rattle.dv_gather.specs.Grouping.{Accumulation}
 use Rattle.dv_group.specs.declared.running.Running as memory
-use Rattle.dv_group.specs.declared.running.Way.{Way}
+use Rattle.dv_group.specs.declared.running.Motion.{Motion}
 use Rattle.dv_group.specs.Inner.Room.{AreNarrowIn, HasRoomFor, HaveRoom, IsNarrowIn}
 use Rattle.dv_group.specs.Inner.Running.{Running, moved_at, moved_by, moved_from, with_told}
 use Rattle.dv_group.specs.Inner.RunningView.{running_seen}
@@ -21,7 +21,7 @@ drop-one (suc n) (x ∷ xs) = drop-one n xs
 pub place-left : {X Y : Type 0} (f : X → Y) (xs : List X) (n : ℕ) (x : X) → n < length xs → x ≡ get_or xs n x → map f (drop n xs) ≡ f x ∷ map f (drop (n + 1) xs)
 place-left f xs n x within is = ap (map f) (drop_more xs n x within) ∙ ap (λ y. f y ∷ map f (drop (n + 1) xs)) (sym is)
 
-module _ (way : Way) (a : Accumulation) (p : PosTree) (d : Row) where
+module _ (way : Motion) (a : Accumulation) (p : PosTree) (d : Row) where
   -- ---- room
 
   pub room-first : (fields : List Accumulation) (ts : List Running) → HaveRoom way (a ∷ fields) p d ts → HaveRoom way (a ∷ []) p d ts
@@ -76,7 +76,7 @@ module _ (a : Accumulation) (d : Row) where
 -- ---- one step
 
 -- a field's turn among all: what has come of it follows, and the others are left
-module _ (way : Way) (a : Accumulation) (p : PosTree) (d : Row) (fields : List Accumulation) (place : ℕ) (first so_far after all : List Running) (R : Type 0)
+module _ (way : Motion) (a : Accumulation) (p : PosTree) (d : Row) (fields : List Accumulation) (place : ℕ) (first so_far after all : List Running) (R : Type 0)
     (same : drop place so_far ≡ drop place first) (followed : after ≡ moved_at way p d place a so_far) where
   pub step-moved : moved_from way p d place (a ∷ fields) so_far ≡ all → moved_from way p d (place + 1) fields after ≡ all
   step-moved moved = rw add-one (ap (moved_from way p d (suc place) fields) followed ∙ moved)

@@ -18,8 +18,8 @@ use Rattle.dv_change.specs.Inner.PositionLaws.{pos_order_total}
 use Rattle.dv_change.specs.Positions.{IsExact, PosTree, pos_order}
 use Rattle.dv_change.specs.Inner.RowLaws.{all-implied, past, positioned-tail, put-front}
 use Rattle.dv_gather.specs.Grouping.{Accumulation, values_over, with_present}
-use Rattle.dv_group.specs.declared.running.Way.{Way}
-use Rattle.dv_group.specs.declared.running.Way.TheVariants.{Comes, Goes}
+use Rattle.dv_group.specs.declared.running.Motion.{Motion}
+use Rattle.dv_group.specs.declared.running.Motion.TheVariants.{Comes, Goes}
 use Rattle.dv_group.specs.Inner.Running.{Values, field_value, moved_by, pushed, pushed_over, repushed, values_in, with_first, with_pushed}
 use Rattle.dv_group.specs.Inner.RunningView.{values_seen}
 
@@ -130,6 +130,6 @@ module _ (a : Accumulation) where
   pushed-values (r ∷ rows) = values-first r.0 (of r.1) (pushed_over a rows) ∙ ap (with_present (of r.1)) (pushed-values rows)
 
 -- what comes of the values moves as they do
-pub pushed-moved : (way : Way) (a : Accumulation) (p : PosTree) (d : Row) (vs : Values) → moved_by way a p d (pushed vs) ≡ pushed (repushed way a p d vs)
+pub pushed-moved : (way : Motion) (a : Accumulation) (p : PosTree) (d : Row) (vs : Values) → moved_by way a p d (pushed vs) ≡ pushed (repushed way a p d vs)
 pushed-moved Comes a p d vs = refl
 pushed-moved Goes a p d vs = refl

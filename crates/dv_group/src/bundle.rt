@@ -1,16 +1,16 @@
 //! The rows of a group.
 
-ghost use Rattle.std.specs.Prelude.{◌≡◌, ◌↔◌, [], ◌∷◌, IfOk, IsTrue, OnOk, drop, map};
+ghost use Rattle.std.specs.Prelude.{◌≡◌, ◌≤◌, ◌↔◌, [], ◌∷◌, IfOk, IsTrue, OnOk, drop, length, map};
 ghost use Rattle.dv_change.specs.Changes.{forget};
 ghost use Rattle.dv_change.specs.Inner.Ordered.{gone};
 ghost use Rattle.dv_gather.specs.Inner.GroupView.{accumulation};
 ghost use Rattle.dv_gather.specs.Grouping.{row_shown};
 ghost use Rattle.dv_group.specs.Inner.Members.{set_at};
-ghost use Rattle.dv_group.specs.Inner.Room.{AreNarrowIn, HaveRoom, IsBundle};
+ghost use Rattle.dv_group.specs.Inner.Room.{AreNarrowIn, HaveRoom, IsBundle, most_rows};
 ghost use Rattle.dv_group.specs.Inner.Running.{moved_at, moved_from, running_of, with_told};
 ghost use Rattle.dv_group.specs.Inner.RunningView.{running_seen};
 
-use crate::running::{Running, Way};
+use crate::running::{Motion, Running};
 use dv_change::{Ordered, Pos};
 use dv_gather::{Group, GroupField};
 use dv_row::{push_field, row_beside};
@@ -141,12 +141,12 @@ fn follow_set(
     requires { IsBundle group.now.fields (record { members = members.now; totals = totals.old }) }
     ensures { OnOk result (IsBundle group.now.fields (record { members = set_at pos.now row.now members.now; totals = totals.new })) }
 {
-    pos.is_exact();
+    pos.law_exact();
     // No sum of so many numbers is beyond 128 bits.
-    let _ = members.len();
+    law_few(members);
     follow_gone(alloc, totals, members, group, pos)?;
     match row {
-        Some(row) => follow_each(alloc, totals, group.fields(), Way::Comes, pos, row),
+        Some(row) => follow_each(alloc, totals, group.fields(), Motion::Comes, pos, row),
         None => Ok(()),
     }
 }
@@ -162,12 +162,19 @@ fn follow_gone(
     requires { IsBundle group.now.fields (record { members = members.now; totals = totals.old }) }
     ensures { OnOk result (IsBundle group.now.fields (record { members = gone pos.now members.now; totals = totals.new })) }
 {
-    pos.is_exact();
-    let _ = members.len();
+    pos.law_exact();
+    law_few(members);
     let Some(row) = members.get(pos) else {
         return Ok(());
     };
-    follow_each(alloc, totals, group.fields(), Way::Goes, pos, row)
+    follow_each(alloc, totals, group.fields(), Motion::Goes, pos, row)
+}
+
+/// That the rows are no more than memory can hold. Does nothing.
+fn law_few(members: &Ordered<Document>)
+    ensures { length members.now ≤ most_rows }
+{
+    let _count = members.len();
 }
 
 /// Has what has come of each field follow the row at the position, as it comes or goes. Fails where memory is wanting.
@@ -175,7 +182,7 @@ fn follow_each(
     alloc: Global,
     totals: &mut Vec<Running>,
     fields: &[GroupField],
-    way: Way,
+    way: Motion,
     pos: &Pos,
     row: &Document,
 ) -> Result<(), NoMemory>
@@ -195,7 +202,7 @@ fn follow_at(
     totals: &mut [Running],
     place: usize,
     field: &GroupField,
-    way: Way,
+    way: Motion,
     pos: &Pos,
     row: &Document,
 ) -> Result<(), NoMemory>

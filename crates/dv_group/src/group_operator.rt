@@ -101,7 +101,7 @@ impl GroupOperator {
     {
         let mut rows = Ordered::new(self.alloc);
         'groups: for (key, _) in &self.groups {
-            key.is_own();
+            key.law_own();
             rows = self.with_group(rows, key)?;
         }
         Ok(rows)

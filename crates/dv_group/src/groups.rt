@@ -87,7 +87,7 @@ fn move_row(
     ensures sound { OnOk result (AreBundles group.now groups.new.entries) }
     ensures told { IfOk result (λ shifts. AreShiftsOfKeys telling.entry group.now groups.old.entries groups.new.entries key.now other.now shifts) }
 {
-    pos.is_exact();
+    pos.law_exact();
     let empty = Shifts::none(alloc);
     if are_one(key, other) {
         let shift = set_in(alloc, group, groups, key, pos, new, telling)?;

@@ -20,7 +20,7 @@ use std::mem::replace;
 
 /// Whether a row comes or goes.
 #[derive(Clone, Copy, Debug)]
-pub(crate) enum Way {
+pub(crate) enum Motion {
     /// It comes.
     Comes,
     /// It goes.
@@ -56,7 +56,7 @@ impl Running {
         &mut self,
         alloc: Global,
         field: &GroupField,
-        way: Way,
+        way: Motion,
         pos: &Pos,
         row: &Document,
     ) -> Result<(), NoMemory>
@@ -68,8 +68,8 @@ impl Running {
             Running::Summed(sum) => {
                 if let Some(value) = field.expr.value_in(alloc, row)? {
                     match way {
-                        Way::Comes => sum.add(value.get()),
-                        Way::Goes => sum.take(value.get()),
+                        Motion::Comes => sum.add(value.get()),
+                        Motion::Goes => sum.take(value.get()),
                     }
                 }
             }
@@ -102,7 +102,7 @@ fn reranked(
     alloc: Global,
     rows: Ordered<Document>,
     field: &GroupField,
-    way: Way,
+    way: Motion,
     pos: &Pos,
     row: &Document,
 ) -> Result<Ordered<Document>, NoMemory>
@@ -116,8 +116,8 @@ fn reranked(
     }
     let place = ranked_place(alloc, field.accumulator, value.get(), pos)?;
     match way {
-        Way::Comes => rows.with(place, row.try_clone()?),
-        Way::Goes => Ok(rows.without(&place)),
+        Motion::Comes => rows.with(place, row.try_clone()?),
+        Motion::Goes => Ok(rows.without(&place)),
     }
 }
 
@@ -161,18 +161,18 @@ fn repushed(
     alloc: Global,
     values: Ordered<Value>,
     field: &GroupField,
-    way: Way,
+    way: Motion,
     pos: &Pos,
     row: &Document,
 ) -> Result<Ordered<Value>, NoMemory>
     ensures { IfOk result (λ now. values_seen now ≡ defined.repushed way (accumulation field.now) pos.now row.now (values_seen values)) }
 {
     match way {
-        Way::Comes => match field.expr.value_in(alloc, row)? {
+        Motion::Comes => match field.expr.value_in(alloc, row)? {
             Some(value) => values.with(pos.try_clone()?, value.into_value()?),
             None => Ok(values),
         },
-        Way::Goes => Ok(values.without(pos)),
+        Motion::Goes => Ok(values.without(pos)),
     }
 }
 

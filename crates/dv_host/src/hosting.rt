@@ -1,11 +1,11 @@
 //! Many connections at once, in turns.
 
-ghost use Rattle.std.specs.Prelude.{◌≡◌, ◌≤◌, ◌<◌, ◌+◌, ◌↔◌, [], ℕ, length, sum_by, vec_len, IfOk, IfSome, IsTrue, slice_get, Some, OnOk, if◌then◌else◌};
+ghost use Rattle.std.specs.Prelude.{◌≡◌, ◌≤◌, ◌<◌, ◌+◌, ◌↔◌, [], length, sum_by, vec_len, IfOk, IfSome, IsTrue, slice_get, Some, OnOk};
 ghost use Rattle.dv_host.specs.Schedule.{HappensBy};
 ghost use Rattle.dv_host.specs.View.{seen_by};
 ghost use Rattle.dv_host.specs.Host.{Settles, SettlesIn};
 ghost use Rattle.dv_host.specs.Stands.{Stands};
-ghost use Rattle.dv_host.specs.Inner.Serving.{Continues};
+ghost use Rattle.dv_host.specs.Inner.Serving.{Continues, ContinuesTo, with_one};
 
 use crate::channel::Channel;
 use crate::link::{Fate, Link, Told};
@@ -42,7 +42,7 @@ fn greet<O: Outside, S: Sessions>(
     links: &mut Vec<Link<O::Channel>>,
 ) -> bool
     ensures { Continues (HappensBy S.opens S.feeds S.ends) S.next O.coming O.closed O.Channel.remaining O.Channel.contents
-        (λ count. if result then count + 1 else count) outside.old sessions.old links.old.items outside.new sessions.new links.new.items }
+        (with_one result) outside.old sessions.old links.old.items outside.new sessions.new links.new.items }
 {
     if links.len() >= LIMIT {
         return false;
@@ -206,9 +206,8 @@ fn rounds<O: Outside, S: Sessions>(
     turns: u64,
 ) -> Result<(), HostFault>
     requires room { length piece.old ≡ 65536 }
-    ensures { let Stood = Stands (HappensBy S.opens S.feeds S.ends) S.next O.coming O.closed O.Channel.remaining O.Channel.contents in
-        (first : _) (start : _) (count : _) → Stood first start count outside.old sessions.old links.old.items
-        → (more : _) × OnOk result (more ≡ connections) × Stood first start (count + more) outside.new sessions.new links.new.items }
+    ensures { ContinuesTo (HappensBy S.opens S.feeds S.ends) S.next O.coming O.closed O.Channel.remaining O.Channel.contents
+        result connections outside.old sessions.old links.old.items outside.new sessions.new links.new.items }
 {
     let mut left = connections;
     'turns: for _ in 0..turns {

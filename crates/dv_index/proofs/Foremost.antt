@@ -1,4 +1,4 @@
--- What a path sorts before a bar is found by the index on it.
+-- What a path sorts ahead of a bar is found by the index on it.
 use Rattle.std.proofs.Common.{◌≡◌, ◌∙◌, ◌≤◌, ◌<◌, ◌&&◌, ◌||◌, ◌++◌, ℕ, arith, length, List, [], ◌∷◌, map, refl, ap, sym, Bool, true, false, cond, Option, Some, None, filter, subst}
 use Rattle.std.specs.List.{AllByRecursion, best_of, flat_map}
 use Rattle.std.specs.Option.{IfSome}
@@ -19,13 +19,14 @@ use Rattle.dv_path.specs.LeafKeys.{is_key_of, is_leaf_key, is_some_key, leaf_val
 use Rattle.dv_path.specs.SortKey.{earliest, keys_of, sort_key, stands_first}
 use Rattle.dv_coll.specs.Collection.{IsAscending, found, id_key}
 use Rattle.dv_keyed.specs.Choice.{same_path}
-use Rattle.dv_keyed.specs.Inner.Ahead.{is_ahead, leaf_sorted_by}
+use Rattle.dv_keyed.specs.declared.before.Bar.{Bar}
+use Rattle.dv_keyed.specs.Inner.Ahead.{leaf_sorted_by, stands_ahead}
 use Rattle.dv_match.specs.Filter.{Members}
 use Rattle.dv_match.specs.Match.{matches}
 use Rattle.dv_keyed.specs.Inner.Index.{IndexTree}
 use Rattle.dv_keyed.specs.Inner.Interval.{is_in_all}
 use Rattle.dv_keyed.specs.Inner.Pairs.{IsOnlyKey, has_pair}
-use Rattle.dv_index.specs.Inner.Ahead.{LeadsSomewhere}
+use Rattle.dv_index.specs.Inner.Ahead.{LeadsSomewhere, is_ahead}
 use Rattle.dv_index.specs.Inner.Search.{IsIndexOf, is_key_under}
 use Rattle.dv_index.proofs.Lists.{both}
 use Rattle.dv_index.proofs.Picked.{all-found}
@@ -114,7 +115,7 @@ leaf-sorted d path direction some =
     let cs = whole d path in
     earliest-has (IsLeaf (map or_null (flat_map with_elements cs))) direction (flat_map keys_of cs) (λ e. some (none-given cs e)) (of-all cs)
 
--- ---- so the `_id`s that stand beside the keys before a bar are those of all documents that the path sorts before it
+-- ---- so the `_id`s that stand beside the keys ahead of a bar are those of all documents that the path sorts ahead of it
 -- what passes one test and another passes both
 pub two-tests : {X : Type 0} (p q : X → Bool) (xs : List X) → filter p (filter q xs) ≡ filter (λ x. q x && p x) xs
 two-tests p q [] = refl
@@ -124,10 +125,10 @@ two-tests p q (x ∷ xs) = at (q x) (two-tests p q xs)
     at true rest = ap (λ ys. cond (p x) (x ∷ ys) ys) rest
     at false rest = rest
 
-module _ (law : OnlyKeysAreWithin) (ms : Members) (index : IndexTree) (path : List (List ℕ)) (direction : Direction) (is-on : index.path ≡ path) (bar : KeyTree) (somewhere : LeadsSomewhere ms (path, direction) bar) (among-ids : KeyTree → Bool) where
+module _ (law : OnlyKeysAreWithin) (ms : Members) (index : IndexTree) (path : List (List ℕ)) (direction : Direction) (is-on : index.path ≡ path) (bar : Bar) (somewhere : LeadsSomewhere ms (path, direction) bar) (among-ids : KeyTree → Bool) where
   -- what `ids_ahead` says
   abbrev AreGathered : Type 0
-  AreGathered = (k i : KeyTree) → stands_first direction k bar ≡ true → has_pair (leaf_sorted_by k) i index.pairs ≡ true → (IsOnlyKey (leaf_sorted_by k) i index.pairs → is_in_all (leaf_sorted_by k) index.path ms ≡ true) → among-ids i ≡ true
+  AreGathered = (k i : KeyTree) → stands_ahead direction bar k i ≡ true → has_pair (leaf_sorted_by k) i index.pairs ≡ true → (IsOnlyKey (leaf_sorted_by k) i index.pairs → is_in_all (leaf_sorted_by k) index.path ms ≡ true) → among-ids i ≡ true
 
   module _ (gathered : AreGathered) (ds : List (List Field)) (holds : IsIndexOf index ds) where
     one-gathered : (d : List Field) → found (id_key d) ds ≡ Some d → matches ms d && is_ahead (path, direction) bar d ≡ true → among-ids (id_key d) ≡ true
@@ -160,11 +161,11 @@ sorted-as-null : (d : List Field) (path : List (List ℕ)) (direction : Directio
 unfolding sort_key
 sorted-as-null d path direction nowhere = ap (λ cs. earliest direction (flat_map keys_of cs)) nowhere
 
-pub leads-behind : OnlyKeysAreWithin → (ms : Members) (path : List (List ℕ)) (direction : Direction) (bar : KeyTree) → (is_in_all (value (canon null)) path ms ≡ true → stands_first direction (value (canon null)) bar ≡ true → ⊥) → LeadsSomewhere ms (path, direction) bar
+pub leads-behind : OnlyKeysAreWithin → (ms : Members) (path : List (List ℕ)) (direction : Direction) (bar : Bar) → (is_in_all (value (canon null)) path ms ≡ true → (i : KeyTree) → stands_ahead direction bar (value (canon null)) i ≡ false) → LeadsSomewhere ms (path, direction) bar
 leads-behind law ms path direction bar never d match ahead nowhere =
-    never
-    (law ms path d null (λ l own. let wrong : true ≡ false = sym own ∙ no-leaf l path d nowhere in absurd cc) match)
-    (ap (λ k. stands_first direction k bar) (sym (sorted-as-null d path direction nowhere)) ∙ ahead)
+    let behind = never (law ms path d null (λ l own. let wrong : true ≡ false = sym own ∙ no-leaf l path d nowhere in absurd cc) match) (id_key d) in
+    let wrong : true ≡ false = sym ahead ∙ ap (λ k. stands_ahead direction bar k (id_key d)) (sorted-as-null d path direction nowhere) ∙ behind in
+    absurd cc
 
 -- ---- paths whose components are the same
 pub one-path : (p q : List (List ℕ)) → same_path p q ≡ true → p ≡ q

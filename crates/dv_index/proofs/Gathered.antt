@@ -16,9 +16,10 @@ use Rattle.dv_match.specs.Filter.{Condition, Members}
 use Rattle.dv_match.specs.Match.{matches}
 use Rattle.dv_coll.specs.Collection.{HasId, IsAscending, IsNoArray, found, id_key}
 use Rattle.dv_keyed.specs.Choice.{chosen}
-use Rattle.dv_keyed.specs.Inner.Decided.{HasKeyWithin, is_one_condition}
+use Rattle.dv_keyed.specs.Inner.Decided.{HasKeyBetween, HasKeyWithin, HasOneKey, IsClosed, is_one_condition}
 use Rattle.dv_keyed.specs.Inner.Index.{IndexTree}
-use Rattle.dv_keyed.specs.Inner.Interval.{is_in_all}
+use Rattle.dv_keyed.specs.Inner.Interval.{is_between, is_in_all}
+use Rattle.dv_keyed.specs.declared.interval.Interval.{Interval}
 use Rattle.dv_keyed.specs.Inner.Pairs.{IsOnlyKey, has_pair}
 use Rattle.dv_keyed.specs.Within.{has_within, is_within}
 use Rattle.dv_keyed.specs.Inner.Within.{covers}
@@ -42,6 +43,9 @@ KeysAreWithin = (bounds : Condition) (c : Candidate) → covers bounds (value (c
 
 abbrev pub KeysAreOfLeaves : Type 0
 KeysAreOfLeaves = (bounds : Condition) (path : List (List ℕ)) (d : List Field) (k : KeyTree) → covers bounds k ≡ true → is_leaf_key k path d ≡ true → has_within bounds path d ≡ true
+
+abbrev pub EndsDecide : Type 0
+EndsDecide = (ends : Interval) (path : List (List ℕ)) (filter : Members) (d : List Field) → IsClosed ends path filter → HasOneKey path d → (matches filter d ≡ true) ↔ ((k : KeyTree) × (is_between ends k ≡ true) × (is_leaf_key k path d ≡ true))
 
 abbrev pub BoundsDecide : Type 0
 BoundsDecide = (filter : Members) (paths : List (List (List ℕ))) (place : ℕ) (bounds : Condition) (path : List (List ℕ)) (d : List Field) → is_one_condition filter ≡ true → chosen filter paths ≡ Some (place, bounds) → slice_get paths place ≡ Some path → matches filter d ≡ has_within bounds path d
@@ -74,6 +78,19 @@ both-ways false false there back = refl
 pub same-kept : (p q : List Field → Bool) (P : List Field → Type 0) → ((d : List Field) → P d → p d ≡ q d) → (ds : List (List Field)) → AllByRecursion P ds → filter p ds ≡ filter q ds
 same-kept p q P same [] all = refl
 same-kept p q P same (d ∷ ds) all = let rest = same-kept p q P same ds all.1 in λ j. cond (same d all.0 j) (d ∷ rest j) (rest j)
+
+-- ---- between the ends of a range that decide a filter
+pub between-all : EndsDecide → (index : IndexTree) (ends : Interval) (ms : Members) → IsClosed ends index.path ms → ((k i : KeyTree) → has_pair k i index.pairs ≡ true → IsOnlyKey k i index.pairs) → (among-ids : KeyTree → Bool) → ((i : KeyTree) → (among-ids i ≡ true) ↔ HasKeyBetween ends i index.pairs) → (ds : List (List Field)) → IsIndexOf index ds → IsAscending ds → filter (λ d. among-ids (id_key d)) ds ≡ filter (matches ms) ds
+between-all law index ends ms closed alone among-ids gathered ds holds ascending =
+    same-kept (λ d. among-ids (id_key d)) (matches ms) (λ d. found (id_key d) ds ≡ Some d) one ds (all-found ds ascending)
+  where
+    held : (d : List Field) → found (id_key d) ds ≡ Some d → (k : KeyTree) → has_pair k (id_key d) index.pairs ≡ is_leaf_key k index.path d
+    held d there k = holds.has k (id_key d) ∙ ap (is_key_under k index.path) there
+
+    one : (d : List Field) → found (id_key d) ds ≡ Some d → among-ids (id_key d) ≡ matches ms d
+    one d there =
+        let by-ends = law ends index.path ms d closed (λ k l of-k of-l. alone l (id_key d) (held d there l ∙ of-l) k (held d there k ∙ of-k)) in
+        both-ways (among-ids (id_key d)) (matches ms d) (λ e. let u = (gathered (id_key d)).0 e in by-ends.1 (u.0, u.1, sym (held d there u.0) ∙ u.2)) (λ e. let u = by-ends.0 e in (gathered (id_key d)).1 (u.0, u.1, held d there u.0 ∙ u.2))
 
 -- ---- the path `_id`
 no-elements : (v : Tree) → IsNoArray v → flat_map with_elements (Some v ∷ []) ≡ Some v ∷ []

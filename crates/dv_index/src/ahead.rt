@@ -1,24 +1,24 @@
 //! The documents that a path sorts first, found by the index on it.
 
-ghost use Rattle.std.specs.Prelude.{◌≡◌, List as Sequence, map, filter as kept, IfOk, IfSome, IsTrue};
+ghost use Rattle.std.specs.Prelude.{◌≡◌, List as Sequence, filter as kept, IfOk, IfSome, IsTrue};
 ghost use Rattle.std.specs.List.{AllByRecursion};
 ghost use Rattle.dv_value.specs.Tree.{Field};
 ghost use Rattle.dv_match.specs.Match.{matches};
 ghost use Rattle.dv_path.specs.Parts.{part};
-ghost use Rattle.dv_keyed.specs.Inner.Ahead as defined;
+ghost use Rattle.dv_coll.specs.Collection.{AreStanding, HasId};
+ghost use Rattle.dv_index.specs.Inner.Ahead as defined;
 ghost use Rattle.dv_index.specs.Inner.Ahead.{LeadsSomewhere};
 ghost use Rattle.dv_index.specs.Inner.Change.{AreIndexesOf};
-ghost use Rattle.dv_index.specs.Inner.Search.{IsIndexOf};
+ghost use Rattle.dv_index.specs.Inner.Search.{AgreeOn, IsIndexOf, documents_referred};
 
 use crate::indexes::Indexes;
 use crate::search::documents_of;
 use crate::walk::is_range;
 use dv_candidates::Path;
-use dv_coll::Collection;
-use dv_keyed::{Index, Plan, ids_ahead, is_null_ahead, laws, same_path};
+use dv_coll::{Collection, key_of_id, laws as collections};
+use dv_keyed::{Bar, Index, Plan, ids_ahead, is_null_ahead, laws, same_path};
 use dv_match::Filter;
-use dv_order::Key;
-use dv_path::SortPart;
+use dv_path::{SortPart, sort_key};
 use dv_value::{Document, NoMemory};
 use std::alloc::Global;
 
@@ -27,8 +27,19 @@ use std::alloc::Global;
 pub struct Ahead<'c> {
     /// The documents in the order of their `_id`s, some of which may not be ahead of the bar.
     pub documents: Vec<&'c Document>,
-    /// A key that the path's index has.
-    pub bar: &'c Key,
+    /// A place in the order in which the path sorts documents.
+    pub bar: Bar<'c>,
+}
+
+/// Whether the path sorts the document ahead of a bar, in its direction; documents with equal keys ascend by their `_id`s. Fails
+/// with `NoMemory` when memory runs out.
+pub fn is_ahead(document: &Document, by: &SortPart, bar: &Bar<'_>) -> Result<bool, NoMemory>
+    requires { HasId document.now }
+    ensures { IfOk result (λ ahead. ahead ≡ defined.is_ahead (part by.now) bar.now document.now) }
+{
+    let key = sort_key(document, &by.path, by.direction)?;
+    let id = key_of_id(document)?;
+    Ok(bar.is_behind(by.direction, &key, &id))
 }
 
 /// The index by whose order documents are found that a path sorts: the one on the path, where by the plan all documents are
@@ -78,14 +89,14 @@ fn first_on<'i>(indexes: &'i [Index], path: &Path) -> Option<&'i Index>
     None
 }
 
-/// Whether the path leads to something in each document that matches the filter and that it sorts before the bar. Where it
+/// Whether the path leads to something in each document that matches the filter and that it sorts ahead of the bar. Where it
 /// leads nowhere, a document has no key, and is sorted as null: only a path of several components does that, as through an
 /// empty array. Fails where memory is wanting.
 pub(crate) fn leads_somewhere(
     alloc: Global,
     filter: &Filter,
     by: &SortPart,
-    bar: &Key,
+    bar: &Bar<'_>,
 ) -> Result<bool, NoMemory>
     ensures { IfOk result (λ leads. IsTrue leads → LeadsSomewhere filter.now (part by.now) bar.now) }
 {
@@ -97,25 +108,27 @@ pub(crate) fn leads_somewhere(
     Ok(!is_ahead)
 }
 
-/// The documents among which are all that match the filter and that the path sorts before the bar, in the order of their
+/// The documents among which are all that match the filter and that the path sorts ahead of the bar, in the order of their
 /// `_id`s, by the index on it, unless there are more than `most`. Fails where memory is wanting.
 pub(crate) fn candidates_ahead<'c>(
     alloc: Global,
     index: &Index,
     filter: &Filter,
     by: &SortPart,
-    bar: &Key,
+    bar: &Bar<'_>,
     most: usize,
     collection: &'c Collection,
 ) -> Result<Option<Vec<&'c Document>>, NoMemory>
     requires indexed { IsIndexOf index.now collection.now }
     requires path { index.now.path ≡ by.now.path }
     requires somewhere { LeadsSomewhere filter.now (part by.now) bar.now }
-    ensures { IfOk result (λ found. IfSome found (λ documents. kept (defined.is_ahead (part by.now) bar.now) (kept (matches filter.now) (map (λ d. d.now) documents.items)) ≡ kept (defined.is_ahead (part by.now) bar.now) (kept (matches filter.now) collection.now))) }
+    ensures all { IfOk result (λ found. IfSome found (λ documents. AgreeOn (defined.is_ahead (part by.now) bar.now) (kept (matches filter.now) (documents_referred documents.items)) (kept (matches filter.now) collection.now))) }
+    ensures standing { IfOk result (λ found. IfSome found (λ documents. AreStanding collection.now (documents_referred documents.items))) }
 {
     laws::an_only_key_is_in_all_bounds();
+    collections::documents_stand_where_they_are_found();
     // The documents ascend by their `_id`s.
-    let _ = collection.len();
+    collection.law_ascending();
     let ids = ids_ahead(alloc, index, filter, by.direction, bar)?;
     if ids.len() > most {
         return Ok(None);

@@ -1,20 +1,19 @@
 //! Changes of one document of a collection, and of the indexes with it.
 
-ghost use Rattle.std.specs.Prelude.{◌≡◌, IfOk, IsErrOf, OnErr, OnOk, map, if◌then◌else◌};
+ghost use Rattle.std.specs.Prelude.{◌≡◌, IfOk, IsErrOf, OnErr, OnOk, map};
 ghost use Rattle.std.specs.List.{AllByRecursion};
 ghost use Rattle.std.specs.Option.{option_map};
-ghost use Rattle.dv_coll.specs.Collection.{HasId, found, id_key};
-ghost use Rattle.dv_order.specs.Key.{KeyTree, key_order};
-ghost use Rattle.std.specs.Ordering.{is_eq};
-ghost use Rattle.dv_index.specs.Inner.Change.{HasIdFirst, IsChangeOf, IsFresh, IsTaken, changed_id, document_after, documents_after};
+ghost use Rattle.dv_coll.specs.Collection.{found};
+ghost use Rattle.dv_order.specs.Key.{KeyTree};
+ghost use Rattle.dv_index.specs.Inner.Change.{ChangesOne, HasIdFirst, IsChangeOf, IsFresh, IsTaken, changed_id, document_after, documents_after};
 ghost use Rattle.dv_keyed.specs.Inner.Index.{form_of};
 ghost use Rattle.dv_keyed.specs.Inner.Keys.{has_key};
 ghost use Rattle.dv_index.specs.Inner.Search.{IsIndexOf, is_key_under};
 
 use dv_candidates::Path;
-use dv_coll::{Collection, InsertFault, laws};
+use dv_coll::{Collection, InsertFault, key_of_id, laws};
 use dv_keyed::{Index, Keys, Moved, keys_of, keys_without};
-use dv_order::{Key, key_of};
+use dv_order::Key;
 use dv_value::{Document, NoMemory};
 use std::alloc::Global;
 
@@ -41,7 +40,7 @@ pub(crate) fn carry_out(
     requires possible { IsChangeOf change documents.old }
     requires indexed { AllByRecursion (λ x. IsIndexOf x documents.old) indexes.old }
     ensures documents { OnOk result (documents.new ≡ documents_after change.entry documents.old) }
-    ensures found { OnOk result ((i : KeyTree) → found i documents.new ≡ (if is_eq (key_order i (changed_id change.entry)) then document_after change.entry else found i documents.old)) }
+    ensures found { OnOk result (ChangesOne change.entry documents.old documents.new) }
     ensures fresh { OnOk result (IsFresh change.entry documents.old) }
     ensures indexed { OnOk result (AllByRecursion (λ x. IsIndexOf x documents.new) indexes.new) }
     ensures err { OnErr result (documents.new ≡ documents.old) }
@@ -72,7 +71,7 @@ pub(crate) fn carry_out(
 fn change_document(documents: &mut Collection, change: Change<'_>) -> Result<(), InsertFault>
     requires { IsChangeOf change documents.old }
     ensures documents { OnOk result (documents.new ≡ documents_after change.entry documents.old) }
-    ensures found { OnOk result ((i : KeyTree) → found i documents.new ≡ (if is_eq (key_order i (changed_id change.entry)) then document_after change.entry else found i documents.old)) }
+    ensures found { OnOk result (ChangesOne change.entry documents.old documents.new) }
     ensures fresh { OnOk result (IsFresh change.entry documents.old) }
     ensures err { OnErr result (documents.new ≡ documents.old) }
     ensures taken { IsErrOf result InsertFault.Duplicate → IsTaken change.entry documents.old }
@@ -139,15 +138,4 @@ fn id_of(change: &Change<'_>) -> Result<Key, NoMemory>
         Change::Insert(document) | Change::Replace(document) => key_of_id(document),
         Change::Remove(key) => key.try_clone(),
     }
-}
-
-/// The key of the document's `_id`. Fails where memory is wanting.
-pub(crate) fn key_of_id(document: &Document) -> Result<Key, NoMemory>
-    requires { HasId document.now }
-    ensures { IfOk result (λ key. key ≡ id_key document.now) }
-{
-    let Some((_, id)) = document.entry(0) else {
-        unreachable!()
-    };
-    key_of(id)
 }

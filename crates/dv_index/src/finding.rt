@@ -1,16 +1,19 @@
 //! What is found in a collection, by its indexes.
 
 ghost use Rattle.std.specs.Prelude.{◌≡◌, filter as kept, map, reverse, take, IfOk, IfSome};
+ghost use Rattle.dv_coll.specs.Collection.{AreStanding};
 ghost use Rattle.dv_match.specs.Match.{matches};
 ghost use Rattle.dv_path.specs.Parts.{part};
-ghost use Rattle.dv_keyed.specs.Inner.Ahead.{is_ahead};
+ghost use Rattle.dv_index.specs.Inner.Ahead.{is_ahead};
 ghost use Rattle.dv_index.specs.Inner.InDirection.{in_direction};
+ghost use Rattle.dv_index.specs.Inner.Search.{AgreeOn, documents_referred};
 
 use crate::ahead::{Ahead, candidates_ahead, index_in_order, leads_somewhere};
 use crate::indexed::IndexedCollection;
 use crate::search::{all_matching, run, run_first};
 use crate::walk::{is_walk, walked};
-use dv_keyed::{Planner, bar_behind};
+use dv_coll::laws;
+use dv_keyed::{Planner, Ties, bar_behind};
 use dv_match::Filter;
 use dv_path::{Direction, SortPart};
 use dv_value::{Document, NoMemory};
@@ -82,29 +85,34 @@ impl IndexedCollection {
         Ok(found)
     }
 
-    /// Documents that match the filter, and a bar: among them are all that match and that a path sorts before the bar. They are
-    /// found by the order of the index on the path, which has `least` documents or more before the bar, some of which may not
-    /// match; for a filter that is answered by a range of the path, those in the range. `None` if the filter is answered by another
-    /// index, if the path has no index except that on `_id`, if the path may lead nowhere before the bar, if there is no key after
-    /// so many, and if more than one of 16 documents would be looked up. Fails with `NoMemory` when memory runs out.
+    /// Documents that match the filter, in the order of their `_id`s, and a bar: among them are all that match and that a path sorts
+    /// ahead of the bar. They are found by the order of the index on the path, which has `least` documents ahead of the bar, some of
+    /// which may not match, or more where ties aren't decided by `_id`s; for a filter that is answered by a range of the path, those
+    /// in the range. `None` if the filter is answered by another index, if the path has no index except that on `_id`, if the path
+    /// may lead nowhere ahead of the bar, if there is no key after so many, and if more than one of 16 documents would be looked up.
+    /// Fails with `NoMemory` when memory runs out.
     pub fn find_ahead(
         &self,
         filter: &Filter,
         by: &SortPart,
+        ties: Ties,
         least: usize,
     ) -> Result<Option<Ahead<'_>>, NoMemory>
-        ensures { IfOk result (λ found. IfSome found (λ ahead. kept (is_ahead (part by.now) ahead.bar.now) (map (λ d. d.now) ahead.documents.items) ≡ kept (is_ahead (part by.now) ahead.bar.now) (kept (λ d. matches filter.now d) self.now.documents))) }
+        ensures all { IfOk result (λ found. IfSome found (λ ahead. AgreeOn (is_ahead (part by.now) ahead.bar) (documents_referred ahead.documents.items) (kept (λ d. matches filter.now d) self.now.documents))) }
+        ensures standing { IfOk result (λ found. IfSome found (λ ahead. AreStanding self.now.documents (documents_referred ahead.documents.items))) }
+        ensures tied { IfOk result (λ found. IfSome found (λ ahead. IfSome ahead.bar.until (λ until. ties ≡ Ties.ById))) }
     {
+        laws::documents_stand_where_they_are_found();
         let alloc = self.alloc;
         let plan = Planner::choose(filter, self.indexes.as_slice());
         let Some(index) = index_in_order(&self.indexes, &plan, &by.path) else {
             return Ok(None);
         };
         let most = self.documents.len() / FEW;
-        let Some(bar) = bar_behind(alloc, index, filter, by.direction, least, most)? else {
+        let Some(bar) = bar_behind(alloc, index, filter, by.direction, ties, least, most)? else {
             return Ok(None);
         };
-        if !leads_somewhere(alloc, filter, by, bar)? {
+        if !leads_somewhere(alloc, filter, by, &bar)? {
             return Ok(None);
         }
         let Some(candidates) = candidates_ahead(
@@ -112,7 +120,7 @@ impl IndexedCollection {
             index,
             filter,
             by,
-            bar,
+            &bar,
             most,
             &self.documents,
         )?

@@ -18,12 +18,12 @@ ghost use Rattle.dv_index.specs.Unique.{are_broken};
 ghost use Rattle.dv_index.specs.Indexed as defined;
 ghost use Rattle.dv_index.specs.Unique as uniqueness;
 
-use crate::change::{Change, key_of_id};
+use crate::change::Change;
 use crate::coverage::covered;
 use crate::indexes::Indexes;
 use crate::making::indexes_over;
 use crate::unique::{Replacing, clashes, replacing_clashes};
-use dv_coll::{Collection, InsertFault, Iter, laws};
+use dv_coll::{Collection, InsertFault, Iter, key_of_id, laws};
 use dv_keyed::{Index, NewIndex, Plan, Planner};
 use dv_match::Filter;
 use dv_order::Key;
@@ -88,6 +88,14 @@ impl IndexedCollection {
         ensures identified { AllByRecursion HasId self.now.documents }
     {
         self.documents.len()
+    }
+
+    /// That the documents ascend by their `_id`s, and that each begins with its own. Does nothing.
+    pub fn law_ascending(&self)
+        ensures ascending { IsAscending self.now.documents }
+        ensures identified { AllByRecursion HasId self.now.documents }
+    {
+        self.documents.law_ascending();
     }
 
     /// Whether there is no document.
@@ -168,7 +176,7 @@ impl IndexedCollection {
         laws::what_is_found_has_the_key();
         laws::replaced_document_is_found();
         // All documents begin with their `_id`s.
-        let _ = self.documents.len();
+        self.documents.law_ascending();
         if !self.indexes.have_path_through(name) {
             return self.documents.change_field(key, name, change);
         }
@@ -191,7 +199,7 @@ impl IndexedCollection {
         laws::a_change_of_another_field_leaves_the_id();
         laws::what_is_found_has_the_key();
         // All documents begin with their `_id`s.
-        let _ = self.documents.len();
+        self.documents.law_ascending();
         let Some(document) = self.documents.get(key) else {
             return Ok(false);
         };

@@ -1,7 +1,7 @@
 //! What holds of indexes and of the finds that they answer, each the contract of a function that does nothing.
 
 ghost use Rattle.std.specs.Prelude.{◌≡◌, ◌≤◌, ◌||◌, ◌++◌, ◌∷◌, [], ℕ, Bool, false, codes, filter as kept, length, List, IsSome, None, Ok, Some};
-ghost use Rattle.std.specs.List.{flat_map, list_any};
+ghost use Rattle.std.specs.List.{flat_map};
 ghost use Rattle.std.specs.List.Sorted.{IsStrictlySortedBy};
 ghost use Rattle.std.specs.Ordering.{is_eq};
 ghost use Rattle.std.specs.Str.{bytes_eq};
@@ -19,13 +19,15 @@ ghost use Rattle.dv_index.specs.Indexed.{IndexedTree, documents_covered, without
 ghost use Rattle.dv_keyed.specs.Inner.Keys.{has_key};
 ghost use Rattle.dv_keyed.specs.Inner.Pairs.{has_pair};
 ghost use Rattle.dv_keyed.specs.Within.{has_within};
+ghost use Rattle.dv_index.specs.Inner.Indexed.{AreUnbroken, has_index_named, index_on};
 ghost use Rattle.dv_index.specs.Inner.Search.{IsIndexOf};
 ghost use Rattle.dv_index.specs.Unique.{are_broken, clashes};
 
 pub use dv_keyed::laws::{
-    a_key_in_the_bounds_is_of_a_leaf_there, an_only_key_is_in_all_bounds,
-    keys_are_in_the_bounds_of_their_values, keys_by_example, leaves_are_found_by_keys,
-    one_condition_is_decided_by_its_bounds, what_matches_is_in_the_bounds,
+    a_closed_range_is_decided_by_its_ends, a_key_in_the_bounds_is_of_a_leaf_there,
+    an_only_key_is_in_all_bounds, keys_are_in_the_bounds_of_their_values, keys_by_example,
+    leaves_are_found_by_keys, one_condition_is_decided_by_its_bounds,
+    what_matches_is_in_the_bounds,
 };
 
 /// A find covers all documents that match, and no more than there are.
@@ -53,37 +55,40 @@ pub fn an_index_made_anew_is_the_same()
 /// An index that is made and dropped leaves the others as they were, and the one on `_id` never goes.
 #[tactic(auto, using(crate::proofs::Built::none_dropped))]
 pub fn indexes_come_and_go()
-    ensures others { (name : List ℕ) (path : List (List ℕ)) (unique : Bool) (xs : List IndexForm) → bytes_eq name id_form.name ≡ false → list_any (λ x. bytes_eq x.name name) xs ≡ false → without_index name (xs ++ record { name = name; path = path; unique = unique } ∷ []) ≡ xs }
+    ensures others { (name : List ℕ) (path : List (List ℕ)) (unique : Bool) (xs : List IndexForm) → bytes_eq name id_form.name ≡ false → has_index_named name xs ≡ false
+        → without_index name (xs ++ index_on name path unique ∷ []) ≡ xs }
     ensures on_id { (xs : List IndexForm) → without_index id_form.name xs ≡ xs }
 {}
 
 /// A document that is inserted without a clash breaks no unique index.
 #[tactic(auto, using(crate::proofs::Apart::insert_breaks_nothing))]
 pub fn an_insert_without_a_clash_breaks_nothing()
-    ensures { (indexes : List IndexForm) (d : List Field) (ds : List (List Field)) → IsAscending ds → found (id_key d) ds ≡ None → are_broken indexes ds ≡ false → clashes indexes d ds ≡ false → are_broken indexes (inserted d ds) ≡ false }
+    ensures { (indexes : List IndexForm) (d : List Field) (ds : List (List Field)) → IsAscending ds → found (id_key d) ds ≡ None → AreUnbroken indexes ds
+        → clashes indexes d ds ≡ false → AreUnbroken indexes (inserted d ds) }
 {}
 
 /// Nor does one that is put in place of another.
 #[tactic(auto, using(crate::proofs::Apart::replacement_breaks_nothing))]
 pub fn a_replacement_without_a_clash_breaks_nothing()
-    ensures { (indexes : List IndexForm) (d : List Field) (ds : List (List Field)) → IsAscending ds → IsSome (found (id_key d) ds) → are_broken indexes ds ≡ false → clashes indexes d ds ≡ false → are_broken indexes (replaced d ds) ≡ false }
+    ensures { (indexes : List IndexForm) (d : List Field) (ds : List (List Field)) → IsAscending ds → IsSome (found (id_key d) ds) → AreUnbroken indexes ds
+        → clashes indexes d ds ≡ false → AreUnbroken indexes (replaced d ds) }
 {}
 
 /// A document that is taken out breaks none.
 pub fn a_removal_breaks_nothing()
-    ensures { (indexes : List IndexForm) (k : KeyTree) (ds : List (List Field)) → are_broken indexes ds ≡ false → are_broken indexes (removed k ds) ≡ false }
+    ensures { (indexes : List IndexForm) (k : KeyTree) (ds : List (List Field)) → AreUnbroken indexes ds → AreUnbroken indexes (removed k ds) }
 {}
 
 /// Without documents none is broken.
 #[tactic(auto, using(crate::proofs::Apart::nothing_broken))]
 pub fn nothing_is_broken_by_no_document()
-    ensures { (indexes : List IndexForm) → are_broken indexes [] ≡ false }
+    ensures { (indexes : List IndexForm) → AreUnbroken indexes [] }
 {}
 
 /// Of indexes none of which is broken, none of some of them is.
 #[tactic(auto, using(crate::proofs::Apart::fewer_break))]
 pub fn fewer_indexes_break_no_more()
-    ensures { (p : IndexForm → Bool) (indexes : List IndexForm) (ds : List (List Field)) → are_broken indexes ds ≡ false → are_broken (kept p indexes) ds ≡ false }
+    ensures { (p : IndexForm → Bool) (indexes : List IndexForm) (ds : List (List Field)) → AreUnbroken indexes ds → AreUnbroken (kept p indexes) ds }
 {}
 
 /// Of two lists of indexes joined, one is broken if one of the first list is, or one of the other.

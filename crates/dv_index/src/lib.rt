@@ -13,10 +13,10 @@ mod search;
 mod unique;
 mod walk;
 
-pub use ahead::Ahead;
+pub use ahead::{Ahead, is_ahead};
 pub use coverage::covered;
 pub use dv_keyed::{
-    Bounds, Index, Keys, MultiIndex, NewIndex, Plan, Planner, is_ahead, keys_of, same_path,
+    Bar, Bounds, Index, Keys, MultiIndex, NewIndex, Plan, Planner, Ties, keys_of, same_path,
 };
 pub use indexed::{Explanation, IndexedCollection};
 pub use indexes::Indexes;

@@ -12,9 +12,8 @@ ghost use Rattle.dv_keyed.specs.Inner.Pairs.{has_pair, is_under_another};
 ghost use Rattle.dv_index.specs.Inner.Search.{IsIndexOf, is_key_under};
 ghost use Rattle.dv_index.specs.Unique.{are_apart, are_broken, is_broken};
 
-use crate::change::key_of_id;
 use dv_candidates::Path;
-use dv_coll::{Collection, InsertFault};
+use dv_coll::{Collection, InsertFault, key_of_id};
 use dv_keyed::{Index, MultiIndex, NewIndex, keys_of};
 use dv_value::Document;
 use std::alloc::Global;

@@ -1,10 +1,10 @@
 //! The documents that a plan finds.
 
-ghost use Rattle.std.specs.Prelude.{◌≡◌, ◌++◌, Bool, true, List as Sequence, map, take, filter as kept, IfOk, OnOk};
+ghost use Rattle.std.specs.Prelude.{◌≡◌, ◌++◌, Bool, true, List as Sequence, map, take, filter as kept, IfOk, IfSome, OnOk};
 ghost use Rattle.dv_value.specs.Tree.{Field};
 ghost use Rattle.dv_match.specs.Filter.{in_range};
 ghost use Rattle.dv_match.specs.Match.{matches};
-ghost use Rattle.dv_keyed.specs.Choice.{chosen, is_point};
+ghost use Rattle.dv_keyed.specs.Choice.{chosen};
 ghost use Rattle.std.specs.BTreeMap.Range.{IsLeBy, IsLtBy, range_contains};
 ghost use Rattle.std.specs.List.Sorted.{IsStrictlySortedBy};
 ghost use Rattle.std.specs.Ordering.{is_eq};
@@ -15,18 +15,19 @@ ghost use Rattle.dv_order.specs.Key.{KeyTree, key_order};
 ghost use Rattle.dv_path.specs.LeafKeys.{is_key_of, is_some_key};
 ghost use Rattle.dv_index.specs.Inner.Change.{AreIndexesOf, IsIndexAt};
 ghost use Rattle.dv_keyed.specs.Index.{id_form};
+ghost use Rattle.dv_keyed.specs.Inner.Decided.{is_one_condition};
 ghost use Rattle.dv_keyed.specs.Inner.Keys.{has_key};
 ghost use Rattle.dv_keyed.specs.Within.{has_within};
 ghost use Rattle.dv_keyed.specs.Inner.Within.{covers};
-ghost use Rattle.dv_index.specs.Inner.Search.{IsIndexOf};
+ghost use Rattle.dv_index.specs.Inner.Search.{AgreeOn, AllWithinAreFound, AreOnlyWithin, IsIndexOf, documents_referred};
 ghost use Rattle.dv_keyed.specs.Inner.View.{bounds_seen, plan_seen};
 
 use crate::indexes::Indexes;
 use crate::walk::{is_walk, walked};
 use dv_coll::Collection;
 use dv_keyed::{
-    Bounds, Index, Plan, ends_within, ids_tried, ids_within, in_order, is_decided, keys_of_each,
-    laws, lent,
+    Bounds, Index, Plan, closed_range, ends_within, ids_between, ids_tried, ids_within, in_order,
+    is_decided, keys_of_each, laws, lent,
 };
 use dv_match::{Filter, Range};
 use dv_order::{Key, key_of};
@@ -47,7 +48,7 @@ pub fn run<'c>(
 ) -> Result<Vec<&'c Document>, NoMemory>
     requires indexed { AreIndexesOf indexes.now collection.now }
     requires planned { plan_seen plan.now ≡ chosen filter.now (map (λ i. i.path) indexes.now) }
-    ensures { IfOk result (λ found. map (λ d. d.now) found.items ≡ kept (λ d. matches filter.now d) collection.now) }
+    ensures { IfOk result (λ found. documents_referred found.items ≡ kept (λ d. matches filter.now d) collection.now) }
 {
     // No more documents match than there are.
     run_first(alloc, plan, filter, collection, indexes, collection.len())
@@ -65,19 +66,14 @@ pub(crate) fn run_first<'c>(
 ) -> Result<Vec<&'c Document>, NoMemory>
     requires indexed { AreIndexesOf indexes.now collection.now }
     requires planned { plan_seen plan.now ≡ chosen filter.now (map (λ i. i.path) indexes.now) }
-    ensures { IfOk result (λ found. map (λ d. d.now) found.items ≡ take most (kept (λ d. matches filter.now d) collection.now)) }
+    ensures { IfOk result (λ found. documents_referred found.items ≡ take most (kept (λ d. matches filter.now d) collection.now)) }
 {
     laws::what_matches_is_in_the_bounds();
     laws::one_condition_is_decided_by_its_bounds();
     if let Plan::Index { place, bounds } = *plan {
         if !is_walk(plan) {
             if let Some(index) = indexes.get(place) {
-                if is_decided(filter, bounds) {
-                    let all = candidates(alloc, place, index, bounds, collection)?;
-                    return Ok(first(all, most));
-                }
-                let found = tried(alloc, place, index, bounds, filter, collection)?;
-                return matching(alloc, found, filter, most);
+                return found_by(alloc, place, index, bounds, filter, collection, most);
             }
         }
     }
@@ -89,6 +85,77 @@ pub(crate) fn run_first<'c>(
         Direction::Ascending,
         most,
     )
+}
+
+/// The first `most` of the documents that match the filter, by the index at a place.
+fn found_by<'c>(
+    alloc: Global,
+    place: usize,
+    index: &Index,
+    bounds: Bounds<'_>,
+    filter: &Filter,
+    collection: &'c Collection,
+    most: usize,
+) -> Result<Vec<&'c Document>, NoMemory>
+    requires indexed { IsIndexAt place index.now collection.now }
+    requires within { (d : Sequence Field) → matches filter.now d ≡ true → has_within (bounds_seen bounds) index.now.path d ≡ true }
+    requires decided { is_one_condition filter.now ≡ true → (d : Sequence Field) → matches filter.now d ≡ has_within (bounds_seen bounds) index.now.path d }
+    ensures { IfOk result (λ found. map (λ d. d.now) found.items ≡ take most (kept (λ d. matches filter.now d) collection.now)) }
+{
+    if let Some(all) = decided(alloc, place, index, bounds, filter, collection)? {
+        return Ok(first(all, most));
+    }
+    let found = tried(alloc, place, index, bounds, filter, collection)?;
+    matching(alloc, found, filter, most)
+}
+
+/// The documents that match a filter which the bounds of its plan decide, or which is a range with two ends under the path of an index in
+/// which no document has several keys. `None` for any other filter.
+fn decided<'c>(
+    alloc: Global,
+    place: usize,
+    index: &Index,
+    bounds: Bounds<'_>,
+    filter: &Filter,
+    collection: &'c Collection,
+) -> Result<Option<Vec<&'c Document>>, NoMemory>
+    requires indexed { IsIndexAt place index.now collection.now }
+    requires decided { is_one_condition filter.now ≡ true → (d : Sequence Field) → matches filter.now d ≡ has_within (bounds_seen bounds) index.now.path d }
+    ensures { IfOk result (λ found. IfSome found (λ documents. map (λ d. d.now) documents.items ≡ kept (λ d. matches filter.now d) collection.now)) }
+{
+    if is_decided(filter, bounds) {
+        let all = candidates(alloc, place, index, bounds, collection)?;
+        return Ok(Some(all));
+    }
+    if place == 0 {
+        return Ok(None);
+    }
+    found_between(alloc, index, filter, collection)
+}
+
+/// The documents that match a filter which is a range with two ends under the path of the index, where no document has several keys in
+/// this. `None` for any other filter.
+fn found_between<'c>(
+    alloc: Global,
+    index: &Index,
+    filter: &Filter,
+    collection: &'c Collection,
+) -> Result<Option<Vec<&'c Document>>, NoMemory>
+    requires { IsIndexOf index.now collection.now }
+    ensures { IfOk result (λ found. IfSome found (λ documents. map (λ d. d.now) documents.items ≡ kept (λ d. matches filter.now d) collection.now)) }
+{
+    laws::a_closed_range_is_decided_by_its_ends();
+    // The documents ascend by their `_id`s.
+    let _ = collection.len();
+    if index.pairs().has_several() {
+        return Ok(None);
+    }
+    let Some(ends) = closed_range(filter, index.path())? else {
+        return Ok(None);
+    };
+    let ids = ids_between(alloc, index, ends)?;
+    let all = documents_of(alloc, ids, collection)?;
+    Ok(Some(all))
 }
 
 /// The first `most` of the documents.
@@ -141,7 +208,7 @@ fn tried<'c>(
 ) -> Result<Vec<&'c Document>, NoMemory>
     requires indexed { IsIndexAt place index.now collection.now }
     requires within { (d : Sequence Field) → matches filter.now d ≡ true → has_within (bounds_seen bounds) index.now.path d ≡ true }
-    ensures { IfOk result (λ found. kept (matches filter.now) (map (λ d. d.now) found.items) ≡ kept (matches filter.now) collection.now) }
+    ensures { IfOk result (λ found. AgreeOn (matches filter.now) (documents_referred found.items) collection.now) }
 {
     if place == 0 {
         candidates_by_id(alloc, bounds, collection)
@@ -160,12 +227,12 @@ fn tried_by_key<'c>(
 ) -> Result<Vec<&'c Document>, NoMemory>
     requires indexed { IsIndexOf index.now collection.now }
     requires within { (d : Sequence Field) → matches filter.now d ≡ true → has_within (bounds_seen bounds) index.now.path d ≡ true }
-    ensures { IfOk result (λ found. kept (matches filter.now) (map (λ d. d.now) found.items) ≡ kept (matches filter.now) collection.now) }
+    ensures { IfOk result (λ found. AgreeOn (matches filter.now) (documents_referred found.items) collection.now) }
 {
     laws::leaves_are_found_by_keys();
     laws::an_only_key_is_in_all_bounds();
     // The documents ascend by their `_id`s.
-    let _ = collection.len();
+    collection.law_ascending();
     let ids = ids_tried(alloc, index, bounds, filter)?;
     documents_of(alloc, ids, collection)
 }
@@ -180,8 +247,8 @@ pub(crate) fn candidates<'c>(
     collection: &'c Collection,
 ) -> Result<Vec<&'c Document>, NoMemory>
     requires { IsIndexAt place index.now collection.now }
-    ensures all { IfOk result (λ found. (test : Sequence Field → Bool) → ((d : Sequence Field) → test d ≡ true → has_within (bounds_seen bounds.entry) index.now.path d ≡ true) → kept test (map (λ d. d.now) found.items) ≡ kept test collection.now) }
-    ensures only { IfOk result (λ found. is_point (bounds_seen bounds.entry) ≡ true → map (λ d. d.now) found.items ≡ kept (has_within (bounds_seen bounds.entry) index.now.path) collection.now) }
+    ensures all { IfOk result (λ found. AllWithinAreFound (bounds_seen bounds.entry) index.now.path collection.now (documents_referred found.items)) }
+    ensures only { IfOk result (λ found. AreOnlyWithin (bounds_seen bounds.entry) index.now.path collection.now (documents_referred found.items)) }
 {
     if place == 0 {
         candidates_by_id(alloc, bounds, collection)
@@ -196,12 +263,12 @@ fn candidates_by_id<'c>(
     bounds: Bounds<'_>,
     collection: &'c Collection,
 ) -> Result<Vec<&'c Document>, NoMemory>
-    ensures all { IfOk result (λ found. (test : Sequence Field → Bool) → ((d : Sequence Field) → test d ≡ true → has_within (bounds_seen bounds.entry) id_form.path d ≡ true) → kept test (map (λ d. d.now) found.items) ≡ kept test collection.now) }
-    ensures only { IfOk result (λ found. is_point (bounds_seen bounds.entry) ≡ true → map (λ d. d.now) found.items ≡ kept (has_within (bounds_seen bounds.entry) id_form.path) collection.now) }
+    ensures all { IfOk result (λ found. AllWithinAreFound (bounds_seen bounds.entry) id_form.path collection.now (documents_referred found.items)) }
+    ensures only { IfOk result (λ found. AreOnlyWithin (bounds_seen bounds.entry) id_form.path collection.now (documents_referred found.items)) }
 {
     laws::keys_are_in_the_bounds_of_their_values();
     // Each document has an `_id`.
-    let _ = collection.len();
+    collection.law_ascending();
     match bounds {
         Bounds::Equal(value) => with_id(alloc, value, collection),
         Bounds::Among(choices) => with_ids(alloc, choices.values(), collection),
@@ -215,7 +282,7 @@ fn with_id<'c>(
     value: &Value,
     collection: &'c Collection,
 ) -> Result<Vec<&'c Document>, NoMemory>
-    ensures { IfOk result (λ found. map (λ d. d.now) found.items ≡ kept (λ d. is_key_of (id_key d) (tree value.now)) collection.now) }
+    ensures { IfOk result (λ found. documents_referred found.items ≡ kept (λ d. is_key_of (id_key d) (tree value.now)) collection.now) }
 {
     let key = key_of(value)?;
     let mut found = Vec::new(alloc);
@@ -229,7 +296,7 @@ fn with_ids<'c>(
     values: &List,
     collection: &'c Collection,
 ) -> Result<Vec<&'c Document>, NoMemory>
-    ensures { IfOk result (λ found. map (λ d. d.now) found.items ≡ kept (λ d. is_some_key (id_key d) values.now) collection.now) }
+    ensures { IfOk result (λ found. documents_referred found.items ≡ kept (λ d. is_some_key (id_key d) values.now) collection.now) }
 {
     let keys = keys_of_each(alloc, values.as_slice())?;
     let ids = lent(alloc, &keys)?;
@@ -243,7 +310,7 @@ fn with_ids_within<'c>(
     value: &Value,
     collection: &'c Collection,
 ) -> Result<Vec<&'c Document>, NoMemory>
-    ensures { IfOk result (λ found. (inside : KeyTree → Bool) × ((k : KeyTree) → covers (in_range range (tree value.now)) k ≡ true → inside k ≡ true) × (map (λ d. d.now) found.items ≡ kept (λ d. inside (id_key d)) collection.now)) }
+    ensures { IfOk result (λ found. (inside : KeyTree → Bool) × ((k : KeyTree) → covers (in_range range (tree value.now)) k ≡ true → inside k ≡ true) × (documents_referred found.items ≡ kept (λ d. inside (id_key d)) collection.now)) }
 {
     let (low, high) = ends_within(alloc, range, value)?;
     documents_between(alloc, collection, low, high)
@@ -257,7 +324,7 @@ fn documents_between(
     high: Bound<Key>,
 ) -> Result<Vec<&Document>, NoMemory>
     requires { IsForward (IsLeBy key_order) (IsLtBy key_order) low high }
-    ensures { IfOk result (λ found. map (λ d. d.now) found.items ≡ kept (λ d. range_contains key_order low high (id_key d)) collection.now) }
+    ensures { IfOk result (λ found. documents_referred found.items ≡ kept (λ d. range_contains key_order low high (id_key d)) collection.now) }
 {
     collection.between(low, high).collect(alloc)
 }
@@ -270,13 +337,13 @@ fn candidates_by_key<'c>(
     collection: &'c Collection,
 ) -> Result<Vec<&'c Document>, NoMemory>
     requires { IsIndexOf index.now collection.now }
-    ensures all { IfOk result (λ found. (test : Sequence Field → Bool) → ((d : Sequence Field) → test d ≡ true → has_within (bounds_seen bounds.entry) index.now.path d ≡ true) → kept test (map (λ d. d.now) found.items) ≡ kept test collection.now) }
-    ensures only { IfOk result (λ found. is_point (bounds_seen bounds.entry) ≡ true → map (λ d. d.now) found.items ≡ kept (has_within (bounds_seen bounds.entry) index.now.path) collection.now) }
+    ensures all { IfOk result (λ found. AllWithinAreFound (bounds_seen bounds.entry) index.now.path collection.now (documents_referred found.items)) }
+    ensures only { IfOk result (λ found. AreOnlyWithin (bounds_seen bounds.entry) index.now.path collection.now (documents_referred found.items)) }
 {
     laws::leaves_are_found_by_keys();
     laws::a_key_in_the_bounds_is_of_a_leaf_there();
     // The documents ascend by their `_id`s.
-    let _ = collection.len();
+    collection.law_ascending();
     let ids = ids_within(alloc, index.pairs().as_pairs(), bounds)?;
     documents_of(alloc, ids, collection)
 }
@@ -287,7 +354,7 @@ pub(crate) fn documents_of<'c>(
     ids: Vec<&Key>,
     collection: &'c Collection,
 ) -> Result<Vec<&'c Document>, NoMemory>
-    ensures { IfOk result (λ found. map (λ d. d.now) found.items ≡ kept (λ d. has_key (id_key d) (map (λ i. i.now) ids.entry.items)) collection.now) }
+    ensures { IfOk result (λ found. documents_referred found.items ≡ kept (λ d. has_key (id_key d) (map (λ i. i.now) ids.entry.items)) collection.now) }
 {
     let ordered = in_order(ids)?;
     documents_under(alloc, &ordered, collection)
@@ -300,10 +367,10 @@ fn documents_under<'c>(
     collection: &'c Collection,
 ) -> Result<Vec<&'c Document>, NoMemory>
     requires { IsStrictlySortedBy key_order (map (λ i. i.now) ids.now) }
-    ensures { IfOk result (λ found. map (λ d. d.now) found.items ≡ kept (λ d. has_key (id_key d) (map (λ i. i.now) ids.now)) collection.now) }
+    ensures { IfOk result (λ found. documents_referred found.items ≡ kept (λ d. has_key (id_key d) (map (λ i. i.now) ids.now)) collection.now) }
 {
     // The documents ascend by their `_id`s, as the keys do.
-    let _ = collection.len();
+    collection.law_ascending();
     let mut found = Vec::with_capacity(alloc, ids.len())?;
     'ids: for id in ids {
         add_document(&mut found, id, collection)?;
@@ -317,10 +384,10 @@ fn add_document<'c>(
     id: &Key,
     collection: &'c Collection,
 ) -> Result<(), NoMemory>
-    ensures { OnOk result (map (λ d. d.now) found.new.items ≡ map (λ d. d.now) found.old.items ++ kept (λ d. is_eq (key_order (id_key d) id.now)) collection.now) }
+    ensures { OnOk result (documents_referred found.new.items ≡ documents_referred found.old.items ++ kept (λ d. is_eq (key_order (id_key d) id.now)) collection.now) }
 {
     // No two documents have equal `_id`s.
-    let _ = collection.len();
+    collection.law_ascending();
     match collection.get(id) {
         Some(document) => {
             found.push(document)?;

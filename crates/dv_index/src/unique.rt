@@ -12,9 +12,8 @@ ghost use Rattle.dv_index.specs.Inner.Search.{IsIndexOf};
 ghost use Rattle.dv_index.specs.Inner.View.{afters, befores};
 ghost use Rattle.dv_index.specs.Unique as defined;
 
-use crate::change::key_of_id;
 use dv_candidates::Path;
-use dv_coll::{Collection, laws};
+use dv_coll::{Collection, key_of_id, laws};
 use dv_keyed::{Index, Moved, Trial, keys_of};
 use dv_value::{Document, NoMemory};
 use std::alloc::Global;
@@ -61,7 +60,7 @@ fn clashes_in(
         return Ok(false);
     }
     // The documents ascend by their `_id`s.
-    let _ = documents.len();
+    documents.law_ascending();
     let id = key_of_id(document)?;
     let keys = keys_of(alloc, index.path(), document)?;
     Ok(index.pairs().clash(&keys, &id))
@@ -127,7 +126,7 @@ fn clash_in_turn(
     laws::replaced_document_is_found();
     laws::documents_stand_where_they_are_found();
     // The documents ascend by their `_id`s.
-    let _ = documents.len();
+    documents.law_ascending();
     let mut trial = Trial::new(alloc);
     'each: for replacing in each {
         let moved = keys_moved(alloc, index.path(), replacing)?;

@@ -47,7 +47,7 @@ pub(crate) fn walked<'c>(
 {
     laws::an_only_key_is_in_all_bounds();
     // Each document has an `_id`.
-    let _ = collection.len();
+    collection.law_ascending();
     let ends = Interval::of(alloc, indexes.id_path(), filter)?;
     if !ends.is_forward() {
         return Ok(Vec::new(alloc));

@@ -75,6 +75,16 @@ pub under-gone : {A : Type 0} (b : Bool) (o : Option A) (none : A) → unwrap_or
 under-gone true o none = refl
 under-gone false o none = refl
 
+-- nothing stands under a key
+pub none-there : (b : Bool) (old : Positioned) → (b ≡ true → old ≡ []) → old ≡ cond b [] old
+none-there true old e = e refl
+none-there false old e = refl
+
+-- what stands under a key goes twice
+pub gone-again : (b : Bool) (old taken new : Positioned) → new ≡ cond b [] taken → taken ≡ cond b [] old → new ≡ cond b [] old
+gone-again true old taken new again once = again
+gone-again false old taken new again once = again ∙ once
+
 -- what stands under a key was taken out, and nothing is left of it
 pub set-none : (f : Positioned → Positioned) (b : Bool) (old own taken : Positioned) → (b ≡ true → old ≡ own) → taken ≡ cond b [] old → f own ≡ [] → taken ≡ cond b (f old) old
 set-none f true old own taken like e none = e ∙ sym none ∙ sym (ap f (like refl))

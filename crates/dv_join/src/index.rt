@@ -12,6 +12,7 @@ use dv_order::Key;
 use dv_value::{Document, List, NoMemory};
 use std::alloc::Global;
 use std::collections::{BTreeMap, BTreeSet};
+use std::mem::replace;
 
 /// Rows by keys: under each key those that have it, in the order of their positions.
 #[derive(Drop)]
@@ -82,20 +83,23 @@ impl Index {
     {
         let old = self.take_under(&key);
         let rows = with_row_set(old, pos, row)?;
-        if !rows.is_empty() {
+        if rows.is_empty() {
+            self.under.remove(&key);
+        } else {
             self.under.insert(key, rows)?;
         }
         Ok(())
     }
 
-    /// Takes out all rows under the key.
+    /// Takes out all rows under the key. The key stays, so that others can be put there without a change of the tree.
     fn take_under(&mut self, key: &Key) -> Ordered<Document>
         ensures rows { result ≡ under key.now self.old }
         ensures others { (k : KeyTree) → under k self.new ≡ cond (is_eq (key_order k key.now)) [] (under k self.old) }
     {
-        match self.under.remove(key) {
-            Some(rows) => rows,
-            None => Ordered::new(self.alloc),
+        let none = Ordered::new(self.alloc);
+        match self.under.get_mut(key) {
+            Some(rows) => replace(rows, none),
+            None => none,
         }
     }
 

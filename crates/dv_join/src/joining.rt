@@ -16,13 +16,14 @@ use std::alloc::Global;
 use std::collections::BTreeSet;
 
 /// Each of the rows with the documents that it is joined with, which are found in the index. Copied are these rows, or what was made
-/// of them before: the two differ by their arrays. Fails where memory is wanting.
+/// of them before: the two differ by their arrays. A row that was made before may lend its names. Fails where memory is wanting.
 pub(crate) fn joined_rows(
     alloc: Global,
     lookup: &Lookup,
     foreign: &Index,
     rows: &Ordered<Document>,
     copied: &Ordered<Document>,
+    last: Option<&Document>,
 ) -> Result<Ordered<Document>, NoMemory>
     ensures { IfOk result (λ joined. AreJoined lookup.now foreign.now rows.now copied.now joined) }
 {
@@ -31,11 +32,11 @@ pub(crate) fn joined_rows(
         return Ok(joined);
     };
     let copy = document_or(copied.first(), row);
-    joined = with_joined(alloc, lookup, foreign, joined, pos, row, copy)?;
+    joined = with_joined(alloc, lookup, foreign, joined, pos, row, copy, last)?;
     let mut copies = copied.others();
     'others: for (pos, row) in rows.others() {
         let copy = document_or(copies.next(), row);
-        joined = with_joined(alloc, lookup, foreign, joined, pos, row, copy)?;
+        joined = with_joined(alloc, lookup, foreign, joined, pos, row, copy, last)?;
     }
     Ok(joined)
 }
@@ -59,26 +60,29 @@ fn with_joined(
     pos: &Pos,
     row: &Document,
     copied: &Document,
+    last: Option<&Document>,
 ) -> Result<Ordered<Document>, NoMemory>
     ensures { IfOk result (λ more. AddsJoined lookup.now foreign.now pos.now row.now copied.now joined more) }
 {
     let keys = lookup.local_keys(alloc, row)?;
-    let made = joined_row(alloc, lookup, foreign, &keys, copied)?;
+    let made = joined_row(alloc, lookup, foreign, &keys, copied, last)?;
     joined.with(pos.try_clone()?, made)
 }
 
-/// The copied row with the documents that a row with these keys is joined with, which are found in the index.
+/// The copied row with the documents that a row with these keys is joined with, which are found in the index. A row that was made
+/// before may lend its names.
 pub(crate) fn joined_row(
     alloc: Global,
     lookup: &Lookup,
     foreign: &Index,
     keys: &BTreeSet<Key>,
     copied: &Document,
+    last: Option<&Document>,
 ) -> Result<Document, NoMemory>
     ensures { IfOk result (λ joined. IsCopyJoined lookup.now foreign.now keys.now copied.now joined) }
 {
     let matches = foreign.values_under(keys)?;
-    lookup.row_with(alloc, copied, matches, None)
+    lookup.row_with(alloc, copied, matches, last)
 }
 
 /// The rows as values, in their order.

@@ -7,6 +7,5 @@ pub mod laws;
 mod lookup;
 mod operator;
 
-pub use dv_change::{Chain, Change, Input, Part, Pos, Ticks, Turn};
 pub use lookup::LookupTurn;
 pub use operator::LookupOperator;

@@ -29,6 +29,8 @@ pub struct LookupOperator {
     left_by: Index,
     /// The documents by the keys under which they are found.
     foreign_by: Index,
+    /// A row that it made, which lends its names.
+    last: Option<Document>,
 }
 
 impl LookupOperator {
@@ -42,6 +44,7 @@ impl LookupOperator {
             lookup: lookup.try_clone()?,
             left_by: Index::new(alloc),
             foreign_by: Index::new(alloc),
+            last: None,
         })
     }
 
@@ -61,6 +64,7 @@ impl LookupOperator {
         let before = self.joined_alone(pos, old, &old_keys)?;
         let after = self.joined_alone(pos, new, &new_keys)?;
         self.left_by.exchange(pos, &old_keys, new, new_keys)?;
+        self.last = lender(&after, self.last.take())?;
         Ok((before, after))
     }
 
@@ -92,7 +96,15 @@ impl LookupOperator {
     ) -> Result<Ordered<Document>, NoMemory>
         ensures { IfOk result (λ joined. AreJoined self.now.lookup self.now.foreign_by rows.now copied.now joined) }
     {
-        joined_rows(self.alloc, &self.lookup, &self.foreign_by, rows, copied)
+        let lookup = &self.lookup;
+        joined_rows(
+            self.alloc,
+            lookup,
+            &self.foreign_by,
+            rows,
+            copied,
+            self.last.as_ref(),
+        )
     }
 
     /// The row at the position with the documents that it is joined with, where there is one. It has these keys.
@@ -108,7 +120,8 @@ impl LookupOperator {
         let Some(row) = row else {
             return Ok(none);
         };
-        let joined = joined_row(self.alloc, &self.lookup, &self.foreign_by, keys, row)?;
+        let last = self.last.as_ref();
+        let joined = joined_row(self.alloc, &self.lookup, &self.foreign_by, keys, row, last)?;
         none.with(pos.try_clone()?, joined)
     }
 
@@ -130,6 +143,14 @@ impl LookupOperator {
             Some(document) => self.lookup.foreign_keys(self.alloc, document),
             None => Ok(BTreeSet::new(self.alloc)),
         }
+    }
+}
+
+/// The first of the rows, so that it lends its names; or, where there is none, what lent them before.
+fn lender(rows: &Ordered<Document>, last: Option<Document>) -> Result<Option<Document>, NoMemory> {
+    match rows.first() {
+        Some((_, row)) => Ok(Some(row.try_clone()?)),
+        None => Ok(last),
     }
 }
 

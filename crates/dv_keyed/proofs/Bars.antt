@@ -1,20 +1,52 @@
 -- One key or another, and keys before a bar.
-use Rattle.std.proofs.Common.{◌≡◌, ◌∙◌, refl, ap, sym, true, not}
-use Rattle.std.specs.Ordering.{is_le, is_lt, ordering_reverse}
+use Rattle.std.proofs.Common.{Bor, ◌≡◌, ◌∙◌, ◌&&◌, ◌||◌, Bool, List, Option, None, Some, is_some, refl, ap, sym, true, false, not}
+use Rattle.std.specs.List.{list_any}
+use Rattle.std.specs.Ordering.{is_eq, is_le, is_lt, ordering_reverse}
 use Rattle.std.specs.declared.cmp.Ordering.{Ordering}
 use Rattle.std.specs.declared.cmp.Ordering.TheVariants.{Less, Equal, Greater}
 use Rattle.dv_value.specs.Tree.{Tree}
 use Rattle.dv_order.specs.Key.{KeyTree, no_element, value, key_order}
 use Rattle.dv_order.specs.Inner.KeyLaws.{key_order_total}
+use Rattle.dv_path.specs.SortKey.{stands_first}
+use Rattle.dv_path.specs.declared.direction.Direction.{Direction}
+use Rattle.dv_keyed.specs.declared.before.Bar.{Bar}
+use Rattle.dv_keyed.specs.Inner.Ahead.{is_until, stands_ahead}
+use Rattle.dv_keyed.proofs.Lists.{equal-from}
+use Rattle.dv_keyed.specs.Inner.Pairs.{Pair, has_pair}
 
 pub by-kind : (P : KeyTree → Type 0) → P no_element → ((v : Tree) → P (value v)) → (k : KeyTree) → P k
 by-kind P none some no_element = none
 by-kind P none some (value v) = some v
 
-turned : (o : Ordering) → not (is_le o) ≡ is_lt (ordering_reverse o)
+pub turned : (o : Ordering) → not (is_le o) ≡ is_lt (ordering_reverse o)
 turned Less = refl
 turned Equal = refl
 turned Greater = refl
 
 pub before-end : (k bar : KeyTree) → is_lt (key_order k bar) ≡ true → not (is_le (key_order bar k)) ≡ true
 before-end k bar e = turned (key_order bar k) ∙ sym (ap is_lt (key_order_total.antisymm k bar)) ∙ e
+
+-- ---- documents that are ahead are sorted before the bar's key, or by it
+pub by-bar : (P : Type 0) (direction : Direction) (bar : Bar) (k i : KeyTree) → stands_ahead direction bar k i ≡ true → (stands_first direction k bar.key.now ≡ true → P) → (is_eq (key_order k bar.key.now) ≡ true → is_until i bar.until ≡ true → P) → P
+by-bar P direction bar k i e before tied = at (stands_first direction k bar.key.now) (is_eq (key_order k bar.key.now)) e before tied
+  where
+    at : (a b : Bool) → a || (b && is_until i bar.until) ≡ true → (a ≡ true → P) → (b ≡ true → is_until i bar.until ≡ true → P) → P
+    at true b f first later = first refl
+    at false true f first later = later refl f
+    at false false f first later = absurd cc
+
+no-until : (i : KeyTree) (until : Option (Bor KeyTree)) → is_some until ≡ false → is_until i until ≡ false
+no-until i None e = refl
+no-until i (Some end) e = absurd cc
+
+pub none-ahead : (direction : Direction) (bar : Bar) (k i : KeyTree) → stands_first direction k bar.key.now || (is_eq (key_order k bar.key.now) && is_some bar.until) ≡ false → stands_ahead direction bar k i ≡ false
+none-ahead direction bar k i e = at (stands_first direction k bar.key.now) (is_eq (key_order k bar.key.now)) (is_some bar.until) e (no-until i bar.until)
+  where
+    at : (a b c : Bool) → a || (b && c) ≡ false → (c ≡ false → is_until i bar.until ≡ false) → a || (b && is_until i bar.until) ≡ false
+    at true b c f none = absurd cc
+    at false true c f none = none f
+    at false false c f none = refl
+
+-- ---- pairs of equal keys
+pub pair-of-equal : (k l i : KeyTree) (ps : List Pair) → is_eq (key_order k l) ≡ true → has_pair k i ps ≡ has_pair l i ps
+pair-of-equal k l i ps same = ap (λ t. list_any t ps) (λ j p. is_eq (key_order_total.congr k l p.0 (equal-from (key_order k l) same) j) && is_eq (key_order i p.1))

@@ -1,12 +1,15 @@
 -- Keys in a list, where one comes or goes.
 use Rattle.std.proofs.Common.{◌≡◌, ◌∙◌, List, [], ◌∷◌, ◌++◌, refl, ap, sym, Bool, true, false, cond, not, ◌||◌, ◌&&◌, filter}
 use Rattle.std.specs.List.{list_any}
-use Rattle.std.specs.Ordering.{is_eq}
+use Rattle.std.specs.BTreeMap.Range.{range_contains}
+use Rattle.std.specs.Ordering.{is_eq, is_lt}
+use Rattle.std.specs.declared.ops.Bound.TheVariants.{Excluded, Unbounded}
 use Rattle.std.proofs.lemmas.Cmp.{alike_right}
 use Rattle.std.proofs.lemmas.List.Folds.{list_any-append}
 use Rattle.dv_order.specs.Key.{KeyTree, key_order}
 use Rattle.dv_order.specs.Inner.KeyLaws.{key_order_total}
 use Rattle.dv_keyed.specs.Inner.Keys.{has_key}
+use Rattle.dv_keyed.proofs.Bars.{turned}
 use Rattle.dv_keyed.proofs.Lists.{equal-back, equal-from, or-false}
 use Rattle.dv_keyed.proofs.Several.{any-filter}
 
@@ -59,3 +62,11 @@ cond-and-not true true = refl
 cond-and-not true false = refl
 cond-and-not false true = refl
 cond-and-not false false = refl
+
+-- ---- those before an end
+pub front-has : (until i : KeyTree) (ks : List KeyTree) → has_key i (filter (λ l. is_lt (key_order l until)) ks) ≡ has_key i ks && is_lt (key_order i until)
+front-has until i ks =
+    any-filter (λ l. is_eq (key_order i l)) (λ l. is_lt (key_order l until)) (is_lt (key_order i until)) (λ l same. sym (ap is_lt (key_order_total.congr i l until (equal-from (key_order i l) same)))) ks
+
+pub front-between : (until : KeyTree) (ks : List KeyTree) → filter (range_contains key_order Unbounded (Excluded until)) ks ≡ filter (λ l. is_lt (key_order l until)) ks
+front-between until ks = ap (λ p. filter p ks) (λ j l. (turned (key_order until l) ∙ sym (ap is_lt (key_order_total.antisymm l until))) j)

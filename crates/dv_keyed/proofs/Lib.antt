@@ -11,6 +11,7 @@ pub mod Ranges
 pub mod Sound
 pub mod Points
 pub mod Decided
+pub mod BothEnds
 pub mod Only
 pub mod Bars
 pub mod Copied

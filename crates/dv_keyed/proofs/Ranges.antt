@@ -5,14 +5,14 @@ use Rattle.std.specs.declared.ops.Bound.{Bound}
 use Rattle.std.specs.declared.ops.Bound.TheVariants.{Included, Excluded, Unbounded}
 use Rattle.std.specs.Ordering.{is_eq, is_lt, is_le}
 use Rattle.std.specs.BTreeMap.Range.{is_from_start, is_past_end, range_contains}
-use Rattle.std.proofs.lemmas.Cmp.{alike_right}
-use Rattle.std.proofs.lemmas.Bool.{or_right}
+use Rattle.std.proofs.lemmas.Cmp.{alike_right, tied_itself}
+use Rattle.std.proofs.lemmas.Bool.{or_left, or_right}
 use Rattle.std.proofs.lemmas.List.Elements.{filter-append}
 use Rattle.std.proofs.lemmas.List.Folds.{list_any-append}
 use Rattle.dv_order.specs.Key.{KeyTree, key_order}
 use Rattle.dv_order.specs.Inner.KeyLaws.{key_order_total}
 use Rattle.dv_keyed.specs.Inner.Keys.{has_key}
-use Rattle.dv_keyed.specs.Inner.Pairs.{Pair, has_pair, has_id, pairs_of}
+use Rattle.dv_keyed.specs.Inner.Pairs.{Pair, has_pair, has_id, is_pair_of, pairs_of}
 use Rattle.dv_keyed.proofs.Lists.{any-map, equal-from}
 use Rattle.dv_keyed.proofs.Entries.{Entry}
 
@@ -76,3 +76,20 @@ found-within low high k i ps was inside e = or_right was _ (go ps e)
     go : (qs : List Pair) → has_pair k i qs ≡ true → has_id i (filter within qs) ≡ true
     go [] f = absurd cc
     go (x ∷ qs) f = step x qs (is_eq (key_order k x.0) && is_eq (key_order i x.1)) (within x) refl refl (go qs) f
+
+-- and an `_id` that is found there has a key that stands there
+module _ (within : KeyTree → Bool) (i : KeyTree) where
+  some-key : (ps : List Pair) → has_id i (filter (λ p. within p.0) ps) ≡ true → (k : KeyTree) × (within k ≡ true) × (has_pair k i ps ≡ true)
+  some-key [] e = absurd cc
+  some-key (x ∷ ps) e = at (within x.0) (is_eq (key_order i x.1)) refl refl e (some-key ps)
+    where
+      kept : List Pair
+      kept = filter (λ p. within p.0) ps
+
+      at : (a b : Bool) → within x.0 ≡ a → is_eq (key_order i x.1) ≡ b → has_id i (cond a (x ∷ kept) kept) ≡ true → (has_id i kept ≡ true → (k : KeyTree) × (within k ≡ true) × (has_pair k i ps ≡ true)) → (k : KeyTree) × (within k ≡ true) × (has_pair k i (x ∷ ps) ≡ true)
+      at true true g h f rest = (x.0, g, or_left (is_pair_of x.0 i x) (has_pair x.0 i ps) (λ j. is_eq (tied_itself key_order_total x.0 j) && h j))
+      at true false g h f rest = let r = rest (ap (λ b. b || has_id i kept) (sym h) ∙ f) in (r.0, r.1, or_right (is_pair_of r.0 i x) (has_pair r.0 i ps) r.2)
+      at false b g h f rest = let r = rest f in (r.0, r.1, or_right (is_pair_of r.0 i x) (has_pair r.0 i ps) r.2)
+
+  pub found-between : (ps : List Pair) (was : Bool) → was ≡ false → was || has_id i (filter (λ p. within p.0) ps) ≡ true → (k : KeyTree) × (within k ≡ true) × (has_pair k i ps ≡ true)
+  found-between ps was none e = some-key ps (ap (λ b. b || has_id i (filter (λ p. within p.0) ps)) (sym none) ∙ e)

@@ -22,7 +22,9 @@ use Rattle.dv_match.specs.Match.{stands, matches, matches_member, matches_all, m
 use Rattle.dv_keyed.specs.Choice.{is_point, is_bound, same_path, first_of, first_in, first_in_member, first_in_all, first_place, chosen}
 use Rattle.dv_keyed.proofs.Ends.{class-canon}
 use Rattle.dv_keyed.proofs.Lists.{both, equal-from}
-use Rattle.dv_keyed.specs.Inner.Decided.{is_one_condition, is_one_under}
+use Rattle.dv_keyed.specs.Inner.Decided.{HasOneKey, IsClosed, IsClosedUnder, is_one_condition, is_one_under}
+use Rattle.dv_keyed.specs.Inner.Interval.{is_between}
+use Rattle.dv_keyed.specs.declared.interval.Interval.{Interval}
 use Rattle.dv_keyed.specs.Within.{is_within, has_within}
 use Rattle.dv_keyed.specs.Inner.Within.{stands_so, covers}
 
@@ -179,6 +181,17 @@ pub decided : (filter : Members) (paths : List (List (List ℕ))) (place : ℕ) 
 decided (more_members m no_members) paths place bounds path d is e there = of-one m paths place bounds path d is e there
 decided filter paths place bounds path d is e there = absurd cc
 
+-- ---- a filter of two conditions under one path
+abbrev two : List (List ℕ) → Condition → Condition → Members
+two p c e = more_members (at_path p (more_conditions c (more_conditions e no_conditions))) no_members
+
+matches-two : (p : List (List ℕ)) (c e : Condition) (d : List Field) → matches (two p c e) d ≡ meets c (whole d p) (leaves d p) && meets e (whole d p) (leaves d p)
+unfolding matches matches_member meets_all
+matches-two p c e d =
+    let first = meets c (whole d p) (leaves d p) in
+    let second = meets e (whole d p) (leaves d p) in
+    and-true (first && (second && true)) ∙ ap (λ b. first && b) (and-true second)
+
 -- ---- from a leaf in the bounds to a key
 module _ (law : (v w : Tree) → key_order (value (canon v)) (value (canon w)) ≡ order v w) where
   pub covers-within : (c : Condition) (x : Candidate) → covers c (value (canon (or_null x))) ≡ is_within c x
@@ -240,6 +253,29 @@ module _ (law : (v w : Tree) → key_order (value (canon v)) (value (canon w)) �
     pub of-a-leaf : (c : Condition) (path : List (List ℕ)) (d : List Field) (k : KeyTree) → covers c k ≡ true → is_leaf_key k path d ≡ true → has_within c path d ≡ true
     unfolding has_within is_leaf_key leaf_values
     of-a-leaf c path d k h e = some-within c k h (leaves d path) e
+
+    -- the one key of a document that has leaves in two bounds is in both
+    in-both : (ends : Interval) (path : List (List ℕ)) (c e : Condition) (d : List Field) → ((k : KeyTree) → is_between ends k ≡ (covers c k && covers e k)) → HasOneKey path d → has_within c path d ≡ true → has_within e path d ≡ true → (k : KeyTree) × (is_between ends k ≡ true) × (is_leaf_key k path d ≡ true)
+    in-both ends path c e d between one here there =
+        let u = leaf-key c path d here in
+        let o = leaf-key e path d there in
+        let k = value (canon u.0) in
+        let l = value (canon o.0) in
+        (k, between k ∙ (λ j. u.1 j && (covers-same e k l (equal-from (key_order k l) (one k l u.2 o.2)) ∙ o.1) j), u.2)
+
+    closed-under : (ends : Interval) (path : List (List ℕ)) (m : Member) (d : List Field) → IsClosedUnder ends path m → HasOneKey path d → (matches (more_members m no_members) d ≡ true) ↔ ((k : KeyTree) × (is_between ends k ≡ true) × (is_leaf_key k path d ≡ true))
+    closed-under ends path (at_path p (more_conditions c (more_conditions e no_conditions))) d is one =
+        let met : matches (two p c e) d ≡ has_within c path d && has_within e path d = matches-two p c e d ∙ (λ j. meets c (whole d (is.0 j)) (leaves d (is.0 j)) && meets e (whole d (is.0 j)) (leaves d (is.0 j))) ∙ (λ j. met-bound c path d is.1.0 j && met-bound e path d is.1.1 j) in
+        (λ m. let within = both (has_within c path d) (has_within e path d) (sym met ∙ m) in in-both ends path c e d is.1.2 one within.0 within.1, λ u. let covered = both (covers c u.0) (covers e u.0) (sym (is.1.2 u.0) ∙ u.1) in met ∙ (λ j. of-a-leaf c path d u.0 covered.0 u.2 j && of-a-leaf e path d u.0 covered.1 u.2 j))
+    closed-under ends path (at_path p no_conditions) d is one = absurd is.1
+    closed-under ends path (at_path p (more_conditions c no_conditions)) d is one = absurd is.1
+    closed-under ends path (at_path p (more_conditions c (more_conditions e (more_conditions f cs)))) d is one = absurd is.1
+    closed-under ends path m d is one = absurd is
+
+    -- a document with one key matches a range with two ends where its key is between them
+    pub closed : (ends : Interval) (path : List (List ℕ)) (filter : Members) (d : List Field) → IsClosed ends path filter → HasOneKey path d → (matches filter d ≡ true) ↔ ((k : KeyTree) × (is_between ends k ≡ true) × (is_leaf_key k path d ≡ true))
+    closed ends path (more_members m no_members) d is one = closed-under ends path m d is one
+    closed ends path filter d is one = absurd is
 
     pub by_keys : (c : Condition) (path : List (List ℕ)) (d : List Field) → (has_within c path d ≡ true) ↔ ((v : Tree) × (covers c (value (canon v)) ≡ true) × (is_leaf_key (value (canon v)) path d ≡ true))
     unfolding has_within is_leaf_key leaf_values

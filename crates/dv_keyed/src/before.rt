@@ -1,18 +1,15 @@
 //! What a path sorts before a bar.
 
-ghost use Rattle.std.specs.Prelude.{◌≡◌, true, false, map, IfOk, OnOk};
+ghost use Rattle.std.specs.Prelude.{◌≡◌, true, false, IfOk, IfSome, OnOk};
+ghost use Rattle.std.specs.Ordering.{is_eq};
 ghost use Rattle.std.specs.BTreeMap.Range.{IsLeBy, IsLtBy, range_contains};
 ghost use Rattle.std.specs.Range.Bound.{IsForward};
-ghost use Rattle.dv_value.specs.Tree.{null};
-ghost use Rattle.dv_order.specs.Key.{KeyTree, key_order, no_element, value as key_of_tree};
-ghost use Rattle.dv_order.specs.Order.{canon};
-ghost use Rattle.dv_path.specs.Parts.{part};
+ghost use Rattle.dv_order.specs.Key.{KeyTree, key_order, no_element};
 ghost use Rattle.dv_path.specs.SortKey as sorting;
-ghost use Rattle.dv_keyed.specs.Inner.Ahead as defined;
-ghost use Rattle.dv_keyed.specs.Inner.Ahead.{leaf_sorted_by};
+ghost use Rattle.dv_keyed.specs.Inner.Ahead.{HaveAllAhead, HaveTriedAhead, is_until, leaf_sorted_by, null_key, stands_ahead};
 ghost use Rattle.dv_keyed.specs.Inner.Interval.{is_between, is_in_all};
-ghost use Rattle.dv_keyed.specs.Inner.Keys.{has_key};
-ghost use Rattle.dv_keyed.specs.Inner.Pairs.{IsOnlyKey, has_pair};
+ghost use Rattle.dv_keyed.specs.Inner.Keys.{refers_to};
+ghost use Rattle.dv_keyed.specs.Inner.Pairs.{has_pair};
 
 use crate::index::Index;
 use crate::interval::Interval;
@@ -20,17 +17,53 @@ use crate::pairs::Pairs;
 use dv_candidates::Path;
 use dv_match::Filter;
 use dv_order::{Key, key_of};
-use dv_path::{Direction, SortPart, sort_key};
-use dv_value::{Document, List, NoMemory, Value};
+use dv_path::Direction;
+use dv_value::{List, NoMemory, Value};
 use std::alloc::Global;
 use std::ops::Bound;
 
-/// Whether the path sorts the document before a bar, in its direction. Fails with `NoMemory` when memory runs out.
-pub fn is_ahead(document: &Document, by: &SortPart, bar: &Key) -> Result<bool, NoMemory>
-    ensures { IfOk result (λ ahead. ahead ≡ defined.is_ahead (part by.now) bar.now document.now) }
+/// What puts documents in order that a path sorts by equal keys.
+#[derive(Clone, Copy, Debug)]
+pub enum Ties {
+    /// Their `_id`s, which ascend.
+    ById,
+    /// Something else, so that a bar can't stand between them.
+    Otherwise,
+}
+
+/// A place in the order of documents that a path sorts.
+#[derive(Clone, Copy, Debug)]
+pub struct Bar<'i> {
+    /// Documents that are sorted before this key are ahead.
+    pub key: &'i Key,
+    /// Of those that are sorted by the key itself, those whose `_id`s' keys are less than this are ahead; none are if there is none.
+    pub until: Option<&'i Key>,
+}
+
+impl Bar<'_> {
+    /// Whether a document is ahead of the bar in a direction that is sorted by a key and has this `_id`'s key.
+    pub fn is_behind(&self, direction: Direction, key: &Key, id: &Key) -> bool
+        ensures { result ≡ stands_ahead direction self.now key.now id.now }
+    {
+        stands_first(direction, key, self.key) || (key == self.key && is_before(id, self.until))
+    }
+
+    /// Whether documents may be ahead of the bar in a direction that are sorted by a key.
+    fn may_be_behind(&self, direction: Direction, key: &Key) -> bool
+        ensures { result ≡ false → (id : KeyTree) → stands_ahead direction self.now key.now id ≡ false }
+    {
+        stands_first(direction, key, self.key) || (key == self.key && self.until.is_some())
+    }
+}
+
+/// Whether an `_id`'s key is less than an end, where there is one.
+fn is_before(id: &Key, until: Option<&Key>) -> bool
+    ensures { result ≡ is_until id.now until.entry }
 {
-    let key = sort_key(document, &by.path, by.direction)?;
-    Ok(stands_first(by.direction, &key, bar))
+    match until {
+        Some(until) => id < until,
+        None => false,
+    }
 }
 
 /// Whether a key stands before another in a direction.
@@ -43,47 +76,54 @@ fn stands_first(direction: Direction, key: &Key, other: &Key) -> bool
     }
 }
 
-/// In a direction, the first key after `least` `_id`s or more of those in all ranges which the filter sets, unless more than `most`
-/// come before it. Fails with `NoMemory` when memory runs out.
+/// In a direction, a bar behind `least` `_id`s of those in all ranges which the filter sets: among those under one key where ties
+/// are decided by `_id`s, else before the first key after so many, unless more than `most` come before it. Fails with `NoMemory`
+/// when memory runs out.
 pub fn bar_behind<'i>(
     alloc: Global,
     index: &'i Index,
     filter: &Filter,
     direction: Direction,
+    ties: Ties,
     least: usize,
     most: usize,
-) -> Result<Option<&'i Key>, NoMemory> {
+) -> Result<Option<Bar<'i>>, NoMemory>
+    ensures { IfOk result (λ found. IfSome found (λ bar. IfSome bar.until (λ until. ties ≡ Ties.ById))) }
+{
     let ends = Interval::of(alloc, index.path(), filter)?;
     let pairs = index.pairs().as_pairs();
-    Ok(pairs.key_behind(ends, direction, least, most))
+    Ok(pairs.bar_behind(ends, direction, ties, least, most))
 }
 
-/// Whether null is in all ranges that the filter sets under the path, and is sorted before the bar. Fails with `NoMemory` when
-/// memory runs out.
+/// Whether null is in all ranges that the filter sets under the path, and documents that are sorted by it may be ahead of the bar.
+/// Fails with `NoMemory` when memory runs out.
 pub fn is_null_ahead(
     alloc: Global,
     path: &Path,
     filter: &Filter,
     direction: Direction,
-    bar: &Key,
+    bar: &Bar<'_>,
 ) -> Result<bool, NoMemory>
-    ensures { IfOk result (λ ahead. ahead ≡ false → is_in_all (key_of_tree (canon null)) path.now filter.now ≡ true → sorting.stands_first direction (key_of_tree (canon null)) bar.now ≡ true → ⊥) }
+    ensures { IfOk result (λ ahead. ahead ≡ false → is_in_all null_key path.now filter.now ≡ true → (i : KeyTree) → stands_ahead direction bar.now null_key i ≡ false) }
 {
-    let ends = cut(Interval::of(alloc, path, filter)?, direction, bar)?;
     let null = key_of(&Value::Null)?;
+    if !bar.may_be_behind(direction, &null) {
+        return Ok(false);
+    }
+    let ends = Interval::of(alloc, path, filter)?;
     Ok(ends.contains(&null))
 }
 
-/// The `_id`s' keys of the pairs of leaves that are sorted by keys before the bar, in no order; an `_id` that has only one key may
-/// be left out, unless this is in all ranges that the filter sets. Fails with `NoMemory` when memory runs out.
+/// The `_id`s' keys of the pairs of leaves that are sorted ahead of the bar, in no order; an `_id` that has only one key may be left
+/// out, unless this is in all ranges that the filter sets. Fails with `NoMemory` when memory runs out.
 pub fn ids_ahead<'i>(
     alloc: Global,
     index: &'i Index,
     filter: &Filter,
     direction: Direction,
-    bar: &Key,
+    bar: &Bar<'_>,
 ) -> Result<Vec<&'i Key>, NoMemory>
-    ensures { IfOk result (λ ids. (k i : KeyTree) → sorting.stands_first direction k bar.now ≡ true → has_pair (leaf_sorted_by k) i index.now.pairs ≡ true → (IsOnlyKey (leaf_sorted_by k) i index.now.pairs → is_in_all (leaf_sorted_by k) index.now.path filter.now ≡ true) → has_key i (map (λ l. l.now) ids.items) ≡ true) }
+    ensures { IfOk result (λ ids. HaveTriedAhead direction bar.now (λ k. is_in_all k index.now.path filter.now) index.now.pairs ids.items) }
 {
     let pairs = index.pairs();
     let ends = Interval::of(alloc, index.path(), filter)?;
@@ -96,21 +136,33 @@ pub fn ids_ahead<'i>(
     Ok(ids)
 }
 
-/// The `_id`s' keys of the pairs of leaves that are between the ends and sorted by keys before the bar, in no order.
+/// The `_id`s' keys of the pairs of leaves that are between the ends and sorted ahead of the bar, in no order.
 fn ids_before<'i>(
     alloc: Global,
     index: &'i Pairs,
     ends: Interval,
     direction: Direction,
-    bar: &Key,
+    bar: &Bar<'_>,
 ) -> Result<Vec<&'i Key>, NoMemory>
-    ensures { IfOk result (λ ids. (k i : KeyTree) → sorting.stands_first direction k bar.now ≡ true → is_between ends (leaf_sorted_by k) ≡ true → has_pair (leaf_sorted_by k) i index.now ≡ true → has_key i (map (λ l. l.now) ids.items) ≡ true) }
+    ensures { IfOk result (λ ids. HaveAllAhead direction bar.now (is_between ends) index.now ids.items) }
 {
-    let ends = cut(ends, direction, bar)?;
+    let ends = cut(ends, direction, bar.key)?;
     let mut ids = Vec::new(alloc);
     index.add_ids_inside(ends, &mut ids)?;
+    add_tied(index, bar, &mut ids)?;
     add_empty_before(alloc, index, direction, bar, &mut ids)?;
     Ok(ids)
+}
+
+/// Adds the `_id`s' keys that stand under the bar's own key and come before its end.
+fn add_tied<'i>(index: &'i Pairs, bar: &Bar<'_>, ids: &mut Vec<&'i Key>) -> Result<(), NoMemory>
+    ensures added { OnOk result ((k i : KeyTree) → is_eq (key_order k bar.now.key.now) ≡ true → is_until i bar.now.until ≡ true → has_pair k i index.now ≡ true → refers_to ids.new.items i ≡ true) }
+    ensures kept { OnOk result ((i : KeyTree) → refers_to ids.old.items i ≡ true → refers_to ids.new.items i ≡ true) }
+{
+    match bar.until {
+        Some(until) => index.add_ids_until(bar.key, until, ids),
+        None => Ok(()),
+    }
 }
 
 /// The ends between which those of the keys stand that are before the bar in a direction. Fails where memory is wanting.
@@ -122,19 +174,19 @@ fn cut(mut ends: Interval, direction: Direction, bar: &Key) -> Result<Interval, 
     Ok(ends)
 }
 
-/// Adds the `_id`s' keys that stand under the empty array, where this is sorted before the bar: not by its own key, but by
+/// Adds the `_id`s' keys that stand under the empty array, where this may be sorted ahead of the bar: not by its own key, but by
 /// that which no value has.
 fn add_empty_before<'i>(
     alloc: Global,
     index: &'i Pairs,
     direction: Direction,
-    bar: &Key,
+    bar: &Bar<'_>,
     ids: &mut Vec<&'i Key>,
 ) -> Result<(), NoMemory>
-    ensures added { OnOk result ((i : KeyTree) → sorting.stands_first direction no_element bar.now ≡ true → has_pair (leaf_sorted_by no_element) i index.now ≡ true → has_key i (map (λ l. l.now) ids.new.items) ≡ true) }
-    ensures kept { OnOk result ((i : KeyTree) → has_key i (map (λ l. l.now) ids.old.items) ≡ true → has_key i (map (λ l. l.now) ids.new.items) ≡ true) }
+    ensures added { OnOk result ((i : KeyTree) → stands_ahead direction bar.now no_element i ≡ true → has_pair (leaf_sorted_by no_element) i index.now ≡ true → refers_to ids.new.items i ≡ true) }
+    ensures kept { OnOk result ((i : KeyTree) → refers_to ids.old.items i ≡ true → refers_to ids.new.items i ≡ true) }
 {
-    if !stands_first(direction, &Key::no_element(), bar) {
+    if !bar.may_be_behind(direction, &Key::no_element()) {
         return Ok(());
     }
     let key = key_of(&Value::Array(List::new(alloc)))?;

@@ -1,10 +1,10 @@
 //! The documents that stand under one key.
 
-ghost use Rattle.std.specs.Prelude.{◌≡◌, ◌||◌, ◌&&◌, ◌↔◌, not, [], ◌∷◌, ◌++◌, filter, map, IsTrue, IfOk, OnErr, OnOk};
+ghost use Rattle.std.specs.Prelude.{◌≡◌, ◌||◌, ◌&&◌, ◌↔◌, not, [], ◌∷◌, ◌++◌, filter, if◌then◌else◌, map, IsTrue, IfOk, OnErr, OnOk};
 ghost use Rattle.std.specs.List.{list_any};
 ghost use Rattle.std.specs.Option.{option_map};
 ghost use Rattle.std.specs.BTreeSet.{contains};
-ghost use Rattle.std.specs.Ordering.{is_eq};
+ghost use Rattle.std.specs.Ordering.{is_eq, is_lt};
 ghost use Rattle.dv_order.specs.Key.{KeyTree, key_order};
 ghost use Rattle.dv_keyed.specs.Inner.Ids.{has_in};
 ghost use Rattle.dv_keyed.specs.Inner.Ids as defined;
@@ -16,6 +16,7 @@ use std::alloc::Global;
 use std::collections::BTreeSet;
 use std::marker::Model;
 use std::mem::replace;
+use std::ops::Bound;
 
 /// How many keys may be in a list, in which each is looked at.
 const FEW: usize = 16;
@@ -113,6 +114,18 @@ impl Ids {
         }
     }
 
+    /// The one before which so many of them stand, in their order; `None` where there are no more.
+    pub(crate) fn at(&self, place: usize) -> Option<&Key> {
+        if place >= self.len() {
+            return None;
+        }
+        match &self.kept {
+            Kept::One(first) => Some(first),
+            Kept::Few(ids) => ids.iter().find(|id| count_before(ids, id) == place),
+            Kept::Many(ids) => ids.iter().nth(place),
+        }
+    }
+
     /// Adds one. Where memory is wanting, nothing changes.
     pub(crate) fn add(&mut self, id: &Key) -> Result<(), NoMemory>
         ensures ok { OnOk result ((i : KeyTree) → has_key i self.new ≡ (has_key i self.old || is_eq (key_order i id.now))) }
@@ -185,6 +198,26 @@ impl Ids {
             Kept::Many(ids) => add_all_to(found, ids),
         }
     }
+
+    /// Adds to a list those that are less than an end. Where memory is wanting, some of them are added.
+    pub(crate) fn add_until<'i>(
+        &'i self,
+        until: &Key,
+        found: &mut Vec<&'i Key>,
+    ) -> Result<(), NoMemory>
+        ensures { OnOk result (map (λ i. i.now) found.new.items ≡ map (λ i. i.now) found.old.items ++ filter (λ i. is_lt (key_order i until.now)) self.now) }
+    {
+        match &self.kept {
+            Kept::One(first) => add_if_less(found, first, until),
+            Kept::Few(ids) => add_less(found, ids, until),
+            Kept::Many(ids) => add_front(found, ids, until),
+        }
+    }
+}
+
+/// How many of the list are less than this one.
+fn count_before(ids: &[Key], id: &Key) -> usize {
+    ids.iter().filter(|other| *other < id).count()
 }
 
 /// Whether an equal one is in the list.
@@ -286,6 +319,41 @@ fn add_all_to<'i>(found: &mut Vec<&'i Key>, ids: &'i BTreeSet<Key>) -> Result<()
     ensures { OnOk result (map (λ i. i.now) found.new.items ≡ map (λ i. i.now) found.old.items ++ ids.now.keys) }
 {
     'ids: for id in ids {
+        found.push(id)?;
+    }
+    Ok(())
+}
+
+/// Adds the id to a list if it is less than an end. Where memory is wanting, nothing changes.
+fn add_if_less<'i>(found: &mut Vec<&'i Key>, id: &'i Key, until: &Key) -> Result<(), NoMemory>
+    ensures { OnOk result (map (λ i. i.now) found.new.items ≡ map (λ i. i.now) found.old.items ++ (if is_lt (key_order id.now until.now) then id.now ∷ [] else [])) }
+{
+    if id < until {
+        found.push(id)?;
+    }
+    Ok(())
+}
+
+/// Adds each of the ids to a list that is less than an end. Where memory is wanting, some of them are added.
+fn add_less<'i>(found: &mut Vec<&'i Key>, ids: &'i [Key], until: &Key) -> Result<(), NoMemory>
+    ensures { OnOk result (map (λ i. i.now) found.new.items ≡ map (λ i. i.now) found.old.items ++ filter (λ i. is_lt (key_order i until.now)) ids.now) }
+{
+    'ids: for id in ids {
+        add_if_less(found, id, until)?;
+    }
+    Ok(())
+}
+
+/// The same of the ids of a set, of which no others are looked at.
+fn add_front<'i>(
+    found: &mut Vec<&'i Key>,
+    ids: &'i BTreeSet<Key>,
+    until: &Key,
+) -> Result<(), NoMemory>
+    ensures { OnOk result (map (λ i. i.now) found.new.items ≡ map (λ i. i.now) found.old.items ++ filter (λ i. is_lt (key_order i until.now)) ids.now.keys) }
+{
+    let end = Bound::Excluded(until.try_clone()?);
+    'ids: for id in ids.range((Bound::Unbounded, end)) {
         found.push(id)?;
     }
     Ok(())

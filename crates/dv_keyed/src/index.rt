@@ -1,11 +1,11 @@
 //! An index: a name, a path, and the pairs of its keys.
 
-ghost use Rattle.std.specs.Prelude.{◌≡◌, ◌&&◌, ◌||◌, true, false, map, not, OnErr, OnOk};
+ghost use Rattle.std.specs.Prelude.{◌≡◌, ◌&&◌, true, false, not, OnErr, OnOk};
 ghost use Rattle.std.specs.Ordering.{is_eq};
 ghost use Rattle.dv_order.specs.Key.{KeyTree, key_order};
 ghost use Rattle.dv_keyed.specs.Inner.Index.{form_of};
-ghost use Rattle.dv_keyed.specs.Inner.Keys.{has_key};
-ghost use Rattle.dv_keyed.specs.Inner.Pairs.{has_pair};
+ghost use Rattle.dv_keyed.specs.Inner.Keys.{has_key, refers_to};
+ghost use Rattle.dv_keyed.specs.Inner.Pairs.{AddsPairs, has_pair};
 
 use crate::keys::Keys;
 use crate::multi_index::MultiIndex;
@@ -79,9 +79,9 @@ impl Index {
     /// the pairs are those that there were.
     pub fn add(&mut self, keys: &[&Key], id: &Key, held: &Keys) -> Result<(), NoMemory>
         requires held { (k : KeyTree) → has_pair k id.now self.old.pairs ≡ true → has_key k held.now ≡ true }
-        requires absent { (k : KeyTree) → has_key k (map (λ l. l.now) keys.now) ≡ true → has_pair k id.now self.old.pairs ≡ false }
+        requires absent { (k : KeyTree) → refers_to keys.now k ≡ true → has_pair k id.now self.old.pairs ≡ false }
         ensures form { form_of self.new ≡ form_of self.old }
-        ensures ok { OnOk result ((k i : KeyTree) → has_pair k i self.new.pairs ≡ (has_pair k i self.old.pairs || (has_key k (map (λ l. l.now) keys.now) && is_eq (key_order i id.now)))) }
+        ensures ok { OnOk result (AddsPairs (refers_to keys.now) id.now self.old.pairs self.new.pairs) }
         ensures err { OnErr result ((k i : KeyTree) → has_pair k i self.new.pairs ≡ has_pair k i self.old.pairs) }
     {
         self.pairs.add_fresh(keys, id, held)
@@ -90,9 +90,9 @@ impl Index {
     /// Takes out the pair of each key, if it is there, of an `_id` that then has no keys except those that are left. Takes no
     /// memory.
     pub fn take_out(&mut self, keys: &[&Key], id: &Key, left: &Keys)
-        requires { (k : KeyTree) → (has_pair k id.now self.old.pairs && not (has_key k (map (λ l. l.now) keys.now))) ≡ true → has_key k left.now ≡ true }
+        requires { (k : KeyTree) → (has_pair k id.now self.old.pairs && not (refers_to keys.now k)) ≡ true → has_key k left.now ≡ true }
         ensures form { form_of self.new ≡ form_of self.old }
-        ensures pairs { (k i : KeyTree) → has_pair k i self.new.pairs ≡ (has_pair k i self.old.pairs && not (has_key k (map (λ l. l.now) keys.now) && is_eq (key_order i id.now))) }
+        ensures pairs { (k i : KeyTree) → has_pair k i self.new.pairs ≡ (has_pair k i self.old.pairs && not (refers_to keys.now k && is_eq (key_order i id.now))) }
     {
         self.pairs.take_out_each(keys, id, left);
     }

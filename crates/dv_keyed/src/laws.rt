@@ -1,19 +1,19 @@
 //! What holds of keys, bounds and plans, each the contract of a function that does nothing.
 
-ghost use Rattle.std.specs.Prelude.{◌≡◌, ◌↔◌, ◌∷◌, [], ℕ, pos, false, true, codes, slice_get, List, Some};
-ghost use Rattle.std.specs.Ordering.{is_eq};
+ghost use Rattle.std.specs.Prelude.{◌≡◌, ◌↔◌, ◌∷◌, [], ℕ, pos, false, true, codes, List, Some};
 ghost use Rattle.dv_value.specs.Short.{doc, int, list, one};
 ghost use Rattle.dv_value.specs.Tree.{Field, Tree, int64, null};
 ghost use Rattle.dv_match.specs.Filter.{Condition, Members};
 ghost use Rattle.dv_match.specs.Match.{matches};
-ghost use Rattle.dv_order.specs.Key.{KeyTree, key_order, value};
+ghost use Rattle.dv_order.specs.Key.{KeyTree, value};
 ghost use Rattle.dv_order.specs.Order.{canon};
 ghost use Rattle.dv_candidates.specs.Candidates.{Candidate, or_null};
 ghost use Rattle.dv_path.specs.LeafKeys.{is_leaf_key};
 ghost use Rattle.dv_keyed.specs.Choice.{chosen};
-ghost use Rattle.dv_keyed.specs.Inner.Decided.{is_one_condition};
+ghost use Rattle.dv_keyed.specs.Inner.Decided.{HasOneKey, IsAnswered, IsClosed, IsDecided, IsOnlyLeaf, is_one_condition};
 ghost use Rattle.dv_keyed.specs.Inner.Examples.{has_key_of};
-ghost use Rattle.dv_keyed.specs.Inner.Interval.{is_in_all};
+ghost use Rattle.dv_keyed.specs.Inner.Interval.{is_between, is_in_all};
+ghost use Rattle.dv_keyed.specs.declared.interval.Interval.{Interval};
 ghost use Rattle.dv_keyed.specs.Within.{has_within, is_within};
 ghost use Rattle.dv_keyed.specs.Inner.Within.{covers};
 
@@ -21,13 +21,13 @@ ghost use Rattle.dv_keyed.specs.Inner.Within.{covers};
 /// missed.
 #[tactic(auto, using(crate::proofs::Sound::planned))]
 pub fn what_matches_is_in_the_bounds()
-    ensures { (filter : Members) (paths : List (List (List ℕ))) (place : ℕ) (bounds : Condition) → chosen filter paths ≡ Some (place, bounds) → (path : List (List ℕ)) × (slice_get paths place ≡ Some path) × ((d : List Field) → matches filter d ≡ true → has_within bounds path d ≡ true) }
+    ensures { (filter : Members) (paths : List (List (List ℕ))) (place : ℕ) (bounds : Condition) → chosen filter paths ≡ Some (place, bounds) → IsAnswered filter paths place bounds }
 {}
 
 /// What matches is tried: if a document that matches a filter has only one key under a path, this key is in all bounds that the
 /// filter's top conjunction sets under the path.
 pub fn an_only_key_is_in_all_bounds()
-    ensures { (filter : Members) (path : List (List ℕ)) (d : List Field) (v : Tree) → ((l : KeyTree) → is_leaf_key l path d ≡ true → is_eq (key_order l (value (canon v))) ≡ true) → matches filter d ≡ true → is_in_all (value (canon v)) path filter ≡ true }
+    ensures { (filter : Members) (path : List (List ℕ)) (d : List Field) (v : Tree) → IsOnlyLeaf (value (canon v)) path d → matches filter d ≡ true → is_in_all (value (canon v)) path filter ≡ true }
 {
     dv_order::laws::keys_stand_as_their_values();
     dv_order::laws::equal_is_same_but_for_widths();
@@ -53,8 +53,17 @@ pub fn a_key_in_the_bounds_is_of_a_leaf_there()
 /// matches.
 #[tactic(auto, using(crate::proofs::Sound::decided))]
 pub fn one_condition_is_decided_by_its_bounds()
-    ensures { (filter : Members) (paths : List (List (List ℕ))) (place : ℕ) (bounds : Condition) (path : List (List ℕ)) (d : List Field) → is_one_condition filter ≡ true → chosen filter paths ≡ Some (place, bounds) → slice_get paths place ≡ Some path → matches filter d ≡ has_within bounds path d }
+    ensures { (filter : Members) (paths : List (List (List ℕ))) (place : ℕ) (bounds : Condition) (path : List (List ℕ)) (d : List Field) → is_one_condition filter ≡ true → IsDecided filter paths place bounds path d }
 {}
+
+/// A document that has only one key matches a range with two ends exactly if its key is between them; one without keys doesn't.
+pub fn a_closed_range_is_decided_by_its_ends()
+    ensures { (ends : Interval) (path : List (List ℕ)) (filter : Members) (d : List Field) → IsClosed ends path filter → HasOneKey path d →
+        (matches filter d ≡ true) ↔ ((k : KeyTree) × (is_between ends k ≡ true) × (is_leaf_key k path d ≡ true)) }
+{
+    dv_order::laws::keys_stand_as_their_values();
+    dv_order::laws::equal_is_same_but_for_widths();
+}
 
 /// A candidate is in the bounds exactly if its key is.
 pub fn keys_are_in_the_bounds_of_their_values()

@@ -3,6 +3,7 @@
 
 mod before;
 mod bounds;
+mod closed;
 mod ids;
 mod index;
 mod interval;
@@ -17,8 +18,9 @@ mod trial;
 mod tried;
 mod within;
 
-pub use before::{bar_behind, ids_ahead, is_ahead, is_null_ahead};
+pub use before::{Bar, Ties, bar_behind, ids_ahead, is_null_ahead};
 pub use bounds::ends_within;
+pub use closed::closed_range;
 pub use index::{Index, NewIndex};
 pub use interval::Interval;
 pub use key_lists::{in_order, keys_of_each, lent};
@@ -28,5 +30,5 @@ pub use multi_index::MultiIndex;
 pub use pairs::Pairs;
 pub use plan::{Bounds, Plan, Planner, is_decided, same_path};
 pub use trial::{Moved, Trial};
-pub use tried::ids_tried;
+pub use tried::{ids_between, ids_tried};
 pub use within::ids_within;

@@ -1,12 +1,12 @@
 //! Indexes, by which the documents are found that have a key.
 
-ghost use Rattle.std.specs.Prelude.{◌≡◌, ◌≤◌, ◌||◌, ◌&&◌, true, false, not, [], length, map, OnErr, OnOk, IfOk};
+ghost use Rattle.std.specs.Prelude.{◌≡◌, ◌≤◌, ◌||◌, ◌&&◌, true, false, not, [], length, OnErr, OnOk, IfOk};
 ghost use Rattle.std.specs.Ordering.{is_eq};
 ghost use Rattle.std.specs.BTreeMap.Range.{IsLeBy, IsLtBy};
 ghost use Rattle.std.specs.Range.Bound.{IsForward};
 ghost use Rattle.dv_order.specs.Key.{KeyTree, key_order};
-ghost use Rattle.dv_keyed.specs.Inner.Keys.{has_key};
-ghost use Rattle.dv_keyed.specs.Inner.Pairs.{IsOnlyKey, has_pair, is_under_another};
+ghost use Rattle.dv_keyed.specs.Inner.Keys.{has_key, refers_to};
+ghost use Rattle.dv_keyed.specs.Inner.Pairs.{AddsPairs, IsOnlyKey, has_pair, is_under_another};
 
 use crate::ids::Ids;
 use crate::keys::Keys;
@@ -82,9 +82,9 @@ impl MultiIndex {
         id: &Key,
         held: &Keys,
     ) -> Result<(), NoMemory>
-        requires absent { (k : KeyTree) → has_key k (map (λ l. l.now) fresh.now) ≡ true → has_pair k id.now self.old ≡ false }
+        requires absent { (k : KeyTree) → refers_to fresh.now k ≡ true → has_pair k id.now self.old ≡ false }
         requires held { (k : KeyTree) → has_pair k id.now self.old ≡ true → has_key k held.now ≡ true }
-        ensures ok { OnOk result ((k i : KeyTree) → has_pair k i self.new ≡ (has_pair k i self.old || (has_key k (map (λ l. l.now) fresh.now) && is_eq (key_order i id.now)))) }
+        ensures ok { OnOk result (AddsPairs (refers_to fresh.now) id.now self.old self.new) }
         ensures err { OnErr result ((k i : KeyTree) → has_pair k i self.new ≡ has_pair k i self.old) }
     {
         if fresh.is_empty() {
@@ -110,8 +110,8 @@ impl MultiIndex {
     /// Takes out the pair of each key, where it is there, of an `_id` that then has no keys but those that are left. Takes no
     /// memory.
     pub(crate) fn take_out_each(&mut self, keys: &[&Key], id: &Key, left: &Keys)
-        requires { (k : KeyTree) → (has_pair k id.now self.old && not (has_key k (map (λ l. l.now) keys.now))) ≡ true → has_key k left.now ≡ true }
-        ensures { (k i : KeyTree) → has_pair k i self.new ≡ (has_pair k i self.old && not (has_key k (map (λ l. l.now) keys.now) && is_eq (key_order i id.now))) }
+        requires { (k : KeyTree) → (has_pair k id.now self.old && not (refers_to keys.now k)) ≡ true → has_key k left.now ≡ true }
+        ensures { (k i : KeyTree) → has_pair k i self.new ≡ (has_pair k i self.old && not (refers_to keys.now k && is_eq (key_order i id.now))) }
     {
         if keys.is_empty() {
             return;
@@ -161,10 +161,17 @@ impl MultiIndex {
         &self.pairs
     }
 
+    /// Whether an `_id` may have several keys. Takes no memory.
+    pub fn has_several(&self) -> bool
+        ensures { result ≡ false → (k i : KeyTree) → has_pair k i self.now ≡ true → IsOnlyKey k i self.now }
+    {
+        !self.several.is_empty()
+    }
+
     /// Adds to a list the `_id`s' keys that have several keys: then each is there that is there if its key is the only one.
     /// Where memory is wanting, some of them are added.
     pub(crate) fn add_several<'i>(&'i self, ids: &mut Vec<&'i Key>) -> Result<(), NoMemory>
-        ensures { OnOk result ((k i : KeyTree) → has_pair k i self.now ≡ true → (IsOnlyKey k i self.now → has_key i (map (λ l. l.now) ids.old.items) ≡ true) → has_key i (map (λ l. l.now) ids.new.items) ≡ true) }
+        ensures { OnOk result ((k i : KeyTree) → has_pair k i self.now ≡ true → (IsOnlyKey k i self.now → refers_to ids.old.items i ≡ true) → refers_to ids.new.items i ≡ true) }
     {
         self.several.add_to(ids)
     }

@@ -1,19 +1,21 @@
 //! Sets of pairs of a key and an `_id`, by which the documents are found that have a key.
 
-ghost use Rattle.std.specs.Prelude.{◌≡◌, ◌||◌, ◌&&◌, true, false, not, [], map, filter, OnErr, OnOk, IfOk};
+ghost use Rattle.std.specs.Prelude.{◌≡◌, ◌||◌, ◌&&◌, true, false, not, [], map, filter, OnErr, OnOk, IfOk, IfSome};
 ghost use Rattle.std.specs.BTreeMap.{IsFromIterResult};
 ghost use Rattle.std.specs.Iterator.{IsFinite};
 ghost use Rattle.std.specs.List.{list_any};
 ghost use Rattle.std.specs.List.Sorted.{IsStrictlySortedBy};
 ghost use Rattle.std.specs.Map.{keys_of};
-ghost use Rattle.std.specs.Ordering.{is_eq};
+ghost use Rattle.std.specs.Ordering.{is_eq, is_lt};
 ghost use Rattle.std.specs.BTreeMap.Range.{IsLeBy, IsLtBy, range_contains};
 ghost use Rattle.std.specs.Range.Bound.{IsForward};
 ghost use Rattle.dv_order.specs.Key.{KeyTree, key_order};
+ghost use Rattle.dv_keyed.specs.Inner.Decided.{HasKeyBetween};
 ghost use Rattle.dv_keyed.specs.Inner.Interval.{is_between};
-ghost use Rattle.dv_keyed.specs.Inner.Keys.{has_key};
-ghost use Rattle.dv_keyed.specs.Inner.Pairs.{has_another_at, has_id, has_pair, is_under_another};
+ghost use Rattle.dv_keyed.specs.Inner.Keys.{has_key, refers_to};
+ghost use Rattle.dv_keyed.specs.Inner.Pairs.{AddsPairs, AreSameBut, has_another_at, has_id, has_pair, is_under_another};
 
+use crate::before::{Bar, Ties};
 use crate::ids::Ids;
 use crate::interval::Interval;
 use crate::keys::Keys;
@@ -73,8 +75,8 @@ impl Pairs {
 
     /// Adds a pair for each key, none of which is there. Where memory is wanting, the pairs are those that there were.
     pub(crate) fn add_fresh(&mut self, fresh: &[&Key], id: &Key) -> Result<(), NoMemory>
-        requires { (k : KeyTree) → has_key k (map (λ l. l.now) fresh.now) ≡ true → has_pair k id.now self.old ≡ false }
-        ensures ok { OnOk result ((k i : KeyTree) → has_pair k i self.new ≡ (has_pair k i self.old || (has_key k (map (λ l. l.now) fresh.now) && is_eq (key_order i id.now)))) }
+        requires { (k : KeyTree) → refers_to fresh.now k ≡ true → has_pair k id.now self.old ≡ false }
+        ensures ok { OnOk result (AddsPairs (refers_to fresh.now) id.now self.old self.new) }
         ensures err { OnErr result ((k i : KeyTree) → has_pair k i self.new ≡ has_pair k i self.old) }
     {
         match self.add_each(fresh, id) {
@@ -148,10 +150,26 @@ impl Pairs {
         key: &Key,
         ids: &mut Vec<&'i Key>,
     ) -> Result<(), NoMemory>
-        ensures { OnOk result ((i : KeyTree) → has_key i (map (λ l. l.now) ids.new.items) ≡ (has_key i (map (λ l. l.now) ids.old.items) || has_pair key.now i self.now)) }
+        ensures { OnOk result ((i : KeyTree) → refers_to ids.new.items i ≡ (refers_to ids.old.items i || has_pair key.now i self.now)) }
     {
         match self.entries.get(key) {
             Some(found) => found.add_to(ids),
+            None => Ok(()),
+        }
+    }
+
+    /// Adds to a list the `_id`s' keys that stand under a key and are less than an end. Where memory is wanting, some of them
+    /// are added.
+    pub(crate) fn add_ids_until<'i>(
+        &'i self,
+        key: &Key,
+        until: &Key,
+        ids: &mut Vec<&'i Key>,
+    ) -> Result<(), NoMemory>
+        ensures { OnOk result ((i : KeyTree) → refers_to ids.new.items i ≡ (refers_to ids.old.items i || (has_pair key.now i self.now && is_lt (key_order i until.now)))) }
+    {
+        match self.entries.get(key) {
+            Some(found) => found.add_until(until, ids),
             None => Ok(()),
         }
     }
@@ -165,7 +183,7 @@ impl Pairs {
         ids: &mut Vec<&'i Key>,
     ) -> Result<(), NoMemory>
         requires { IsForward (IsLeBy key_order) (IsLtBy key_order) low high }
-        ensures { OnOk result ((i : KeyTree) → has_key i (map (λ l. l.now) ids.new.items) ≡ (has_key i (map (λ l. l.now) ids.old.items) || has_id i (filter (λ p. range_contains key_order low high p.0) self.now))) }
+        ensures { OnOk result ((i : KeyTree) → refers_to ids.new.items i ≡ (refers_to ids.old.items i || has_id i (filter (λ p. range_contains key_order low high p.0) self.now))) }
     {
         for (_, found) in self.entries.range((low, high)) {
             found.add_to(ids)?;
@@ -180,7 +198,8 @@ impl Pairs {
         ends: Interval,
         ids: &mut Vec<&'i Key>,
     ) -> Result<(), NoMemory>
-        ensures { OnOk result ((k i : KeyTree) → is_between ends k ≡ true → has_pair k i self.now ≡ true → has_key i (map (λ l. l.now) ids.new.items) ≡ true) }
+        ensures all { OnOk result ((k i : KeyTree) → is_between ends k ≡ true → has_pair k i self.now ≡ true → refers_to ids.new.items i ≡ true) }
+        ensures only { OnOk result ((i : KeyTree) → refers_to ids.old.items i ≡ false → refers_to ids.new.items i ≡ true → HasKeyBetween ends i self.now) }
     {
         if !ends.is_forward() {
             return Ok(());
@@ -204,23 +223,26 @@ impl Pairs {
         false
     }
 
-    /// In a direction, the first key behind `least` `_id`s or more of those between two ends, unless more than `most` stand
-    /// before it. No more keys are looked at.
-    pub(crate) fn key_behind(
+    /// In a direction, a bar behind `least` `_id`s of those between two ends, unless more than `most` stand before it. No more keys
+    /// are looked at.
+    pub(crate) fn bar_behind(
         &self,
         ends: Interval,
         direction: Direction,
+        ties: Ties,
         least: usize,
         most: usize,
-    ) -> Option<&Key> {
+    ) -> Option<Bar<'_>>
+        ensures { IfSome result (λ bar. IfSome bar.until (λ until. ties ≡ Ties.ById)) }
+    {
         if !ends.is_forward() {
             return None;
         }
         let Interval { low, high } = ends;
         let entries = self.entries.range((low, high));
         match direction {
-            Direction::Ascending => first_behind(entries, least, most),
-            Direction::Descending => first_behind(entries.rev(), least, most),
+            Direction::Ascending => first_behind(entries, ties, least, most),
+            Direction::Descending => first_behind(entries.rev(), ties, least, most),
         }
     }
 
@@ -245,8 +267,8 @@ impl Pairs {
 
     /// Adds a pair for each key. Where memory is wanting, some of them are added.
     pub(crate) fn add_each(&mut self, keys: &[&Key], id: &Key) -> Result<(), NoMemory>
-        ensures ok { OnOk result ((k i : KeyTree) → has_pair k i self.new ≡ (has_pair k i self.old || (has_key k (map (λ l. l.now) keys.now) && is_eq (key_order i id.now)))) }
-        ensures err { OnErr result ((k i : KeyTree) → (has_pair k i self.new && not (has_key k (map (λ l. l.now) keys.now) && is_eq (key_order i id.now))) ≡ (has_pair k i self.old && not (has_key k (map (λ l. l.now) keys.now) && is_eq (key_order i id.now)))) }
+        ensures ok { OnOk result (AddsPairs (refers_to keys.now) id.now self.old self.new) }
+        ensures err { OnErr result (AreSameBut (refers_to keys.now) id.now self.old self.new) }
     {
         for key in keys {
             self.add_pair(key, id)?;
@@ -256,7 +278,7 @@ impl Pairs {
 
     /// Takes out the pair of each key, where it is there. Takes no memory.
     pub(crate) fn take_out_each(&mut self, keys: &[&Key], id: &Key)
-        ensures { (k i : KeyTree) → has_pair k i self.new ≡ (has_pair k i self.old && not (has_key k (map (λ l. l.now) keys.now) && is_eq (key_order i id.now))) }
+        ensures { (k i : KeyTree) → has_pair k i self.new ≡ (has_pair k i self.old && not (refers_to keys.now k && is_eq (key_order i id.now))) }
     {
         for key in keys {
             self.take_out_pair(key, id);
@@ -297,13 +319,16 @@ impl Pairs {
     }
 }
 
-/// The first key behind `least` `_id`s or more, unless more than `most` stand before it.
+/// A bar behind `least` `_id`s: among those under one key, or before the first key behind so many or more, unless more than `most`
+/// stand before this.
 fn first_behind<'i, I: Iterator<Item = (&'i Key, &'i Ids)>>(
     entries: I,
+    ties: Ties,
     least: usize,
     most: usize,
-) -> Option<&'i Key>
+) -> Option<Bar<'i>>
     requires { I.can_next entries × IsFinite (I.remaining entries) }
+    ensures { IfSome result (λ bar. IfSome bar.until (λ until. ties ≡ Ties.ById)) }
 {
     if least > most {
         return None;
@@ -314,11 +339,25 @@ fn first_behind<'i, I: Iterator<Item = (&'i Key, &'i Ids)>>(
             return None;
         }
         if count >= least {
-            return Some(key);
+            return Some(Bar { key, until: None });
+        }
+        let until = end_behind(ids, ties, least - count);
+        if until.is_some() {
+            return Some(Bar { key, until });
         }
         count = count.saturating_add(ids.len());
     }
     None
+}
+
+/// Of `_id`s under one key, that before which so many stand, where ties are decided by them and there are more.
+fn end_behind(ids: &Ids, ties: Ties, many: usize) -> Option<&Key>
+    ensures { IfSome result (λ until. ties ≡ Ties.ById) }
+{
+    match ties {
+        Ties::ById => ids.at(many),
+        Ties::Otherwise => None,
+    }
 }
 
 /// The same entries, in nodes that are filled one after the other. Fails where memory is wanting.

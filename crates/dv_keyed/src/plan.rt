@@ -35,7 +35,7 @@ pub enum Plan<'f> {
 
 /// What is looked for in a filter.
 #[derive(Clone, Copy)]
-enum Kind {
+enum ConditionKind {
     /// `$eq` and `$in`.
     Point,
     /// `$gt`, `$gte`, `$lt` and `$lte`.
@@ -54,15 +54,15 @@ impl Planner {
     pub fn choose<'f>(filter: &'f Filter, indexes: &[Index]) -> Plan<'f>
         ensures { plan_seen result ≡ chosen filter.now (map (λ i. i.path) indexes.now) }
     {
-        match first_index(filter, indexes, Kind::Point) {
-            Plan::Scan => first_index(filter, indexes, Kind::Bound),
+        match first_index(filter, indexes, ConditionKind::Point) {
+            Plan::Scan => first_index(filter, indexes, ConditionKind::Bound),
             found => found,
         }
     }
 }
 
 /// The first index whose path stands in the top conjunction under a condition of the kind, with the first such condition.
-fn first_index<'f>(filter: &'f Filter, indexes: &[Index], kind: Kind) -> Plan<'f>
+fn first_index<'f>(filter: &'f Filter, indexes: &[Index], kind: ConditionKind) -> Plan<'f>
     ensures { plan_seen result ≡ first_place (has_kind kind) filter.now 0 (map (λ i. i.path) indexes.now) }
 {
     for (place, index) in indexes.iter().enumerate() {
@@ -74,7 +74,7 @@ fn first_index<'f>(filter: &'f Filter, indexes: &[Index], kind: Kind) -> Plan<'f
 }
 
 #[cycle(conjunction)]
-fn first_in_filter<'f>(filter: &'f Filter, path: &Path, kind: Kind) -> Option<Bounds<'f>>
+fn first_in_filter<'f>(filter: &'f Filter, path: &Path, kind: ConditionKind) -> Option<Bounds<'f>>
     ensures { option_map bounds_seen result ≡ first_in (has_kind kind) path.now filter.now }
 {
     for member in filter.members() {
@@ -87,7 +87,7 @@ fn first_in_filter<'f>(filter: &'f Filter, path: &Path, kind: Kind) -> Option<Bo
 
 #[cycle(conjunction)]
 #[tactic(auto, unfolding(crate::specs::Choice::first_in_member))]
-fn first_in_part<'f>(part: &'f Member, path: &Path, kind: Kind) -> Option<Bounds<'f>>
+fn first_in_part<'f>(part: &'f Member, path: &Path, kind: ConditionKind) -> Option<Bounds<'f>>
     ensures { option_map bounds_seen result ≡ first_in_member (has_kind kind) path.now (member part.now) }
 {
     match part {
@@ -103,7 +103,11 @@ fn first_in_part<'f>(part: &'f Member, path: &Path, kind: Kind) -> Option<Bounds
 }
 
 #[cycle(conjunction)]
-fn first_in_filters<'f>(filters: &'f Filters, path: &Path, kind: Kind) -> Option<Bounds<'f>>
+fn first_in_filters<'f>(
+    filters: &'f Filters,
+    path: &Path,
+    kind: ConditionKind,
+) -> Option<Bounds<'f>>
     ensures { option_map bounds_seen result ≡ first_in_all (has_kind kind) path.now filters.now }
 {
     for filter in filters.as_slice() {
@@ -114,7 +118,7 @@ fn first_in_filters<'f>(filters: &'f Filters, path: &Path, kind: Kind) -> Option
     None
 }
 
-fn first_of_kind<'f>(conditions: &'f Conditions, kind: Kind) -> Option<Bounds<'f>>
+fn first_of_kind<'f>(conditions: &'f Conditions, kind: ConditionKind) -> Option<Bounds<'f>>
     ensures { option_map bounds_seen result ≡ first_of (has_kind kind) conditions.now }
 {
     for condition in conditions.as_slice() {
@@ -126,13 +130,15 @@ fn first_of_kind<'f>(conditions: &'f Conditions, kind: Kind) -> Option<Bounds<'f
 }
 
 /// The bounds that a condition of the kind sets.
-fn bounds_of<'f>(wanted: &'f Condition, kind: Kind) -> Option<Bounds<'f>>
+fn bounds_of<'f>(wanted: &'f Condition, kind: ConditionKind) -> Option<Bounds<'f>>
     ensures { option_map bounds_seen result ≡ (if has_kind kind (condition wanted.now) then Some (condition wanted.now) else None) }
 {
     match (kind, wanted) {
-        (Kind::Point, Condition::Eq(value)) => Some(Bounds::Equal(value)),
-        (Kind::Point, Condition::In(choices)) => Some(Bounds::Among(choices)),
-        (Kind::Bound, Condition::Bound(range, value)) => Some(Bounds::Within(*range, value)),
+        (ConditionKind::Point, Condition::Eq(value)) => Some(Bounds::Equal(value)),
+        (ConditionKind::Point, Condition::In(choices)) => Some(Bounds::Among(choices)),
+        (ConditionKind::Bound, Condition::Bound(range, value)) => Some(Bounds::Within(
+            *range, value,
+        )),
         _ => None,
     }
 }

@@ -1,10 +1,8 @@
 //! What an index would be after documents are replaced.
 
 ghost use Rattle.std.specs.Prelude.{◌≡◌, ◌++◌, ◌||◌, ◌&&◌, [], not, OnOk};
-ghost use Rattle.std.specs.Ordering.{is_eq};
-ghost use Rattle.dv_order.specs.Key.{KeyTree, key_order};
 ghost use Rattle.dv_keyed.specs.Inner.Keys.{has_key};
-ghost use Rattle.dv_keyed.specs.Inner.Pairs.{has_pair, is_under_another, pairs_without};
+ghost use Rattle.dv_keyed.specs.Inner.Pairs.{AddsPairs, is_under_another, pairs_without};
 
 use crate::index::Index;
 use crate::keys::{Keys, keys_without};
@@ -52,8 +50,8 @@ impl Trial {
     /// Puts the new keys in place of the old ones; keys that stay are in neither set. If memory runs out, it is left with some of
     /// them.
     pub fn exchange(&mut self, alloc: Global, moved: &Moved) -> Result<(), NoMemory>
-        ensures gone { OnOk result ((k i : KeyTree) → has_pair k i self.new.gone ≡ (has_pair k i self.old.gone || ((has_key k moved.now.old && not (has_key k moved.now.new)) && is_eq (key_order i moved.now.id)))) }
-        ensures come { OnOk result ((k i : KeyTree) → has_pair k i self.new.come ≡ (has_pair k i self.old.come || ((has_key k moved.now.new && not (has_key k moved.now.old)) && is_eq (key_order i moved.now.id)))) }
+        ensures gone { OnOk result (AddsPairs (λ k. has_key k moved.now.old && not (has_key k moved.now.new)) moved.now.id self.old.gone self.new.gone) }
+        ensures come { OnOk result (AddsPairs (λ k. has_key k moved.now.new && not (has_key k moved.now.old)) moved.now.id self.old.come self.new.come) }
     {
         let lost = keys_without(alloc, &moved.old, &moved.new)?;
         let gained = keys_without(alloc, &moved.new, &moved.old)?;

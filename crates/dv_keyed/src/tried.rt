@@ -1,10 +1,11 @@
 //! The `_id`s of documents that may match a filter.
 
-ghost use Rattle.std.specs.Prelude.{◌≡◌, true, map, IfOk};
+ghost use Rattle.std.specs.Prelude.{◌≡◌, ◌↔◌, true, IfOk};
 ghost use Rattle.dv_order.specs.Key.{KeyTree};
+ghost use Rattle.dv_keyed.specs.Inner.Decided.{HasKeyBetween};
 ghost use Rattle.dv_keyed.specs.Inner.Interval.{is_in_all};
-ghost use Rattle.dv_keyed.specs.Inner.Keys.{has_key};
-ghost use Rattle.dv_keyed.specs.Inner.Pairs.{IsOnlyKey, has_pair};
+ghost use Rattle.dv_keyed.specs.Inner.Keys.{refers_to};
+ghost use Rattle.dv_keyed.specs.Inner.Pairs.{HaveAll, HaveTried};
 ghost use Rattle.dv_keyed.specs.Inner.View.{bounds_seen};
 ghost use Rattle.dv_keyed.specs.Inner.Within.{covers};
 
@@ -27,7 +28,7 @@ pub fn ids_tried<'i>(
     bounds: Bounds<'_>,
     filter: &Filter,
 ) -> Result<Vec<&'i Key>, NoMemory>
-    ensures { IfOk result (λ ids. (k i : KeyTree) → covers (bounds_seen bounds.entry) k ≡ true → has_pair k i index.now.pairs ≡ true → (IsOnlyKey k i index.now.pairs → is_in_all k index.now.path filter.now ≡ true) → has_key i (map (λ l. l.now) ids.items) ≡ true) }
+    ensures { IfOk result (λ ids. HaveTried (covers (bounds_seen bounds.entry)) (λ k. is_in_all k index.now.path filter.now) index.now.pairs ids.items) }
 {
     let pairs = index.pairs();
     if let Bounds::Within(range, value) = bounds {
@@ -41,13 +42,22 @@ pub fn ids_tried<'i>(
     ids_within(alloc, pairs.as_pairs(), bounds)
 }
 
+/// The `_id`s' keys of the pairs whose keys stand between two ends, in no order. Fails with `NoMemory` when memory runs out.
+pub fn ids_between(alloc: Global, index: &Index, ends: Interval) -> Result<Vec<&Key>, NoMemory>
+    ensures { IfOk result (λ ids. (i : KeyTree) → (refers_to ids.items i ≡ true) ↔ HasKeyBetween ends i index.now.pairs) }
+{
+    let mut ids = Vec::new(alloc);
+    index.pairs().as_pairs().add_ids_inside(ends, &mut ids)?;
+    Ok(ids)
+}
+
 /// The `_id`s' keys of the pairs whose keys are in all ranges that the filter sets.
 fn ids_in_all<'i>(
     alloc: Global,
     index: &'i Index,
     filter: &Filter,
 ) -> Result<Vec<&'i Key>, NoMemory>
-    ensures { IfOk result (λ ids. (k i : KeyTree) → is_in_all k index.now.path filter.now ≡ true → has_pair k i index.now.pairs ≡ true → has_key i (map (λ l. l.now) ids.items) ≡ true) }
+    ensures { IfOk result (λ ids. HaveAll (λ k. is_in_all k index.now.path filter.now) index.now.pairs ids.items) }
 {
     let ends = Interval::of(alloc, index.path(), filter)?;
     let mut ids = Vec::new(alloc);

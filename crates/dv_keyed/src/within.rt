@@ -6,8 +6,8 @@ ghost use Rattle.dv_value.specs.View.{tree};
 ghost use Rattle.dv_match.specs.Filter.{among, equal, in_range};
 ghost use Rattle.dv_order.specs.Key.{KeyTree};
 ghost use Rattle.dv_keyed.specs.Choice.{is_point};
-ghost use Rattle.dv_keyed.specs.Inner.Pairs.{has_pair};
-ghost use Rattle.dv_keyed.specs.Inner.Keys.{has_key};
+ghost use Rattle.dv_keyed.specs.Inner.Pairs.{HaveAll, has_pair};
+ghost use Rattle.dv_keyed.specs.Inner.Keys.{refers_to};
 ghost use Rattle.dv_keyed.specs.Inner.Decided.{HasKeyWithin};
 ghost use Rattle.dv_keyed.specs.Inner.Within.{covers};
 ghost use Rattle.dv_keyed.specs.Inner.View.{bounds_seen};
@@ -28,8 +28,8 @@ pub fn ids_within<'i>(
     index: &'i Pairs,
     bounds: Bounds<'_>,
 ) -> Result<Vec<&'i Key>, NoMemory>
-    ensures all { IfOk result (λ ids. (k i : KeyTree) → covers (bounds_seen bounds.entry) k ≡ true → has_pair k i index.now ≡ true → has_key i (map (λ l. l.now) ids.items) ≡ true) }
-    ensures only { IfOk result (λ ids. is_point (bounds_seen bounds.entry) ≡ true → (i : KeyTree) → has_key i (map (λ l. l.now) ids.items) ≡ true → HasKeyWithin (bounds_seen bounds.entry) i index.now) }
+    ensures all { IfOk result (λ ids. HaveAll (covers (bounds_seen bounds.entry)) index.now ids.items) }
+    ensures only { IfOk result (λ ids. is_point (bounds_seen bounds.entry) ≡ true → (i : KeyTree) → refers_to ids.items i ≡ true → HasKeyWithin (bounds_seen bounds.entry) i index.now) }
 {
     match bounds {
         Bounds::Equal(value) => ids_equal(alloc, index, value),
@@ -45,7 +45,7 @@ fn ids_in_range<'i>(
     range: Range,
     value: &Value,
 ) -> Result<Vec<&'i Key>, NoMemory>
-    ensures { IfOk result (λ ids. (k i : KeyTree) → covers (in_range range (tree value.now)) k ≡ true → has_pair k i index.now ≡ true → has_key i (map (λ l. l.now) ids.items) ≡ true) }
+    ensures { IfOk result (λ ids. HaveAll (covers (in_range range (tree value.now))) index.now ids.items) }
 {
     let (low, high) = ends_within(alloc, range, value)?;
     let mut ids = Vec::new(alloc);
@@ -55,7 +55,7 @@ fn ids_in_range<'i>(
 
 /// The `_id`s' keys of the pairs whose key is one of the values'; a value that stands there several times is looked up once.
 fn ids_among<'i>(alloc: Global, index: &'i Pairs, values: &List) -> Result<Vec<&'i Key>, NoMemory>
-    ensures { IfOk result (λ ids. (i : KeyTree) → (has_key i (map (λ l. l.now) ids.items) ≡ true) ↔ HasKeyWithin (among values.now) i index.now) }
+    ensures { IfOk result (λ ids. (i : KeyTree) → (refers_to ids.items i ≡ true) ↔ HasKeyWithin (among values.now) i index.now) }
 {
     let keys = keys_of_each(alloc, values.as_slice())?;
     let all = lent(alloc, &keys)?;
@@ -65,7 +65,7 @@ fn ids_among<'i>(alloc: Global, index: &'i Pairs, values: &List) -> Result<Vec<&
 
 /// The `_id`s' keys of the pairs that have one of the keys.
 fn ids_at_each<'i>(alloc: Global, index: &'i Pairs, keys: &[&Key]) -> Result<Vec<&'i Key>, NoMemory>
-    ensures { IfOk result (λ ids. (i : KeyTree) → has_key i (map (λ l. l.now) ids.items) ≡ list_any (λ k. has_pair k i index.now) (map (λ l. l.now) keys.now)) }
+    ensures { IfOk result (λ ids. (i : KeyTree) → refers_to ids.items i ≡ list_any (λ k. has_pair k i index.now) (map (λ l. l.now) keys.now)) }
 {
     let mut ids = Vec::new(alloc);
     'keys: for key in keys {
@@ -76,7 +76,7 @@ fn ids_at_each<'i>(alloc: Global, index: &'i Pairs, keys: &[&Key]) -> Result<Vec
 
 /// The `_id`s' keys of the pairs whose key is the value's.
 fn ids_equal<'i>(alloc: Global, index: &'i Pairs, value: &Value) -> Result<Vec<&'i Key>, NoMemory>
-    ensures { IfOk result (λ ids. (i : KeyTree) → (has_key i (map (λ l. l.now) ids.items) ≡ true) ↔ HasKeyWithin (equal (tree value.now)) i index.now) }
+    ensures { IfOk result (λ ids. (i : KeyTree) → (refers_to ids.items i ≡ true) ↔ HasKeyWithin (equal (tree value.now)) i index.now) }
 {
     let key = key_of(value)?;
     let mut ids = Vec::new(alloc);

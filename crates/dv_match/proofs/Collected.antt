@@ -9,8 +9,8 @@ use Rattle.dv_value.specs.View.{tree}
 use Rattle.dv_value.specs.declared.value.Value.{Value}
 use Rattle.dv_match.specs.declared.fault.FilterFault.{FilterFault}
 use Rattle.dv_match.specs.Filter.{Member, Members, members_of, more_members, filters_of, more_filters, Condition, conditions_of, more_conditions}
-use Rattle.dv_match.specs.Parsing.{Gives, member_named, filter_in, filter_of, filters_in, each_filter, conditions_in, operators_in, operator_named, condition_by, negated_in, test_in}
-use Rattle.dv_value.specs.Results.{◌>>=◌}
+use Rattle.dv_match.specs.Parsing.{member_named, filter_in, filter_of, filters_in, each_filter, conditions_in, operators_in, operator_named, condition_by, negated_in, test_in}
+use Rattle.dv_value.specs.Results.{◌>>=◌, Gives}
 
 abbrev pub collected : {X Y : Type 0} → (X → Result Y FilterFault) → List X → Result (List Y) FilterFault
 collected f [] = Ok []
@@ -130,7 +130,7 @@ pub none-of : {X Y : Type 0} (f : X → Y) (r : Option X) (o : Option Y) → opt
 none-of f None o e h = sym e
 none-of f (Some x) o e h = absurd (h x refl)
 
-pub gives-fault : {X Y Y' : Type 0} (view : X → Y) (r : Result X FilterFault) (e : FilterFault) (parsed : Result Y' FilterFault) (whole : Result Y FilterFault) → r ≡ Err e → (e ≡ NoMemory) ⊎ (parsed ≡ Err e) → (parsed ≡ Err e → whole ≡ Err e) → Gives view r whole
+pub gives-fault : {X Y Y' : Type 0} (view : X → Y) (r : Result X FilterFault) (e : FilterFault) (parsed : Result Y' FilterFault) (whole : Result Y FilterFault) → r ≡ Err e → (e ≡ NoMemory) ⊎ (parsed ≡ Err e) → (parsed ≡ Err e → whole ≡ Err e) → Gives NoMemory view r whole
 gives-fault view r e parsed whole is (inl m) f = rw is (inl m)
 gives-fault view r e parsed whole is (inr p) f = rw is (inr (f p))
 

@@ -1,6 +1,6 @@
 -- How a filter is parsed: the parsed filter, or the first fault in written order (MongoDB manual, "Query and Projection Operators").
 -- Which fault is reported is this server's own.
-use Rattle.std.specs.Prelude.{◌≡◌, ◌⊎◌, ℕ, ℤ, pos, negsuc, Bool, true, false, ◌||◌, ◌&&◌, not, List, Option, Some, None, Result, Ok, Err, codes, ◌==◌, if◌then◌else◌}
+use Rattle.std.specs.Prelude.{ℕ, ℤ, pos, negsuc, Bool, true, false, ◌||◌, ◌&&◌, not, List, Option, Some, None, Result, Ok, Err, codes, ◌==◌, if◌then◌else◌}
 use Rattle.std.specs.List.{list_any}
 use Rattle.std.specs.Str.{bytes_eq}
 use Rattle.dv_value.specs.Results.{◌>>=◌}
@@ -9,15 +9,10 @@ use Rattle.dv_value.specs.Tree.{Tree, int32, int64, boolean, document, array, Fi
 use Rattle.dv_candidates.specs.Path.{path_of}
 use Rattle.dv_match.specs.declared.range.Range.TheVariants.{Above, AtLeast, Below, AtMost}
 use Rattle.dv_match.specs.declared.fault.FilterFault.{FilterFault}
-use Rattle.dv_match.specs.declared.fault.FilterFault.TheVariants.{UnknownOperator, BadOperand, EmptyList, BadPath, NoMemory}
+use Rattle.dv_match.specs.declared.fault.FilterFault.TheVariants.{UnknownOperator, BadOperand, EmptyList, BadPath}
 use Rattle.dv_match.specs.declared.operator.Operator.{Operator}
 use Rattle.dv_match.specs.declared.operator.Operator.TheVariants.{Eq, Ne, Gt, Gte, Lt, Lte, In, Nin, Not, All, Exists, Size, ElemMatch}
 use Rattle.dv_match.specs.Filter.{Member, all_of, any_of, none_of, at_path, Members, no_members, more_members, Filters, no_filters, more_filters, Condition, equal, unequal, in_range, among, not_among, unmet, contains, exists, sized, has_element, Conditions, no_conditions, more_conditions, Test, by_operators, by_filter}
-
--- the call returned the defined result, or ran out of memory; `view` says what a value in memory represents
-abbrev pub Gives : {X Y : Type 0} → (X → Y) → Result X FilterFault → Result Y FilterFault → Type 0
-Gives view (Ok x) parsed = parsed ≡ Ok (view x)
-Gives view (Err e) parsed = (e ≡ NoMemory) ⊎ (parsed ≡ Err e)
 
 -- whether the operator's operand is a list of filters
 abbrev pub takes_filters : List ℕ → Bool

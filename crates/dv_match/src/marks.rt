@@ -11,7 +11,7 @@ ghost use Rattle.dv_match.specs.Inner.Blocks.{IsBlock, Marked, has, has_equal, n
 ghost use Rattle.dv_match.specs.Inner.Choices.{Ascend};
 
 use crate::ascending::place_in_block;
-use crate::place::Place;
+use crate::place::Subject;
 use dv_candidates::{Candidate, Path, fold_whole};
 use dv_value::{Document, List, Value};
 
@@ -110,7 +110,7 @@ impl Marks {
 
 /// Whether some leaf compares equal to each of the values, which ascend. Looks at the leaves once for each 128 of them, and
 /// compares most leaves with two of these.
-pub(crate) fn have_equals(place: Place<'_>, values: &[Value]) -> bool
+pub(crate) fn have_equals(place: Subject<'_>, values: &[Value]) -> bool
     requires { Ascend values.now }
     ensures { result ≡ list_all (has_equal (parts place.entry)) values.now }
 {
@@ -126,14 +126,14 @@ pub(crate) fn have_equals(place: Place<'_>, values: &[Value]) -> bool
 }
 
 /// The marks for the leaves of a place.
-fn marks_of(place: Place<'_>, block: &[Value]) -> Marks
+fn marks_of(place: Subject<'_>, block: &[Value]) -> Marks
     requires { IsBlock block.now }
     ensures { Marked block.now (parts place.entry) no_marks result }
 {
     match place {
-        Place::Path(document, path) => marks_along(document, path, block),
-        Place::Sole(candidate) => Marks::NONE.with_elements(block, candidate),
-        Place::Element(element) => Marks::NONE.with_value(block, element),
+        Subject::Path(document, path) => marks_along(document, path, block),
+        Subject::Sole(candidate) => Marks::NONE.with_elements(block, candidate),
+        Subject::Element(element) => Marks::NONE.with_value(block, element),
     }
 }
 

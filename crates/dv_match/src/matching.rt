@@ -12,7 +12,7 @@ use crate::choices::Choices;
 use crate::form::{Condition, Conditions, Filter, Filters, Member, Test};
 use crate::leaf::{has_size, is_among, is_equal, is_found, is_in_range};
 use crate::marks::have_equals;
-use crate::place::{Place, any_candidate, any_part};
+use crate::place::{Subject, any_candidate, any_part};
 use crate::range::Range;
 use dv_candidates::Candidate;
 use dv_value::{Document, List, Value};
@@ -46,7 +46,7 @@ impl Member {
             Member::And(filters) => filters.all_match(document),
             Member::Or(filters) => filters.any_matches(document),
             Member::Nor(filters) => !filters.any_matches(document),
-            Member::At(path, conditions) => conditions.are_met(Place::of(document, path)),
+            Member::At(path, conditions) => conditions.are_met(Subject::of(document, path)),
         }
     }
 }
@@ -79,7 +79,7 @@ impl Filters {
 
 impl Conditions {
     #[cycle(matching)]
-    fn are_met(&self, place: Place<'_>) -> bool
+    fn are_met(&self, place: Subject<'_>) -> bool
         ensures { result ≡ defined.meets_all self.now (wholes place.entry) (parts place.entry) }
     {
         for condition in self.as_slice() {
@@ -94,7 +94,7 @@ impl Conditions {
 impl Condition {
     #[cycle(matching)]
     #[tactic(auto, unfolding(crate::specs::Match::meets))]
-    fn is_met(&self, place: Place<'_>) -> bool
+    fn is_met(&self, place: Subject<'_>) -> bool
         ensures { result ≡ defined.meets (condition self.now) (wholes place.entry) (parts place.entry) }
     {
         match self {
@@ -126,7 +126,7 @@ impl Test {
         ensures { result ≡ defined.passes (test self.now) (tree value.now) }
     {
         match self {
-            Test::Meets(conditions) => conditions.are_met(Place::Element(value)),
+            Test::Meets(conditions) => conditions.are_met(Subject::Element(value)),
             Test::Matches(filter) => match value {
                 Value::Doc(document) => filter.matches(document),
                 _ => false,
@@ -162,21 +162,21 @@ impl Test {
 }
 
 /// Whether some leaf compares equal to the value.
-fn has_equal(place: Place<'_>, value: &Value) -> bool
+fn has_equal(place: Subject<'_>, value: &Value) -> bool
     ensures { result ≡ list_any (defined.is_equal (tree value.now)) (parts place.entry) }
 {
     any_part(place, |candidate| is_equal(candidate, value))
 }
 
 /// Whether some leaf compares equal to one of the choices.
-fn has_among(place: Place<'_>, choices: &Choices) -> bool
+fn has_among(place: Subject<'_>, choices: &Choices) -> bool
     ensures { result ≡ list_any (defined.is_among choices.now) (parts place.entry) }
 {
     any_part(place, |candidate| is_among(candidate, choices))
 }
 
 /// Whether there are values, and to each some leaf compares equal.
-fn has_every(place: Place<'_>, choices: &Choices) -> bool
+fn has_every(place: Subject<'_>, choices: &Choices) -> bool
     ensures { result ≡ defined.holds_every choices.now (parts place.entry) }
 {
     let values = choices.values();
@@ -188,7 +188,7 @@ fn has_every(place: Place<'_>, choices: &Choices) -> bool
 }
 
 /// The same, looking at the leaves for one value after the other.
-fn has_each(place: Place<'_>, values: &List) -> bool
+fn has_each(place: Subject<'_>, values: &List) -> bool
     ensures { result ≡ defined.holds_every values.now (parts place.entry) }
 {
     let members = values.as_slice();
@@ -201,21 +201,21 @@ fn has_each(place: Place<'_>, values: &List) -> bool
 }
 
 /// Whether some leaf is of the bound's class and stands so to it.
-fn has_in_range(place: Place<'_>, range: Range, bound: &Value) -> bool
+fn has_in_range(place: Subject<'_>, range: Range, bound: &Value) -> bool
     ensures { result ≡ list_any (defined.is_in_range range (tree bound.now)) (parts place.entry) }
 {
     any_part(place, |candidate| is_in_range(candidate, range, bound))
 }
 
 /// Whether some candidate isn't missing.
-fn has_any(place: Place<'_>) -> bool
+fn has_any(place: Subject<'_>) -> bool
     ensures { result ≡ list_any is_some (wholes place.entry) }
 {
     any_candidate(place, |candidate| is_found(candidate))
 }
 
 /// Whether some candidate is an array of so many elements.
-fn has_sized(place: Place<'_>, size: u64) -> bool
+fn has_sized(place: Subject<'_>, size: u64) -> bool
     ensures { result ≡ list_any (defined.has_size size) (wholes place.entry) }
 {
     any_candidate(place, |candidate| has_size(candidate, size))

@@ -3,9 +3,10 @@
 ghost use Rattle.std.specs.Prelude.{◌≡◌};
 ghost use Rattle.dv_value.specs.Tree.{fields_of};
 ghost use Rattle.dv_value.specs.View.{tree};
+ghost use Rattle.dv_value.specs.Results.{Gives};
+ghost use Rattle.dv_match.specs.declared.fault.FilterFault.TheVariants.{NoMemory as no_memory};
 ghost use Rattle.std.specs.List.{list_any};
 ghost use Rattle.dv_match.specs.Parsing as defined;
-ghost use Rattle.dv_match.specs.Parsing.{Gives};
 
 use crate::choices::Choices;
 use crate::fault::FilterFault;
@@ -45,7 +46,7 @@ fn is_operator_list(value: &Value) -> bool
 /// The values of an array.
 #[tactic(auto, using(crate::proofs::Items::elements_again))]
 pub(crate) fn choices_of(value: &Value) -> Result<Choices, FilterFault>
-    ensures { Gives (λ choices. choices) result (defined.values_in (tree value.now)) }
+    ensures { Gives no_memory (λ choices. choices) result (defined.values_in (tree value.now)) }
 {
     match value {
         Value::Array(list) => Ok(Choices::of(list.try_clone()?)?),
@@ -56,7 +57,7 @@ pub(crate) fn choices_of(value: &Value) -> Result<Choices, FilterFault>
 /// The values of an array, none of which is an operator list.
 #[tactic(auto, using(crate::proofs::Items::elements_again))]
 pub(crate) fn plain_choices_of(value: &Value) -> Result<Choices, FilterFault>
-    ensures { Gives (λ choices. choices) result (defined.plain_values (tree value.now)) }
+    ensures { Gives no_memory (λ choices. choices) result (defined.plain_values (tree value.now)) }
 {
     match value {
         Value::Array(list) => {

@@ -2,9 +2,10 @@
 
 ghost use Rattle.dv_value.specs.Tree.{document as doc, fields_of, elements_of};
 ghost use Rattle.dv_value.specs.View.{tree};
+ghost use Rattle.dv_value.specs.Results.{Gives};
+ghost use Rattle.dv_match.specs.declared.fault.FilterFault.TheVariants.{NoMemory as no_memory};
 ghost use Rattle.dv_match.specs.Inner.Parsing.{condition_named};
 ghost use Rattle.dv_match.specs.Parsing as defined;
-ghost use Rattle.dv_match.specs.Parsing.{Gives};
 ghost use Rattle.dv_match.specs.View.{member, condition, test};
 
 use crate::fault::FilterFault;
@@ -26,7 +27,7 @@ impl Filter {
     /// document whose first name begins with `$`, or else a value to be equal to. Fails with `NoMemory` when memory runs out.
     #[cycle(parsing)]
     pub fn parse(alloc: Global, document: &Document) -> Result<Filter, FilterFault>
-        ensures { Gives (λ filter. filter) result (defined.filter_in (fields_of document.now)) }
+        ensures { Gives no_memory (λ filter. filter) result (defined.filter_in (fields_of document.now)) }
     {
         let mut members = Vec::new(alloc);
         'members: while let Some((name, value)) = document.entry(members.len()) {
@@ -43,7 +44,7 @@ impl Test {
     #[cycle(parsing)]
     #[tactic(auto, unfolding(crate::specs::Parsing::test_in))]
     pub fn parse(alloc: Global, document: &Document) -> Result<Test, FilterFault>
-        ensures { Gives test result (defined.test_in (doc (fields_of document.now))) }
+        ensures { Gives no_memory test result (defined.test_in (doc (fields_of document.now))) }
     {
         if lists_conditions(document) {
             Ok(Test::Meets(operators_of(alloc, document)?))
@@ -57,7 +58,7 @@ impl Test {
 #[cycle(parsing)]
 #[tactic(auto, unfolding(crate::specs::Parsing::member_named))]
 fn member_of(alloc: Global, name: &str, value: &Value) -> Result<Member, FilterFault>
-    ensures { Gives member result (defined.member_named name.now (defined.filters_in (tree value.now)) (defined.conditions_in (tree value.now))) }
+    ensures { Gives no_memory member result (defined.member_named name.now (defined.filters_in (tree value.now)) (defined.conditions_in (tree value.now))) }
 {
     match name {
         "$and" => Ok(Member::And(filters_of(alloc, value)?)),
@@ -77,7 +78,7 @@ fn member_of(alloc: Global, name: &str, value: &Value) -> Result<Member, FilterF
 #[cycle(parsing)]
 #[tactic(auto, unfolding(crate::specs::Parsing::filters_in))]
 fn filters_of(alloc: Global, value: &Value) -> Result<Filters, FilterFault>
-    ensures { Gives (λ filters. filters) result (defined.filters_in (tree value.now)) }
+    ensures { Gives no_memory (λ filters. filters) result (defined.filters_in (tree value.now)) }
 {
     let Value::Array(list) = value else {
         return Err(FilterFault::BadOperand);
@@ -90,7 +91,7 @@ fn filters_of(alloc: Global, value: &Value) -> Result<Filters, FilterFault>
 
 #[cycle(parsing)]
 fn each_filter(alloc: Global, list: &List) -> Result<Filters, FilterFault>
-    ensures { Gives (λ filters. filters) result (defined.each_filter (elements_of list.now)) }
+    ensures { Gives no_memory (λ filters. filters) result (defined.each_filter (elements_of list.now)) }
 {
     let mut filters = Vec::new(alloc);
     'filters: for value in list.as_slice() {
@@ -102,7 +103,7 @@ fn each_filter(alloc: Global, list: &List) -> Result<Filters, FilterFault>
 #[cycle(parsing)]
 #[tactic(auto, unfolding(crate::specs::Parsing::filter_of))]
 fn filter_of(alloc: Global, value: &Value) -> Result<Filter, FilterFault>
-    ensures { Gives (λ filter. filter) result (defined.filter_of (tree value.now)) }
+    ensures { Gives no_memory (λ filter. filter) result (defined.filter_of (tree value.now)) }
 {
     match value {
         Value::Doc(document) => Filter::parse(alloc, document),
@@ -114,7 +115,7 @@ fn filter_of(alloc: Global, value: &Value) -> Result<Filter, FilterFault>
 #[cycle(parsing)]
 #[tactic(auto, unfolding(crate::specs::Parsing::conditions_in))]
 fn conditions_of(alloc: Global, value: &Value) -> Result<Conditions, FilterFault>
-    ensures { Gives (λ conditions. conditions) result (defined.conditions_in (tree value.now)) }
+    ensures { Gives no_memory (λ conditions. conditions) result (defined.conditions_in (tree value.now)) }
 {
     match value {
         Value::Doc(document) => {
@@ -130,7 +131,7 @@ fn conditions_of(alloc: Global, value: &Value) -> Result<Conditions, FilterFault
 
 /// The condition to be equal to a value, alone.
 fn equality(alloc: Global, value: &Value) -> Result<Conditions, FilterFault>
-    ensures { Gives (λ conditions. conditions) result (defined.equality (tree value.now)) }
+    ensures { Gives no_memory (λ conditions. conditions) result (defined.equality (tree value.now)) }
 {
     let mut conditions = Vec::new(alloc);
     conditions.push(Condition::Eq(value.try_clone()?))?;
@@ -140,7 +141,7 @@ fn equality(alloc: Global, value: &Value) -> Result<Conditions, FilterFault>
 /// The conditions of an operator list.
 #[cycle(parsing)]
 fn operators_of(alloc: Global, document: &Document) -> Result<Conditions, FilterFault>
-    ensures { Gives (λ conditions. conditions) result (defined.operators_in (fields_of document.now)) }
+    ensures { Gives no_memory (λ conditions. conditions) result (defined.operators_in (fields_of document.now)) }
 {
     let mut conditions = Vec::new(alloc);
     'conditions: while let Some((name, value)) = document.entry(conditions.len()) {
@@ -152,7 +153,7 @@ fn operators_of(alloc: Global, document: &Document) -> Result<Conditions, Filter
 /// The condition of this operator and operand.
 #[cycle(parsing)]
 fn condition_of(alloc: Global, name: &str, value: &Value) -> Result<Condition, FilterFault>
-    ensures { Gives condition result (condition_named name.now (tree value.now)) }
+    ensures { Gives no_memory condition result (condition_named name.now (tree value.now)) }
 {
     let Some(operator) = operator_named(name) else {
         return Err(FilterFault::UnknownOperator);
@@ -178,7 +179,7 @@ fn condition_of(alloc: Global, name: &str, value: &Value) -> Result<Condition, F
 #[cycle(parsing)]
 #[tactic(auto, unfolding(crate::specs::Parsing::negated_in))]
 fn negated_of(alloc: Global, value: &Value) -> Result<Conditions, FilterFault>
-    ensures { Gives (λ conditions. conditions) result (defined.negated_in (tree value.now)) }
+    ensures { Gives no_memory (λ conditions. conditions) result (defined.negated_in (tree value.now)) }
 {
     let Value::Doc(document) = value else {
         return Err(FilterFault::BadOperand);
@@ -193,7 +194,7 @@ fn negated_of(alloc: Global, value: &Value) -> Result<Conditions, FilterFault>
 #[cycle(parsing)]
 #[tactic(auto, unfolding(crate::specs::Parsing::test_in))]
 fn test_of(alloc: Global, value: &Value) -> Result<Test, FilterFault>
-    ensures { Gives test result (defined.test_in (tree value.now)) }
+    ensures { Gives no_memory test result (defined.test_in (tree value.now)) }
 {
     match value {
         Value::Doc(document) => Test::parse(alloc, document),

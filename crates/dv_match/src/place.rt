@@ -13,7 +13,7 @@ use dv_value::{Document, Value};
 
 /// What conditions are asked of.
 #[derive(Clone, Copy)]
-pub(crate) enum Place<'a> {
+pub(crate) enum Subject<'a> {
     /// What the path leads to in the document.
     Path(&'a Document, &'a Path),
     /// The one candidate of a path.
@@ -22,40 +22,40 @@ pub(crate) enum Place<'a> {
     Element(&'a Value),
 }
 
-impl<'a> Place<'a> {
+impl<'a> Subject<'a> {
     /// What the path leads to in the document, looked up once for all conditions where no array stands on the way.
     pub(crate) fn of(document: &'a Document, path: &'a Path) -> Self
         ensures wholes { wholes result ≡ whole document.now path.now }
         ensures parts { parts result ≡ leaves document.now path.now }
     {
         match sole_candidate(document, path) {
-            Some(candidate) => Place::Sole(candidate),
-            None => Place::Path(document, path),
+            Some(candidate) => Subject::Sole(candidate),
+            None => Subject::Path(document, path),
         }
     }
 }
 
 /// Whether one of the place's candidates passes.
-pub(crate) fn any_candidate<F: Fn(Candidate<'_>) -> bool>(place: Place<'_>, passes: F) -> bool
+pub(crate) fn any_candidate<F: Fn(Candidate<'_>) -> bool>(place: Subject<'_>, passes: F) -> bool
     requires { F.IsAlwaysCallable passes }
     ensures { (test : candidates.Candidate → Bool) → Answers seen (λ x b. F.post passes x b) test → result ≡ list_any test (wholes place.entry) }
 {
     match place {
-        Place::Path(document, path) => any_whole(document, path, passes),
-        Place::Sole(candidate) => passes(candidate),
-        Place::Element(element) => passes(Candidate::Found(element)),
+        Subject::Path(document, path) => any_whole(document, path, passes),
+        Subject::Sole(candidate) => passes(candidate),
+        Subject::Element(element) => passes(Candidate::Found(element)),
     }
 }
 
 /// Whether one of the place's leaves passes: a candidate of the path, or an element of one that is an array; or the
 /// element by itself.
-pub(crate) fn any_part<F: Fn(Candidate<'_>) -> bool>(place: Place<'_>, passes: F) -> bool
+pub(crate) fn any_part<F: Fn(Candidate<'_>) -> bool>(place: Subject<'_>, passes: F) -> bool
     requires { F.IsAlwaysCallable passes }
     ensures { (test : candidates.Candidate → Bool) → Answers seen (λ x b. F.post passes x b) test → result ≡ list_any test (parts place.entry) }
 {
     match place {
-        Place::Path(document, path) => any_leaf(document, path, passes),
-        Place::Sole(candidate) => any_with_elements(candidate, &passes),
-        Place::Element(element) => passes(Candidate::Found(element)),
+        Subject::Path(document, path) => any_leaf(document, path, passes),
+        Subject::Sole(candidate) => any_with_elements(candidate, &passes),
+        Subject::Element(element) => passes(Candidate::Found(element)),
     }
 }

@@ -5,8 +5,8 @@ use Rattle.dv_value.specs.View.{tree}
 use Rattle.dv_order.specs.Key.{first_value}
 use Rattle.dv_order.specs.declared.small.Small as smalls
 use Rattle.dv_order.specs.declared.small.Small.TheVariants as small
-use Rattle.dv_order.specs.declared.source.Source as sources
-use Rattle.dv_order.specs.declared.source.Source.TheVariants.{NoElement, Small, Short, Middle, Long, Document, Shared, First}
+use Rattle.dv_order.specs.declared.source.KeySource as sources
+use Rattle.dv_order.specs.declared.source.KeySource.TheVariants.{NoElement, Small, Short, Middle, Long, Document, Shared, First}
 
 -- the value that takes few bytes
 abbrev pub small_value : smalls.Small → Tree
@@ -20,7 +20,7 @@ small_value (small.Timestamp n) = timestamp n
 small_value small.MaxKey = max_key
 
 -- the value from which a key is made; none for the key of no element
-abbrev pub source_value : sources.Source → Option Tree
+abbrev pub source_value : sources.KeySource → Option Tree
 source_value NoElement = None
 source_value (Small s) = Some (small_value s)
 source_value (Short len bytes) = Some (string (take len bytes))

@@ -19,7 +19,7 @@ use crate::code::KeyCode;
 use crate::lent::LentKey;
 use crate::shown::Shown;
 use crate::small::Small;
-use crate::source::Source;
+use crate::source::KeySource;
 use dv_value::{Document, NoMemory, Value};
 use std::alloc::Global;
 use std::cmp::Ordering;
@@ -31,7 +31,7 @@ use std::mem::size_of;
 /// differ at most in the width of integers. The key that no value has comes between those of MinKey and null.
 #[derive(Debug, Drop)]
 pub struct Key {
-    source: Source,
+    source: KeySource,
 }
 
 /// Three words, in which most keys are; copies share what isn't.
@@ -58,7 +58,7 @@ pub fn key_of(value: &Value) -> Result<Key, NoMemory>
     ensures { IfOk result (λ key. key ≡ key_of_tree (canon (tree value.now))) }
 {
     Ok(Key {
-        source: Source::of(value)?,
+        source: KeySource::of(value)?,
     })
 }
 
@@ -68,7 +68,7 @@ impl Key {
         ensures { result ≡ no_element }
     {
         Key {
-            source: Source::NoElement,
+            source: KeySource::NoElement,
         }
     }
 
@@ -77,8 +77,8 @@ impl Key {
         ensures { IfOk result (λ own. own ≡ lent_key key.now) }
     {
         let source = match key {
-            LentKey::Text(text) => Source::of_text(alloc, text)?,
-            LentKey::Document(document) => Source::Document(document.try_clone()?),
+            LentKey::Text(text) => KeySource::of_text(alloc, text)?,
+            LentKey::Document(document) => KeySource::Document(document.try_clone()?),
         };
         Ok(Key { source })
     }
@@ -88,7 +88,7 @@ impl Key {
         ensures { IfSome result (λ key. key ≡ key_at (first_value document.now)) }
     {
         Some(Key {
-            source: Source::of_first(document)?,
+            source: KeySource::of_first(document)?,
         })
     }
 
@@ -102,7 +102,7 @@ impl Key {
     }
 
     /// That it is the key of some value, or the one that no value has. Does nothing.
-    pub fn is_own(&self)
+    pub fn law_own(&self)
         ensures { IsOwn self.now }
     {
         let _source = &self.source;
@@ -124,7 +124,7 @@ impl Key {
     {
         match Small::of_code(class, high, low) {
             Some(small) => Key {
-                source: Source::Small(small),
+                source: KeySource::Small(small),
             },
             None => Key::no_element(),
         }
@@ -165,11 +165,11 @@ pub fn replace_under_first(map: &mut BTreeMap<Key, Document>, document: Document
         return replace_under(map, &key, document);
     }
     let key = Key {
-        source: Source::First(document),
+        source: KeySource::First(document),
     };
     let place = map.get_mut(&key);
     let Key { source } = key;
-    let Source::First(document) = source else {
+    let KeySource::First(document) = source else {
         unreachable!()
     };
     match place {
@@ -231,7 +231,7 @@ impl Ord for Key {
 
     fn cmp(&self, other: &Key) -> Ordering {
         // Most keys are those of integers, and these are known at once.
-        if let (Source::Small(Small::Integer(a)), Source::Small(Small::Integer(b))) = (
+        if let (KeySource::Small(Small::Integer(a)), KeySource::Small(Small::Integer(b))) = (
             &self.source,
             &other.source,
         ) {

@@ -16,7 +16,7 @@ use std::rc::Rc;
 
 /// What a key is made of.
 #[derive(Debug, Drop)]
-pub(crate) enum Source {
+pub(crate) enum KeySource {
     /// No value has it.
     NoElement,
     Small(Small),
@@ -33,14 +33,14 @@ pub(crate) enum Source {
     First(Document),
 }
 
-impl Source {
+impl KeySource {
     /// That of the key of the value. Fails where memory is wanting.
     pub(crate) fn of(value: &Value) -> Result<Self, NoMemory>
         ensures value { IfOk result (λ source. key_at (source_value source) ≡ key_of_tree (canon (tree value.now))) }
         ensures sound { IfOk result IsSound }
     {
         match Small::of(value) {
-            Some(small) => Ok(Source::Small(small)),
+            Some(small) => Ok(KeySource::Small(small)),
             None => of_large(value),
         }
     }
@@ -63,7 +63,7 @@ impl Source {
     {
         let (_, value) = document.entry(0)?;
         if let Some(small) = Small::of(value) {
-            return Some(Source::Small(small));
+            return Some(KeySource::Small(small));
         }
         match value {
             Value::Text(text) => of_short(text.as_str()),
@@ -78,23 +78,23 @@ impl Source {
         ensures sound { IfOk result IsSound }
     {
         Ok(match self {
-            Source::NoElement => Source::NoElement,
-            Source::Small(small) => Source::Small(*small),
-            Source::Short { len, bytes } => Source::Short {
+            KeySource::NoElement => KeySource::NoElement,
+            KeySource::Small(small) => KeySource::Small(*small),
+            KeySource::Short { len, bytes } => KeySource::Short {
                 len: *len,
                 bytes: *bytes,
             },
-            Source::Middle { len, bytes } => Source::Middle {
+            KeySource::Middle { len, bytes } => KeySource::Middle {
                 len: *len,
                 bytes: bytes.clone()?,
             },
-            Source::Long { len, bytes } => Source::Long {
+            KeySource::Long { len, bytes } => KeySource::Long {
                 len: *len,
                 bytes: bytes.clone()?,
             },
-            Source::Document(document) => Source::Document(document.try_clone()?),
-            Source::Shared(value) => Source::Shared(value.clone()?),
-            Source::First(document) => return of_first_value(document),
+            KeySource::Document(document) => KeySource::Document(document.try_clone()?),
+            KeySource::Shared(value) => KeySource::Shared(value.clone()?),
+            KeySource::First(document) => return of_first_value(document),
         })
     }
 
@@ -104,14 +104,14 @@ impl Source {
         ensures { shown_key result ≡ key_at (source_value self.now) }
     {
         match self {
-            Source::NoElement => Shown::Nothing,
-            Source::Small(small) => Shown::Small(*small),
-            Source::Short { len, bytes } => Shown::Text(text_in(bytes.as_slice(), *len)),
-            Source::Middle { len, bytes } => Shown::Text(text_in(bytes.as_slice(), *len)),
-            Source::Long { len, bytes } => Shown::Text(text_in(bytes.as_slice(), *len)),
-            Source::Document(document) => Shown::Document(document),
-            Source::Shared(value) => Shown::of(value.as_ref()),
-            Source::First(document) => match document.entry(0) {
+            KeySource::NoElement => Shown::Nothing,
+            KeySource::Small(small) => Shown::Small(*small),
+            KeySource::Short { len, bytes } => Shown::Text(text_in(bytes.as_slice(), *len)),
+            KeySource::Middle { len, bytes } => Shown::Text(text_in(bytes.as_slice(), *len)),
+            KeySource::Long { len, bytes } => Shown::Text(text_in(bytes.as_slice(), *len)),
+            KeySource::Document(document) => Shown::Document(document),
+            KeySource::Shared(value) => Shown::of(value.as_ref()),
+            KeySource::First(document) => match document.entry(0) {
                 Some((_, value)) => Shown::of(value),
                 None => Shown::Nothing,
             },
@@ -120,14 +120,14 @@ impl Source {
 }
 
 /// That of the key of a value that isn't small. Fails where memory is wanting.
-fn of_large(value: &Value) -> Result<Source, NoMemory>
+fn of_large(value: &Value) -> Result<KeySource, NoMemory>
     requires { IsLarge (tree value.now) }
     ensures value { IfOk result (λ source. key_at (source_value source) ≡ key_of_tree (canon (tree value.now))) }
     ensures sound { IfOk result IsSound }
 {
     match value {
         Value::Text(text) => of_owned_text(text),
-        Value::Doc(document) => Ok(Source::Document(document.try_clone()?)),
+        Value::Doc(document) => Ok(KeySource::Document(document.try_clone()?)),
         Value::Array(list) => of_list(list),
         Value::Binary { subtype, bytes } => of_binary(*subtype, bytes),
         _ => unreachable!(),
@@ -135,18 +135,18 @@ fn of_large(value: &Value) -> Result<Source, NoMemory>
 }
 
 /// That of the key of the document's first value. Fails where memory is wanting.
-fn of_first_value(document: &Document) -> Result<Source, NoMemory>
+fn of_first_value(document: &Document) -> Result<KeySource, NoMemory>
     ensures value { IfOk result (λ source. key_at (source_value source) ≡ key_at (first_value document.now)) }
     ensures sound { IfOk result IsSound }
 {
     match document.entry(0) {
-        Some((_, value)) => Source::of(value),
-        None => Ok(Source::NoElement),
+        Some((_, value)) => KeySource::of(value),
+        None => Ok(KeySource::NoElement),
     }
 }
 
 /// That of the key of the text, whose allocator a copy tells. Fails where memory is wanting.
-fn of_owned_text(text: &Str) -> Result<Source, NoMemory>
+fn of_owned_text(text: &Str) -> Result<KeySource, NoMemory>
     ensures value { IfOk result (λ source. key_at (source_value source) ≡ key_of_tree (string text.now)) }
     ensures sound { IfOk result IsSound }
 {
@@ -161,7 +161,7 @@ fn of_owned_text(text: &Str) -> Result<Source, NoMemory>
     }
 }
 
-fn of_list(list: &List) -> Result<Source, NoMemory>
+fn of_list(list: &List) -> Result<KeySource, NoMemory>
     ensures value { IfOk result (λ source. source_value source ≡ Some (array (elements_of list.now))) }
     ensures sound { IfOk result IsSound }
 {
@@ -170,7 +170,7 @@ fn of_list(list: &List) -> Result<Source, NoMemory>
     share(alloc, Value::Array(List::of(copy)))
 }
 
-fn of_binary(subtype: u8, bytes: &Bytes) -> Result<Source, NoMemory>
+fn of_binary(subtype: u8, bytes: &Bytes) -> Result<KeySource, NoMemory>
     ensures value { IfOk result (λ source. source_value source ≡ Some (binary subtype bytes.now)) }
     ensures sound { IfOk result IsSound }
 {
@@ -186,15 +186,15 @@ fn of_binary(subtype: u8, bytes: &Bytes) -> Result<Source, NoMemory>
 }
 
 /// The value behind a pointer, which copies share. Fails where memory is wanting.
-fn share(alloc: Global, value: Value) -> Result<Source, NoMemory>
+fn share(alloc: Global, value: Value) -> Result<KeySource, NoMemory>
     ensures value { IfOk result (λ source. source_value source ≡ Some (tree value)) }
     ensures sound { IfOk result IsSound }
 {
-    Ok(Source::Shared(Rc::new(alloc, value)?))
+    Ok(KeySource::Shared(Rc::new(alloc, value)?))
 }
 
 /// That of a text of up to 22 bytes.
-fn of_short(text: &str) -> Option<Source>
+fn of_short(text: &str) -> Option<KeySource>
     ensures value { IfSome result (λ source. source_value source ≡ Some (string text.now)) }
     ensures sound { IfSome result IsSound }
 {
@@ -204,11 +204,11 @@ fn of_short(text: &str) -> Option<Source>
     }
     let len = text.len() as u8;
     let bytes = padded::<22>(text)?;
-    Some(Source::Short { len, bytes })
+    Some(KeySource::Short { len, bytes })
 }
 
 /// That of a text of up to 40 bytes. Fails where memory is wanting.
-fn of_padded(alloc: Global, text: &str) -> Result<Option<Source>, NoMemory>
+fn of_padded(alloc: Global, text: &str) -> Result<Option<KeySource>, NoMemory>
     ensures value { IfOk result (λ found. IfSome found (λ source. source_value source ≡ Some (string text.now))) }
     ensures sound { IfOk result (λ found. IfSome found IsSound) }
 {
@@ -222,11 +222,11 @@ fn of_padded(alloc: Global, text: &str) -> Result<Option<Source>, NoMemory>
     let len = text.len() as u8;
     if let Some(bytes) = padded::<24>(text) {
         let bytes = Rc::new(alloc, bytes)?;
-        return Ok(Some(Source::Middle { len, bytes }));
+        return Ok(Some(KeySource::Middle { len, bytes }));
     }
     if let Some(bytes) = padded::<40>(text) {
         let bytes = Rc::new(alloc, bytes)?;
-        return Ok(Some(Source::Long { len, bytes }));
+        return Ok(Some(KeySource::Long { len, bytes }));
     }
     Ok(None)
 }

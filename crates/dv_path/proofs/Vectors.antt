@@ -5,10 +5,11 @@ use Rattle.std.proofs.lemmas.List.{length-map, map-append, length-append}
 use Rattle.dv_value.specs.declared.value.Value.{Value}
 use Rattle.dv_value.specs.Tree.{Tree, null}
 use Rattle.dv_value.specs.View.{tree}
+use Rattle.dv_value.specs.Results.{Gives}
 use Rattle.dv_candidates.specs.declared.fault.PathFault.{PathFault}
 use Rattle.dv_candidates.specs.declared.fault.PathFault.TheVariants.{IndexTooLarge, NoMemory}
 use Rattle.dv_candidates.specs.Candidates.{Candidate}
-use Rattle.dv_path.specs.Placing.{result_map, with_element, put_element, Gives}
+use Rattle.dv_path.specs.Placing.{result_map, with_element, put_element}
 use Rattle.dv_path.specs.Removing.{remove_element}
 use Rattle.dv_path.proofs.Items.{none-past}
 use Rattle.dv_path.proofs.Fielded.{changed-missing}
@@ -65,7 +66,7 @@ refused-map f e r s is (inl memory) = inl memory
 refused-map f e r s is (inr fault) = inr (is ∙ ap (result_map f) fault)
 
 -- what further on is refused is refused
-pub gives-refused : {X Y Z : Type 0} (f : X → Y) (view : Z → Y) (made : Result Z PathFault) (e : PathFault) (r : Result X PathFault) (s : Result Y PathFault) → made ≡ Err e → s ≡ result_map f r → (e ≡ NoMemory) ⊎ (r ≡ Err e) → Gives view made s
+pub gives-refused : {X Y Z : Type 0} (f : X → Y) (view : Z → Y) (made : Result Z PathFault) (e : PathFault) (r : Result X PathFault) (s : Result Y PathFault) → made ≡ Err e → s ≡ result_map f r → (e ≡ NoMemory) ⊎ (r ≡ Err e) → Gives NoMemory view made s
 gives-refused {Z = Z} f view made e r s told is h =
-    let P : Result Z PathFault → Type 0 = λ m. Gives view m s in
+    let P : Result Z PathFault → Type 0 = λ m. Gives NoMemory view m s in
     subst P (sym told) (refused-map f e r s is h)

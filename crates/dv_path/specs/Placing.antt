@@ -1,11 +1,11 @@
 -- How a value is put at a path of a document, as by `$set` (MongoDB manual, "Update Operators", "Set Fields in Embedded Documents",
 -- "Set Elements in Arrays"). The limit for an index beyond an array's end is this server's own.
-use Rattle.std.specs.Prelude.{◌≡◌, ℕ, zero, suc, ◌||◌, nat_lt, nat_le, List, [], ◌∷◌, ◌++◌, length, Option, Some, None, slice_get, Result, Ok, Err, if◌then◌else◌, ◌⊎◌}
+use Rattle.std.specs.Prelude.{ℕ, zero, suc, ◌||◌, nat_lt, nat_le, List, [], ◌∷◌, ◌++◌, length, Option, Some, None, slice_get, Result, Ok, Err, if◌then◌else◌}
 use Rattle.std.specs.Str.{bytes_eq}
 use Rattle.dv_value.specs.Tree.{Tree, document, array, null, Field, fields_of, list_of_fields, elements_of, list_of_elements}
 use Rattle.dv_value.specs.Names.{value_under}
 use Rattle.dv_candidates.specs.declared.fault.PathFault.{PathFault}
-use Rattle.dv_candidates.specs.declared.fault.PathFault.TheVariants.{NotViable, IndexTooLarge, NoMemory}
+use Rattle.dv_candidates.specs.declared.fault.PathFault.TheVariants.{NotViable, IndexTooLarge}
 use Rattle.dv_candidates.specs.Candidates.{Candidate}
 use Rattle.dv_candidates.specs.Path.{index_of}
 
@@ -54,8 +54,3 @@ put_behind (name ∷ names) v c = Err NotViable
 unfoldable pub put : List Field → List (List ℕ) → Tree → Result (List Field) PathFault
 put fields [] v = Ok fields
 put fields (name ∷ names) v = put_field (put_behind names v) name fields
-
--- the call returned the defined result, or ran out of memory; `view` says what a value in memory represents
-abbrev pub Gives : {X Y : Type 0} → (X → Y) → Result X PathFault → Result Y PathFault → Type 0
-Gives view (Ok x) put = put ≡ Ok (view x)
-Gives view (Err e) put = (e ≡ NoMemory) ⊎ (put ≡ Err e)

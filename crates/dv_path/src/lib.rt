@@ -17,10 +17,7 @@ mod sort_spec;
 mod sorting;
 
 pub use direction::Direction;
-pub use dv_candidates::{
-    Candidate, Component, Path, PathFault, any_leaf, any_whole, any_with_elements, fold_whole,
-    leaves, sole_candidate, whole,
-};
+pub use dv_candidates::{Candidate, Path, PathFault, any_leaf, any_whole, leaves, whole};
 pub use expression::expr_value;
 pub use keys::{add_element_keys, add_key, array_in, candidate_key, leaf_keys};
 pub use names::{has_bad_name, has_dot};

@@ -3,9 +3,11 @@
 ghost use Rattle.std.specs.Prelude.{◌≡◌, ◌≤◌, ◌++◌, ◌∷◌, [], Some, Err, length, map, false, IfOk, OnOk};
 ghost use Rattle.dv_value.specs.Names.{has_name};
 ghost use Rattle.dv_value.specs.View.{tree};
+ghost use Rattle.dv_value.specs.Results.{Gives};
+ghost use Rattle.dv_candidates.specs.declared.fault.PathFault.TheVariants.{NoMemory as no_memory};
 ghost use Rattle.dv_candidates.specs.declared.fault.PathFault.{PathFault};
 ghost use Rattle.dv_candidates.specs.Path.{index_of};
-ghost use Rattle.dv_path.specs.Placing.{Gives, put, put_behind, put_element, put_field, with_element, with_field};
+ghost use Rattle.dv_path.specs.Placing.{put, put_behind, put_element, put_field, with_element, with_field};
 
 use crate::exchange::{put_element_back, put_field_back, take_element, take_field};
 use crate::refusing::refusal;
@@ -32,7 +34,7 @@ pub fn put_at(
     path: &Path,
     value: Value,
 ) -> Result<Document, PathFault>
-    ensures put { Gives (λ changed. changed) result (put document path.now (tree value)) }
+    ensures put { Gives no_memory (λ changed. changed) result (put document path.now (tree value)) }
     ensures refused { (fault : PathFault) → put document path.now (tree value) ≡ Err fault → result ≡ Err fault }
 {
     if let Some(fault) = refusal(&document, path) {
@@ -50,7 +52,7 @@ fn put_into_document(
     rest: &[Component],
     value: Value,
 ) -> Result<Document, PathFault>
-    ensures { Gives (λ changed. changed) result (put_field (put_behind rest.now (tree value)) component.now document) }
+    ensures { Gives no_memory (λ changed. changed) result (put_field (put_behind rest.now (tree value)) component.now document) }
 {
     let mut document = document;
     if rest.is_empty() {
@@ -85,7 +87,7 @@ fn put_into_value(
     rest: &[Component],
     value: Value,
 ) -> Result<Value, PathFault>
-    ensures { Gives tree result (put_behind rest.now (tree value) (Some (tree there))) }
+    ensures { Gives no_memory tree result (put_behind rest.now (tree value) (Some (tree there))) }
 {
     let Some((component, rest)) = rest.split_first() else {
         return Ok(value);
@@ -111,7 +113,7 @@ fn put_into_list(
     rest: &[Component],
     value: Value,
 ) -> Result<List, PathFault>
-    ensures { Gives (λ changed. changed) result (put_element (put_behind rest.now (tree value)) (index_of component.now) list) }
+    ensures { Gives no_memory (λ changed. changed) result (put_element (put_behind rest.now (tree value)) (index_of component.now) list) }
 {
     let Some(index) = component.index() else {
         return Err(PathFault::NotViable);

@@ -11,8 +11,8 @@ mod sources;
 mod stage;
 mod step;
 
-pub use dv_gather::{Accumulator, Group, GroupField, Lookup};
-pub use dv_row::{Computed, ComputedField, Expr, Paths, PipelineFault, Project, Unwind};
+pub use dv_gather::Lookup;
+pub use dv_row::{Expr, Paths, PipelineFault, Project, Unwind};
 pub use evaluation::{evaluate, rows_through};
 pub use joined::filter_of_joined;
 pub use pipeline::Pipeline;

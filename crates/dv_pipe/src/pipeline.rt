@@ -3,8 +3,8 @@
 ghost use Rattle.std.specs.Prelude.{◌≡◌, map, IfOk};
 ghost use Rattle.std.specs.List.{list_any};
 ghost use Rattle.dv_value.specs.View.{tree};
-ghost use Rattle.dv_row.specs.Parsing.{Gives};
-ghost use Rattle.dv_value.specs.Results.{each};
+ghost use Rattle.dv_value.specs.Results.{Gives, each};
+ghost use Rattle.dv_row.specs.declared.fault.PipelineFault.TheVariants.{NoMemory as no_memory};
 ghost use Rattle.dv_pipe.specs.StageParsing.{stage_of, pipeline_of};
 ghost use Rattle.dv_pipe.specs.Stages.{is_source_named, is_read, looked_into};
 
@@ -44,7 +44,7 @@ impl Pipeline {
     /// The pipeline of the documents, each of which is a stage, or its first fault in written order: `TooMany` is that of a
     /// seventeenth stage. Fails with `NoMemory` when memory runs out.
     pub fn parse(alloc: Global, list: &[Value]) -> Result<Pipeline, PipelineFault>
-        ensures { Gives (λ pipeline. pipeline) result (pipeline_of (map tree list.now)) }
+        ensures { Gives no_memory (λ pipeline. pipeline) result (pipeline_of (map tree list.now)) }
     {
         if list.len() > MOST_STAGES {
             each_stage(alloc, &list[..MOST_STAGES])?;
@@ -96,7 +96,7 @@ impl Pipeline {
 
 /// The stages that the values are.
 fn each_stage(alloc: Global, list: &[Value]) -> Result<Vec<Stage>, PipelineFault>
-    ensures { Gives (λ stages. stages.items) result (each stage_of (map tree list.now)) }
+    ensures { Gives no_memory (λ stages. stages.items) result (each stage_of (map tree list.now)) }
 {
     let mut stages = Vec::new(alloc);
     'stages: for value in list {

@@ -29,7 +29,7 @@ pub(crate) enum End<'a> {
 
 /// A stage, by how rows go through it.
 #[derive(Drop)]
-pub(crate) enum Part<'a> {
+pub(crate) enum RunPart<'a> {
     /// One by one.
     Step(Step<'a>),
     /// All of them before the first one leaves.
@@ -60,8 +60,8 @@ impl<'a> Run<'a> {
         let mut stages = stages;
         'stages: while let Some((stage, later)) = stages.split_first() {
             match part_of(alloc, stage, later, source, sources)? {
-                Part::Step(step) => steps.push(step)?,
-                Part::End(end) => return Ok(Run { steps, end, later }),
+                RunPart::Step(step) => steps.push(step)?,
+                RunPart::End(end) => return Ok(Run { steps, end, later }),
             }
             stages = later;
         }
@@ -124,19 +124,19 @@ fn part_of<'a>(
     later: &[Stage],
     source: &str,
     sources: &'a Sources<'a>,
-) -> Result<Part<'a>, NoMemory>
+) -> Result<RunPart<'a>, NoMemory>
     ensures { IfOk result (λ part. ComesToSame source.now sources.now later.now (rows_of_part part) (stage.now ∷ later.now)) }
 {
     match stage {
-        Stage::Match(filter) => Ok(Part::Step(Step::of(Work::Match(filter)))),
-        Stage::Project(project) => Ok(Part::Step(Step::of(Work::Project(project)))),
-        Stage::Unwind(unwind) => Ok(Part::Step(Step::of(Work::Unwind(unwind)))),
-        Stage::Sort(spec) => Ok(Part::End(End::Sort(spec, wanted(later)))),
-        Stage::Limit(count) => Ok(Part::End(End::Front(Some(*count as usize)))),
-        Stage::Group(group) => Ok(Part::End(End::Group(group))),
+        Stage::Match(filter) => Ok(RunPart::Step(Step::of(Work::Match(filter)))),
+        Stage::Project(project) => Ok(RunPart::Step(Step::of(Work::Project(project)))),
+        Stage::Unwind(unwind) => Ok(RunPart::Step(Step::of(Work::Unwind(unwind)))),
+        Stage::Sort(spec) => Ok(RunPart::End(End::Sort(spec, wanted(later)))),
+        Stage::Limit(count) => Ok(RunPart::End(End::Front(Some(*count as usize)))),
+        Stage::Group(group) => Ok(RunPart::End(End::Group(group))),
         Stage::Lookup(lookup) => {
             let join = join_of(alloc, lookup, source, sources)?;
-            Ok(Part::Step(Step::of(Work::Lookup(join))))
+            Ok(RunPart::Step(Step::of(Work::Lookup(join))))
         }
     }
 }

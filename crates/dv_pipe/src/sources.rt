@@ -11,7 +11,7 @@ use std::marker::Model;
 
 /// A namespace and its documents.
 #[derive(Debug, Drop)]
-struct Source<'a> {
+struct NamedList<'a> {
     namespace: Str,
     documents: Vec<&'a Document>,
 }
@@ -19,7 +19,7 @@ struct Source<'a> {
 /// Namespaces, each with its documents, in the order in which they were added.
 #[derive(Debug, Drop)]
 pub struct Sources<'a> {
-    sources: Vec<Source<'a>>,
+    sources: Vec<NamedList<'a>>,
     none: Vec<&'a Document>,
 }
 
@@ -58,7 +58,7 @@ impl<'a> Sources<'a> {
     {
         let alloc = *self.sources.allocator();
         let namespace = Str::of(String::from_str(alloc, namespace)?);
-        self.sources.push(Source {
+        self.sources.push(NamedList {
             namespace,
             documents,
         })?;

@@ -3,7 +3,8 @@
 ghost use Rattle.std.specs.Prelude.{◌≡◌, IfOk};
 ghost use Rattle.std.specs.Option.{option_map};
 ghost use Rattle.dv_value.specs.View.{tree};
-ghost use Rattle.dv_row.specs.Parsing.{Gives};
+ghost use Rattle.dv_value.specs.Results.{Gives};
+ghost use Rattle.dv_row.specs.declared.fault.PipelineFault.TheVariants.{NoMemory as no_memory};
 ghost use Rattle.dv_pipe.specs.StageParsing as defined;
 ghost use Rattle.dv_pipe.specs.Stages.{from_of};
 
@@ -36,7 +37,7 @@ pub enum Stage {
 impl Stage {
     /// The stage that the value is, a document of one name, or its first fault in written order.
     pub(crate) fn parse(alloc: Global, value: &Value) -> Result<Stage, PipelineFault>
-        ensures { Gives (λ stage. stage) result (defined.stage_of (tree value.now)) }
+        ensures { Gives no_memory (λ stage. stage) result (defined.stage_of (tree value.now)) }
     {
         let Value::Doc(document) = value else {
             return Err(PipelineFault::BadSpec);
@@ -80,7 +81,7 @@ impl Stage {
 /// The stage of this name.
 #[tactic(auto, unfolding(crate::specs::StageParsing::stage_named))]
 fn stage_named(alloc: Global, name: &str, operand: &Value) -> Result<Stage, PipelineFault>
-    ensures { Gives (λ stage. stage) result (defined.stage_named name.now (tree operand.now)) }
+    ensures { Gives no_memory (λ stage. stage) result (defined.stage_named name.now (tree operand.now)) }
 {
     match name {
         "$match" => Ok(Stage::Match(filter_of(alloc, operand)?)),
@@ -96,7 +97,7 @@ fn stage_named(alloc: Global, name: &str, operand: &Value) -> Result<Stage, Pipe
 
 /// The filter that the value is.
 fn filter_of(alloc: Global, value: &Value) -> Result<Filter, PipelineFault>
-    ensures { Gives (λ filter. filter) result (defined.filter_form (tree value.now)) }
+    ensures { Gives no_memory (λ filter. filter) result (defined.filter_form (tree value.now)) }
 {
     match value {
         Value::Doc(document) => match Filter::parse(alloc, document) {
@@ -119,7 +120,7 @@ fn of_filter(fault: FilterFault) -> PipelineFault
 
 /// The sort that the value is.
 fn sort_of(alloc: Global, value: &Value) -> Result<SortSpec, PipelineFault>
-    ensures { Gives (λ spec. spec) result (defined.sort_in (tree value.now)) }
+    ensures { Gives no_memory (λ spec. spec) result (defined.sort_in (tree value.now)) }
 {
     let Value::Doc(document) = value else {
         return Err(PipelineFault::BadSpec);

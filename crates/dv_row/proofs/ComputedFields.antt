@@ -11,9 +11,9 @@ use Rattle.dv_row.specs.declared.project.Project.TheVariants.{Include}
 use Rattle.dv_row.specs.Expressions.{Expression, nothing, computed_of, with_field_behind, value_of, with_computed}
 use Rattle.dv_row.specs.Projecting.{paths_behind, left_of_value, row_left, projected}
 use Rattle.dv_row.specs.Row.{Row}
-use Rattle.dv_row.specs.Inner.Shown.{begins_with_name, computed_fields}
+use Rattle.dv_row.specs.Inner.Shown.{Paths, begins_with_name, computed_fields}
 use Rattle.dv_row.proofs.Left.{bytes-eq_symmetric}
-use Rattle.dv_row.proofs.ShownFields.{Paths, in_front, left-none, left-cons, not-led}
+use Rattle.dv_row.proofs.ShownFields.{in_front, left-none, left-cons, not-led}
 
 unled : (n : List ℕ) (paths : Paths) → list_any (begins_with_name n) paths ≡ false → (d : Row) → has_name n (row_left true paths d) ≡ false
 unled n paths h [] = ap (has_name n) (left-none true paths)

@@ -23,11 +23,11 @@ use Rattle.dv_value.specs.Results.{◌>>=◌}
 use Rattle.dv_row.specs.Projecting.{row_left, projected}
 use Rattle.dv_row.specs.ProjectParsing.{AskedMembers, conflicts_with_asked, excludes, includes, is_below_id, is_id_path, members_in, nothing_asked, one_begins, project_form, project_in, with_computation, with_excluded, with_id_path, with_included, with_member, with_named, with_path, with_switch}
 use Rattle.dv_row.specs.Row.{Row}
-use Rattle.dv_row.specs.Inner.Shown.{begins_with_name, is_alone}
+use Rattle.dv_row.specs.Inner.Shown.{Paths, begins_with_name, is_alone}
 use Rattle.dv_row.proofs.Conflicting.{begins-back}
 use Rattle.dv_row.proofs.Left.{bytes-eq_symmetric}
 use Rattle.dv_row.proofs.Members.{begins-name, project-some}
-use Rattle.dv_row.proofs.ShownFields.{Paths, named-stays, not-led, same-fields}
+use Rattle.dv_row.proofs.ShownFields.{named-stays, not-led, same-fields}
 use Rattle.dv_row.proofs.Taken.{computed-taken, excluded-taken, included-taken, parts-of, undotted}
 
 abbrev id : List ℕ

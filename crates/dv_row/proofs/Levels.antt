@@ -10,9 +10,9 @@ use Rattle.dv_row.specs.declared.project.Project.TheVariants.{Include, Exclude}
 use Rattle.dv_row.specs.Expressions.{nothing, with_computed}
 use Rattle.dv_row.specs.Projecting.{paths_behind, if_it, left_of_value, left_inside, fields_left, row_left, projected}
 use Rattle.dv_row.specs.Row.{Row}
-use Rattle.dv_row.specs.Inner.Shown.{Level, AreNamesApart, bare_level, begins_with_name, is_alone, is_met, way_through, within}
+use Rattle.dv_row.specs.Inner.Shown.{Level, Paths, AreNamesApart, bare_level, begins_with_name, is_alone, is_met, way_through, within}
 use Rattle.dv_row.proofs.Left.{bytes-eq_symmetric, fields-of_list, row-left_append}
-use Rattle.dv_row.proofs.ShownFields.{Paths, in_front, left-cons, left-none, left-of, not-led}
+use Rattle.dv_row.proofs.ShownFields.{in_front, left-cons, left-none, left-of, not-led}
 
 -- ---- one field
 

@@ -9,10 +9,7 @@ use Rattle.dv_row.specs.declared.project.Project.TheVariants.{Include, Exclude}
 use Rattle.dv_row.specs.Expressions.{nothing, with_computed}
 use Rattle.dv_row.specs.Projecting.{paths_behind, ends, if_it, with_left, left_at, left_inside, fields_left, left_of_value, row_left, projected}
 use Rattle.dv_row.specs.Row.{Row}
-use Rattle.dv_row.specs.Inner.Shown.{is_alone, begins_with_name, is_named, is_met, has_parts, names}
-
-abbrev pub Paths : Type 0
-Paths = List (List (List ℕ))
+use Rattle.dv_row.specs.Inner.Shown.{Paths, is_alone, begins_with_name, is_named, is_met, has_parts, names}
 
 abbrev pub in_front : List ℕ → Candidate → List Field → List Field
 in_front name None fs = fs

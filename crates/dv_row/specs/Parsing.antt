@@ -1,6 +1,6 @@
 -- How a path after a dollar sign, and the operand of `$unwind`, are parsed: the parsed form, or the fault (MongoDB manual, "$unwind
 -- (aggregation)"). Which fault is reported is this server's own.
-use Rattle.std.specs.Prelude.{◌≡◌, ◌⊎◌, ℕ, ◌==◌, ◌||◌, Bool, false, Option, Some, None, List, [], ◌∷◌, Result, Ok, Err, codes, if◌then◌else◌}
+use Rattle.std.specs.Prelude.{ℕ, ◌==◌, ◌||◌, Bool, false, Option, Some, None, List, [], ◌∷◌, Result, Ok, Err, codes, if◌then◌else◌}
 use Rattle.std.specs.Str.{bytes_eq}
 use Rattle.std.specs.List.{list_all}
 use Rattle.dv_value.specs.Results.{◌>>=◌}
@@ -9,13 +9,8 @@ use Rattle.dv_value.specs.Names.{begins_with_dollar, value_under}
 use Rattle.dv_candidates.specs.Candidates.{Candidate}
 use Rattle.dv_candidates.specs.Path.{path_of}
 use Rattle.dv_row.specs.declared.fault.PipelineFault.{PipelineFault}
-use Rattle.dv_row.specs.declared.fault.PipelineFault.TheVariants.{BadSpec, NoMemory}
+use Rattle.dv_row.specs.declared.fault.PipelineFault.TheVariants.{BadSpec}
 use Rattle.dv_row.specs.declared.unwind.Unwind.{Unwind}
-
--- the call returned the defined result, or ran out of memory; `view` says what a value in memory represents
-abbrev pub Gives : {X Y : Type 0} → (X → Y) → Result X PipelineFault → Result Y PipelineFault → Type 0
-Gives view (Ok x) parsed = parsed ≡ Ok (view x)
-Gives view (Err e) parsed = (e ≡ NoMemory) ⊎ (parsed ≡ Err e)
 
 -- the text after a dollar sign, if it begins with one
 abbrev pub behind_dollar : List ℕ → Option (List ℕ)

@@ -3,11 +3,12 @@
 ghost use Rattle.std.specs.Prelude.{◌≡◌, ◌∷◌, [], true, false, map, Some, None, Ok, OnOk, OnErr, if◌then◌else◌};
 ghost use Rattle.std.specs.List.{list_any};
 ghost use Rattle.dv_value.specs.View.{tree};
+ghost use Rattle.dv_value.specs.Results.{Gives};
+ghost use Rattle.dv_row.specs.declared.fault.PipelineFault.TheVariants.{NoMemory as no_memory};
 ghost use Rattle.dv_candidates.specs.Path.{path_of};
 ghost use Rattle.dv_row.specs.Inner.AskedView.{asked as seen};
 ghost use Rattle.dv_row.specs.Inner.Conflicts.{TakesMember, paths_conflict as list_conflicts};
 ghost use Rattle.dv_row.specs.Inner.ExpressionView.{expression_seen, named};
-ghost use Rattle.dv_row.specs.Parsing.{Gives};
 ghost use Rattle.dv_row.specs.ProjectParsing as defined;
 ghost use Rattle.dv_row.specs.declared.fault.PipelineFault.TheVariants.{Conflict};
 
@@ -35,7 +36,7 @@ impl Project {
     /// if a path equals or begins one before it, or is begun by one. Fails with `NoMemory` when memory runs out.
     #[tactic(auto, unfolding(crate::specs::ProjectParsing::project_in))]
     pub fn parse(alloc: Global, value: &Value) -> Result<Project, PipelineFault>
-        ensures { Gives (λ project. project) result (defined.project_in (tree value.now)) }
+        ensures { Gives no_memory (λ project. project) result (defined.project_in (tree value.now)) }
     {
         let Value::Doc(document) = value else {
             return Err(PipelineFault::BadSpec);
@@ -51,7 +52,7 @@ impl Project {
 /// What the members ask, or the first fault. Whether paths conflict is asked of all at once, of those in front of a fault
 /// too, whose conflict comes first.
 fn members_of(alloc: Global, document: &Document) -> Result<Asked, PipelineFault>
-    ensures { Gives seen result (defined.members_in defined.nothing_asked document.now) }
+    ensures { Gives no_memory seen result (defined.members_in defined.nothing_asked document.now) }
 {
     let mut asked = Asked::new(alloc);
     let mut paths = Vec::new(alloc);
@@ -185,7 +186,7 @@ impl Asked {
 
     /// The form of what is asked.
     fn into_project(self, alloc: Global) -> Result<Project, PipelineFault>
-        ensures { Gives (λ project. project) result (Ok (defined.project_form (seen self))) }
+        ensures { Gives no_memory (λ project. project) result (Ok (defined.project_form (seen self))) }
     {
         if !self.includes() {
             let Asked { excluded, .. } = self;

@@ -4,8 +4,9 @@ ghost use Rattle.std.specs.Prelude.{◌≡◌, true};
 ghost use Rattle.std.specs.Option.{option_map};
 ghost use Rattle.dv_value.specs.Tree.{string, fields_of};
 ghost use Rattle.dv_value.specs.View.{tree};
+ghost use Rattle.dv_value.specs.Results.{Gives};
+ghost use Rattle.dv_row.specs.declared.fault.PipelineFault.TheVariants.{NoMemory as no_memory};
 ghost use Rattle.dv_row.specs.Inner.ExpressionView.{expression_seen, named};
-ghost use Rattle.dv_row.specs.Parsing.{Gives};
 ghost use Rattle.dv_row.specs.ExpressionParsing as defined;
 
 use crate::expr::{Computed, ComputedField, Expr};
@@ -21,7 +22,7 @@ impl Expr {
     /// names hold no dot and begin with no dollar sign, or the value itself, for any other value except an array. Refused with
     /// `BadSpec` if it is none, and with `NoMemory`.
     pub fn parse(alloc: Global, value: &Value) -> Result<Expr, PipelineFault>
-        ensures { Gives expression_seen result (defined.expression_in true (tree value.now)) }
+        ensures { Gives no_memory expression_seen result (defined.expression_in true (tree value.now)) }
     {
         Expr::parse_where(alloc, true, value)
     }
@@ -34,7 +35,7 @@ impl Expr {
         plain: bool,
         value: &Value,
     ) -> Result<Expr, PipelineFault>
-        ensures { Gives expression_seen result (defined.expression_in plain (tree value.now)) }
+        ensures { Gives no_memory expression_seen result (defined.expression_in plain (tree value.now)) }
     {
         match value {
             Value::Text(text) => text_expression(alloc, text.as_str(), value),
@@ -52,7 +53,7 @@ fn document_expression(
     plain: bool,
     document: &Document,
 ) -> Result<Expr, PipelineFault>
-    ensures { Gives expression_seen result (defined.literal_or_made (defined.literal_in (fields_of document.now)) (defined.computed_in plain (fields_of document.now))) }
+    ensures { Gives no_memory expression_seen result (defined.literal_or_made (defined.literal_in (fields_of document.now)) (defined.computed_in plain (fields_of document.now))) }
 {
     match literal_of(document) {
         Some(value) => Ok(Expr::Constant(value.try_clone()?)),
@@ -64,7 +65,7 @@ impl Computed {
     /// The fields of a document of expressions.
     #[cycle(expr_parsing)]
     fn parse(alloc: Global, plain: bool, document: &Document) -> Result<Computed, PipelineFault>
-        ensures { Gives (λ computed. computed) result (defined.computed_in plain (fields_of document.now)) }
+        ensures { Gives no_memory (λ computed. computed) result (defined.computed_in plain (fields_of document.now)) }
     {
         let mut fields = Vec::new(alloc);
         'fields: for place in 0..document.len() {
@@ -85,7 +86,7 @@ fn field_of(
     name: &str,
     value: &Value,
 ) -> Result<ComputedField, PipelineFault>
-    ensures { Gives named result (defined.under_name name.now (defined.expression_in plain (tree value.now))) }
+    ensures { Gives no_memory named result (defined.under_name name.now (defined.expression_in plain (tree value.now))) }
 {
     if begins_with_dollar(name) || has_dot(name) {
         return Err(PipelineFault::BadSpec);
@@ -98,7 +99,7 @@ fn field_of(
 /// The expression that a text is, which stands in the value.
 fn text_expression(alloc: Global, text: &str, value: &Value) -> Result<Expr, PipelineFault>
     requires { tree value.now ≡ string text.now }
-    ensures { Gives expression_seen result (defined.text_expression text.now) }
+    ensures { Gives no_memory expression_seen result (defined.text_expression text.now) }
 {
     if begins_with_dollar(text) {
         return Ok(Expr::Path(field_path(alloc, text)?));
@@ -108,7 +109,7 @@ fn text_expression(alloc: Global, text: &str, value: &Value) -> Result<Expr, Pip
 
 /// A value that stands for itself, as a number and a boolean does where it is `plain`.
 fn constant(plain: bool, value: &Value) -> Result<Expr, PipelineFault>
-    ensures { Gives expression_seen result (defined.constant_in plain (tree value.now)) }
+    ensures { Gives no_memory expression_seen result (defined.constant_in plain (tree value.now)) }
 {
     if !plain && switch_of(value).is_some() {
         return Err(PipelineFault::BadSpec);

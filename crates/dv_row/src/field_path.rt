@@ -3,8 +3,10 @@
 ghost use Rattle.std.specs.Prelude.{◌≡◌};
 ghost use Rattle.std.specs.Prelude.{◌≡◌};
 ghost use Rattle.std.specs.Option.{option_map};
+ghost use Rattle.dv_value.specs.Results.{Gives};
+ghost use Rattle.dv_row.specs.declared.fault.PipelineFault.TheVariants.{NoMemory as no_memory};
 ghost use Rattle.dv_row.specs.Parsing as defined;
-ghost use Rattle.dv_row.specs.Parsing.{Gives, path_in};
+ghost use Rattle.dv_row.specs.Parsing.{path_in};
 
 use crate::fault::PipelineFault;
 use dv_candidates::Path;
@@ -14,7 +16,7 @@ use std::alloc::Global;
 /// The path behind a dollar sign. Refused with `BadSpec` where there is none, or where another dollar sign follows, and with
 /// `NoMemory`.
 pub(crate) fn field_path(alloc: Global, text: &str) -> Result<Path, PipelineFault>
-    ensures { Gives (λ path. path) result (path_in text.now) }
+    ensures { Gives no_memory (λ path. path) result (path_in text.now) }
 {
     let Some(path) = behind_dollar(text) else {
         return Err(PipelineFault::BadSpec);

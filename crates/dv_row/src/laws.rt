@@ -1,27 +1,25 @@
 //! What holds of what stages make of one row, each the contract of a function that does nothing.
 
 ghost use Rattle.std.specs.Prelude.{◌≡◌, ◌≢◌, ◌⊎◌, ℕ, Bool, true, false, List, [], ◌∷◌, ◌++◌, ◌||◌, ◌&&◌, not, filter, map, Some, None, Ok, Err, codes};
-ghost use Rattle.std.specs.List.{AllByRecursion, list_any};
 ghost use Rattle.std.specs.Option.{IfSome};
-ghost use Rattle.std.specs.Str.{bytes_eq};
 ghost use Rattle.dv_value.specs.Names.{AreNamed, bare, has_name};
 ghost use Rattle.dv_value.specs.Spelling.{IsValue};
 ghost use Rattle.dv_value.specs.Tree.{Tree, array, document, null, Elements, no_elements, element, list_of_elements, Field, fields_of};
 ghost use Rattle.dv_path.specs.Placing.{put};
 ghost use Rattle.dv_path.specs.Removing.{remove};
 ghost use Rattle.dv_row.specs.declared.fault.PipelineFault.TheVariants.{BadSpec};
-ghost use Rattle.dv_row.specs.Inner.Examples.{shown};
+ghost use Rattle.dv_row.specs.Inner.Examples.{named_a, named_b, named_id, shown};
 ghost use Rattle.dv_value.specs.Short.{int, long, text, doc, list};
 ghost use Rattle.dv_row.specs.declared.project.Project as projects;
-ghost use Rattle.dv_row.specs.declared.project.Project.TheVariants.{Exclude, Include};
+ghost use Rattle.dv_row.specs.declared.project.Project.TheVariants.{Include};
 ghost use Rattle.dv_row.specs.declared.unwind.Unwind as unwinds;
 ghost use Rattle.dv_row.specs.ExpressionParsing.{expression_in};
-ghost use Rattle.dv_row.specs.Expressions.{Expression, computed_of, nothing, value_of};
+ghost use Rattle.dv_row.specs.Expressions.{Expression, computed_of, value_of};
 ghost use Rattle.dv_row.specs.Parsing.{unwind_in, unwinding};
 ghost use Rattle.dv_row.specs.Projecting.{paths_behind, projected};
 ghost use Rattle.dv_row.specs.ProjectParsing.{project_in};
 ghost use Rattle.dv_row.specs.Row.{Row};
-ghost use Rattle.dv_row.specs.Inner.Shown.{AreNamesApart, Level, bare_level, begins_with_name, computed_fields, has_parts, is_alone, is_met, is_named, names, way_through, within};
+ghost use Rattle.dv_row.specs.Inner.Shown.{AreNamesApart, AreUnmet, Level, Paths, bare_levels, begins_at, computed_fields, document_under, ends_at, excluded, has_parts, ids_in, included, is_met, is_named, names, way_to, within};
 ghost use Rattle.dv_row.specs.Unwinding.{reached, unwound};
 ghost use Rattle.dv_row.specs.Inner.Valid.{AreValid, IsValid};
 
@@ -55,33 +53,33 @@ pub fn what_is_dropped_can_be_preserved()
 /// nothing else stays, and the order is the row's.
 #[tactic(auto, using(crate::proofs::ShownFields::included_names, crate::proofs::ShownFields::included_kept))]
 pub fn included_fields_alone_stay()
-    ensures names { (paths : List (List (List ℕ))) (row : Row) → names (projected (Include paths nothing) row) ≡ names (filter (λ f. is_named paths f || is_met paths f && has_parts f.1) row) }
-    ensures kept { (paths : List (List (List ℕ))) (row : Row) → filter (is_named paths) (projected (Include paths nothing) row) ≡ filter (is_named paths) row }
+    ensures names { (paths : Paths) (row : Row) → names (included paths row) ≡ names (filter (λ f. is_named paths f || is_met paths f && has_parts f.1) row) }
+    ensures kept { (paths : Paths) (row : Row) → filter (is_named paths) (included paths row) ≡ filter (is_named paths) row }
 {}
 
 /// The fields that an excluded path names go, and no others; those that no path meets stay as they are, in the row's order.
 #[tactic(auto, using(crate::proofs::ShownFields::excluded_names, crate::proofs::ShownFields::excluded_kept))]
 pub fn excluded_fields_alone_go()
-    ensures names { (paths : List (List (List ℕ))) (row : Row) → names (projected (Exclude paths) row) ≡ names (filter (λ f. not (is_named paths f)) row) }
-    ensures kept { (paths : List (List (List ℕ))) (row : Row) → filter (λ f. not (is_met paths f)) (projected (Exclude paths) row) ≡ filter (λ f. not (is_met paths f)) row }
+    ensures names { (paths : Paths) (row : Row) → names (excluded paths row) ≡ names (filter (λ f. not (is_named paths f)) row) }
+    ensures kept { (paths : Paths) (row : Row) → filter (λ f. not (is_met paths f)) (excluded paths row) ≡ filter (λ f. not (is_met paths f)) row }
 {}
 
 /// A field that no excluded path begins with stays as it is, at its place, whatever becomes of the others.
 #[tactic(auto, using(crate::proofs::Levels::excluded_stays))]
 pub fn other_fields_stay_where_they_stand()
-    ensures { (paths : List (List (List ℕ))) (front back : Row) (f : Field) → is_met paths f ≡ false → projected (Exclude paths) (front ++ f ∷ back) ≡ projected (Exclude paths) front ++ f ∷ projected (Exclude paths) back }
+    ensures { (paths : Paths) (front back : Row) (f : Field) → is_met paths f ≡ false → excluded paths (front ++ f ∷ back) ≡ excluded paths front ++ f ∷ excluded paths back }
 {}
 
 /// Each field is shown by itself. A document that paths lead into, and none of them is, is shown as a row is, by what is left of
 /// these paths; so it is with a document in it, at each level.
 #[tactic(auto, using(crate::proofs::Levels::included_apart, crate::proofs::Levels::excluded_apart, crate::proofs::Levels::included_inside, crate::proofs::Levels::excluded_inside))]
 pub fn documents_are_shown_as_rows()
-    ensures included_apart { (paths : List (List (List ℕ))) (front back : Row) → projected (Include paths nothing) (front ++ back) ≡ projected (Include paths nothing) front ++ projected (Include paths nothing) back }
-    ensures excluded_apart { (paths : List (List (List ℕ))) (front back : Row) → projected (Exclude paths) (front ++ back) ≡ projected (Exclude paths) front ++ projected (Exclude paths) back }
-    ensures included_inside { (paths : List (List (List ℕ))) (name : List ℕ) (d : Row) → list_any (is_alone name) paths ≡ false → list_any (begins_with_name name) paths ≡ true
-        → projected (Include paths nothing) ((name, document (fields_of d)) ∷ []) ≡ (name, document (fields_of (projected (Include (paths_behind name paths) nothing) d))) ∷ [] }
-    ensures excluded_inside { (paths : List (List (List ℕ))) (name : List ℕ) (d : Row) → list_any (is_alone name) paths ≡ false → list_any (begins_with_name name) paths ≡ true
-        → projected (Exclude paths) ((name, document (fields_of d)) ∷ []) ≡ (name, document (fields_of (projected (Exclude (paths_behind name paths)) d))) ∷ [] }
+    ensures included_apart { (paths : Paths) (front back : Row) → included paths (front ++ back) ≡ included paths front ++ included paths back }
+    ensures excluded_apart { (paths : Paths) (front back : Row) → excluded paths (front ++ back) ≡ excluded paths front ++ excluded paths back }
+    ensures included_inside { (paths : Paths) (name : List ℕ) (d : Row) → ends_at paths name ≡ false → begins_at paths name ≡ true
+        → included paths (document_under name d ∷ []) ≡ document_under name (included (paths_behind name paths) d) ∷ [] }
+    ensures excluded_inside { (paths : Paths) (name : List ℕ) (d : Row) → ends_at paths name ≡ false → begins_at paths name ≡ true
+        → excluded paths (document_under name d ∷ []) ≡ document_under name (excluded (paths_behind name paths) d) ∷ [] }
 {}
 
 /// At any depth of documents, an included path that leads through the levels keeps at each of them only that document, and in it
@@ -90,42 +88,43 @@ pub fn documents_are_shown_as_rows()
 #[tactic(auto, using(crate::proofs::Levels::included_deep, crate::proofs::Levels::excluded_deep))]
 pub fn paths_lead_through_levels()
     ensures included { (levels : List Level) (name : List ℕ) (rest : List (List ℕ)) (d : Row) → AreNamesApart levels
-        → projected (Include ((way_through levels ++ name ∷ rest) ∷ []) nothing) (within levels d) ≡ within (map bare_level levels) (projected (Include ((name ∷ rest) ∷ []) nothing) d) }
+        → included (way_to levels name rest ∷ []) (within levels d) ≡ within (bare_levels levels) (included ((name ∷ rest) ∷ []) d) }
     ensures excluded { (levels : List Level) (name : List ℕ) (rest : List (List ℕ)) (d : Row) → AreNamesApart levels
-        → projected (Exclude ((way_through levels ++ name ∷ rest) ∷ [])) (within levels d) ≡ within levels (projected (Exclude ((name ∷ rest) ∷ [])) d) }
+        → excluded (way_to levels name rest ∷ []) (within levels d) ≡ within levels (excluded ((name ∷ rest) ∷ []) d) }
 {}
 
 /// If a stage says nothing of `_id`, that stays as it is, beside what is included or computed and beside what is excluded.
 #[tactic(auto, using(crate::proofs::Ids::unasked_id_stays))]
 pub fn an_id_that_is_not_asked_for_stays()
     ensures { (members row : List Field) (p : projects.Project) → project_in (document (fields_of members)) ≡ Ok p → has_name (codes "_id") members ≡ false
-        → filter (λ f. bytes_eq f.0 (codes "_id")) (projected p row) ≡ filter (λ f. bytes_eq f.0 (codes "_id")) row }
+        → ids_in (projected p row) ≡ ids_in row }
 {}
 
 /// `_id` stays beside what is included and beside what is excluded, and goes if it is excluded itself, by itself or beside either.
 #[tactic(auto, using(crate::proofs::Worked::id_stays_included, crate::proofs::Worked::id_stays_excluded, crate::proofs::Worked::id_goes_alone, crate::proofs::Worked::id_goes_included, crate::proofs::Worked::id_goes_excluded))]
 pub fn examples_of_ids()
-    ensures stays_beside_included { (id a b : Tree) → shown ((codes "a", int 1) ∷ []) ((codes "_id", id) ∷ (codes "a", a) ∷ (codes "b", b) ∷ []) ≡ Ok ((codes "_id", id) ∷ (codes "a", a) ∷ []) }
-    ensures stays_beside_excluded { (id a b : Tree) → shown ((codes "a", int 0) ∷ []) ((codes "_id", id) ∷ (codes "a", a) ∷ (codes "b", b) ∷ []) ≡ Ok ((codes "_id", id) ∷ (codes "b", b) ∷ []) }
-    ensures goes_alone { (id a b : Tree) → shown ((codes "_id", int 0) ∷ []) ((codes "_id", id) ∷ (codes "a", a) ∷ (codes "b", b) ∷ []) ≡ Ok ((codes "a", a) ∷ (codes "b", b) ∷ []) }
-    ensures goes_beside_included { (id a b : Tree) → shown ((codes "a", int 1) ∷ (codes "_id", int 0) ∷ []) ((codes "_id", id) ∷ (codes "a", a) ∷ (codes "b", b) ∷ []) ≡ Ok ((codes "a", a) ∷ []) }
-    ensures goes_beside_excluded { (id a b : Tree) → shown ((codes "a", int 0) ∷ (codes "_id", int 0) ∷ []) ((codes "_id", id) ∷ (codes "a", a) ∷ (codes "b", b) ∷ []) ≡ Ok ((codes "b", b) ∷ []) }
+    ensures stays_beside_included { (id a b : Tree) → shown (named_a (int 1) ∷ []) (named_id id ∷ named_a a ∷ named_b b ∷ []) ≡ Ok (named_id id ∷ named_a a ∷ []) }
+    ensures stays_beside_excluded { (id a b : Tree) → shown (named_a (int 0) ∷ []) (named_id id ∷ named_a a ∷ named_b b ∷ []) ≡ Ok (named_id id ∷ named_b b ∷ []) }
+    ensures goes_alone { (id a b : Tree) → shown (named_id (int 0) ∷ []) (named_id id ∷ named_a a ∷ named_b b ∷ []) ≡ Ok (named_a a ∷ named_b b ∷ []) }
+    ensures goes_beside_included { (id a b : Tree) → shown (named_a (int 1) ∷ named_id (int 0) ∷ []) (named_id id ∷ named_a a ∷ named_b b ∷ []) ≡ Ok (named_a a ∷ []) }
+    ensures goes_beside_excluded { (id a b : Tree) → shown (named_a (int 0) ∷ named_id (int 0) ∷ []) (named_id id ∷ named_a a ∷ named_b b ∷ []) ≡ Ok (named_b b ∷ []) }
 {}
 
 /// After what is included come the computed fields, in the stage's order, each with the value of its expression over the row; one
 /// without a value is left out. No two names are equal, and no path begins with one of them.
 #[tactic(auto, using(crate::proofs::ComputedFields::computed_stand_last))]
 pub fn computed_fields_stand_last()
-    ensures { (paths : List (List (List ℕ))) (es : List (List ℕ × Expression)) (row : Row) → AreNamed (map (λ e. bare e.0) es) → AllByRecursion (λ e. list_any (begins_with_name e.0) paths ≡ false) es → projected (Include paths (computed_of es)) row ≡ projected (Include paths nothing) row ++ computed_fields es row }
+    ensures { (paths : Paths) (es : List (List ℕ × Expression)) (row : Row) → AreNamed (map (λ e. bare e.0) es) → AreUnmet paths es
+        → projected (Include paths (computed_of es)) row ≡ included paths row ++ computed_fields es row }
 {}
 
 /// An array of which nothing is left stays; int64s are switches; `_id` stays first, and what is computed comes last.
 #[tactic(auto, using(crate::proofs::Worked::arrays_stay, crate::proofs::Worked::a_long_on, crate::proofs::Worked::a_long_off, crate::proofs::Worked::computed_behind))]
 pub fn examples_of_showing()
-    ensures arrays_stay { shown ((codes "a.c", int 1) ∷ (codes "b.c", int 1) ∷ []) ((codes "_id", int 1) ∷ (codes "a", list (int 7 ∷ [])) ∷ (codes "b", list []) ∷ []) ≡ Ok ((codes "_id", int 1) ∷ (codes "a", list []) ∷ (codes "b", list []) ∷ []) }
-    ensures a_long_on { shown ((codes "a", long 1) ∷ []) ((codes "_id", int 1) ∷ (codes "a", int 5) ∷ (codes "b", int 6) ∷ []) ≡ Ok ((codes "_id", int 1) ∷ (codes "a", int 5) ∷ []) }
-    ensures a_long_off { shown ((codes "a", long 0) ∷ []) ((codes "_id", int 1) ∷ (codes "a", int 5) ∷ (codes "b", int 6) ∷ []) ≡ Ok ((codes "_id", int 1) ∷ (codes "b", int 6) ∷ []) }
-    ensures computed_behind { shown ((codes "x", text (codes "$b")) ∷ (codes "y", text (codes "$c")) ∷ (codes "a", int 1) ∷ []) ((codes "_id", int 1) ∷ (codes "a", int 5) ∷ (codes "b", int 6) ∷ []) ≡ Ok ((codes "_id", int 1) ∷ (codes "a", int 5) ∷ (codes "x", int 6) ∷ []) }
+    ensures arrays_stay { shown ((codes "a.c", int 1) ∷ (codes "b.c", int 1) ∷ []) (named_id (int 1) ∷ named_a (list (int 7 ∷ [])) ∷ named_b (list []) ∷ []) ≡ Ok (named_id (int 1) ∷ named_a (list []) ∷ named_b (list []) ∷ []) }
+    ensures a_long_on { shown (named_a (long 1) ∷ []) (named_id (int 1) ∷ named_a (int 5) ∷ named_b (int 6) ∷ []) ≡ Ok (named_id (int 1) ∷ named_a (int 5) ∷ []) }
+    ensures a_long_off { shown (named_a (long 0) ∷ []) (named_id (int 1) ∷ named_a (int 5) ∷ named_b (int 6) ∷ []) ≡ Ok (named_id (int 1) ∷ named_b (int 6) ∷ []) }
+    ensures computed_behind { shown ((codes "x", text (codes "$b")) ∷ (codes "y", text (codes "$c")) ∷ named_a (int 1) ∷ []) (named_id (int 1) ∷ named_a (int 5) ∷ named_b (int 6) ∷ []) ≡ Ok (named_id (int 1) ∷ named_a (int 5) ∷ (codes "x", int 6) ∷ []) }
 {}
 
 /// Forms that are refused: a dollar sign with no path after it, a switch inside a document, a field that is computed beside one

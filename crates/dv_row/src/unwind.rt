@@ -3,9 +3,10 @@
 ghost use Rattle.std.specs.Prelude.{◌≡◌, ◌++◌, [], if◌then◌else◌, length, take, Some, IfOk, OnErr, OnOk};
 ghost use Rattle.dv_value.specs.View.{tree};
 ghost use Rattle.dv_value.specs.Tree.{array, elements_of};
+ghost use Rattle.dv_value.specs.Results.{Gives};
+ghost use Rattle.dv_row.specs.declared.fault.PipelineFault.TheVariants.{NoMemory as no_memory};
 ghost use Rattle.std.specs.List.{list_all};
 ghost use Rattle.dv_row.specs.Parsing as parsing;
-ghost use Rattle.dv_row.specs.Parsing.{Gives};
 ghost use Rattle.dv_row.specs.Unwinding as defined;
 ghost use Rattle.dv_row.specs.Inner.UnwoundRows.{rows_of_origin};
 
@@ -33,7 +34,7 @@ impl Unwind {
     /// be left out. Refused with `BadSpec` if it is none, and with `NoMemory`.
     #[tactic(auto, unfolding(crate::specs::Parsing::unwind_in))]
     pub fn parse(alloc: Global, value: &Value) -> Result<Unwind, PipelineFault>
-        ensures { Gives (λ unwind. unwind) result (parsing.unwind_in (tree value.now)) }
+        ensures { Gives no_memory (λ unwind. unwind) result (parsing.unwind_in (tree value.now)) }
     {
         match value {
             Value::Text(text) => Ok(Unwind {
@@ -46,7 +47,7 @@ impl Unwind {
     }
 
     fn of_options(alloc: Global, options: &Document) -> Result<Unwind, PipelineFault>
-        ensures { Gives (λ unwind. unwind) result (parsing.unwind_of options.now) }
+        ensures { Gives no_memory (λ unwind. unwind) result (parsing.unwind_of options.now) }
     {
         if !has_options(options) {
             return Err(PipelineFault::BadSpec);

@@ -1,13 +1,13 @@
 //! The way of a path into a row, through documents.
 
-ghost use Rattle.std.specs.Prelude.{◌≡◌, None, Some, IsSome, IfOk, MatchOption, List};
+ghost use Rattle.std.specs.Prelude.{◌≡◌, None, Some, IsSome, IfOk, MatchOption};
 ghost use Rattle.std.specs.Option.{option_map};
 ghost use Rattle.dv_candidates.specs.Candidates.{Candidate};
 ghost use Rattle.dv_value.specs.Names.{value_under};
-ghost use Rattle.dv_value.specs.Tree.{document as document_tree, Field, fields_of};
+ghost use Rattle.dv_value.specs.Tree.{document as document_tree, fields_of};
 ghost use Rattle.dv_value.specs.View.{tree};
-ghost use Rattle.dv_row.specs.Inner.Crossings.{set_inward, set_on_way};
-ghost use Rattle.dv_row.specs.Unwinding.{in_document, reached, set_through, set_under};
+ghost use Rattle.dv_row.specs.Inner.Crossings.{EndsWays, set_inward, set_on_way};
+ghost use Rattle.dv_row.specs.Unwinding.{reached, set_through, set_under};
 
 use dv_candidates::{Component, Path, behind};
 use dv_value::{Document, NoMemory, Value};
@@ -40,7 +40,8 @@ pub(crate) struct Way<'a> {
 impl<'a> Stop<'a> {
     /// The document that the path comes to next, if one is there.
     fn next(&self) -> Option<&'a Document>
-        ensures { MatchOption result ((look : List Field → Candidate) → in_document look (value_under self.now.component.now self.now.document.now) ≡ None) (λ next. value_under self.now.component.now self.now.document.now ≡ Some (document_tree (fields_of next.now))) }
+        ensures { MatchOption result (EndsWays (value_under self.now.component.now self.now.document.now))
+            (λ next. value_under self.now.component.now self.now.document.now ≡ Some (document_tree (fields_of next.now))) }
     {
         let Some(value) = self.document.get(self.component.as_str()) else {
             return None;

@@ -4,6 +4,7 @@ use Rattle.dv_wire.specs.declared.events.Event.{Event}
 use Rattle.dv_wire.specs.declared.events.Event.TheVariants as events
 use Rattle.dv_wire.specs.declared.events.Said.{Said}
 use Rattle.dv_wire.specs.declared.events.Said.TheVariants as said
+use Rattle.dv_wire.specs.Playing.{Plays}
 use Rattle.dv_scripts.specs.Output.{AreReplies, end_line, fed_text}
 use Rattle.dv_scripts.specs.Script.{DoesLines, OpenSessions}
 use Rattle.dv_words.specs.declared.said.Line.{Line}
@@ -57,3 +58,11 @@ abbrev pub TellsLines : (old new : OpenSessions) (lines : List (List ℕ)) (text
 TellsLines old new [] text done all = (all ≡ []) × (text ≡ [])
 TellsLines old new (line ∷ lines) text (mid, first, others, does, behind, both) all =
     (one : List Said) × (two : List Said) × (all ≡ one ++ two) × TellsEvents does.0 one first × TellsLines mid new lines others behind two × (text ≡ first ++ others)
+
+-- what a line does is one play of its events, for which it prints this text
+abbrev pub IsPlayed : OpenSessions → Line → List ℕ → OpenSessions → Type 0
+IsPlayed old line text new = (all : List Said) × Plays old.hub (events_of old line) all new.hub × TellsEvents line all text
+
+-- what lines do is one play of their events, in the order of the lines, for which they print this text
+abbrev pub ArePlayed : (old new : OpenSessions) (lines : List (List ℕ)) (text : List ℕ) → DoesLines old lines text new → Type 0
+ArePlayed old new lines text done = (all : List Said) × Plays old.hub (schedule_of old new lines text done) all new.hub × TellsLines old new lines text done all

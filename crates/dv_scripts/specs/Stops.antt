@@ -7,7 +7,7 @@ use Rattle.dv_wire.specs.Service.{AsksFew, most_reads}
 use Rattle.dv_streams.specs.Stream.{MoreBy, once_more}
 use Rattle.dv_wire.specs.declared.fault.HubFault.TheVariants.{TooManySessions}
 use Rattle.dv_words.specs.Line.{IsLine}
-use Rattle.dv_scripts.specs.Script.{DoesOneLine, DoesLine, DoesLines, IsBad, Runs, OpenSessions, is_lf}
+use Rattle.dv_scripts.specs.Script.{DoesOneLine, DoesLine, DoesLines, IsBad, Runs, OpenSessions, is_lf, no_sessions}
 use Rattle.dv_words.specs.declared.said.Line.{Line}
 use Rattle.dv_words.specs.declared.said.Line.TheVariants.{Skip, Bytes, End}
 use Rattle.dv_words.specs.declared.fault.ScriptFault.{ScriptFault}
@@ -85,6 +85,11 @@ OfScript Holds from before after = (script : List ℕ) × (text : List ℕ) × I
 -- `Holds` is true of what was read and of what the writer took
 abbrev pub OfRead : (List ℕ → List ℕ → Type 0) → Option (List ℕ) → Option (List ℕ) → Option (List ℕ) → Option (List ℕ) → Type 0
 OfRead Holds from to before after = (read : List ℕ) × (text : List ℕ) × Consumes from to read × Appends before after text × Holds read text
+
+-- the script is carried out to its end, and what it prints is written
+abbrev pub RunsWhole : World → Option (List ℕ) → Option (List ℕ) → List ℕ → World → Type 0
+RunsWhole old before after script new =
+    (said : List ℕ) × (end : OpenSessions) × Appends before after said × Runs (no_sessions old) script said end × (end.hub ≡ new)
 
 -- What is done and printed when a script ends with a fault. The writer may also fail after the last line, when everything is printed.
 abbrev pub StopsBy : ScriptFault → OpenSessions → Option (List ℕ) → Option (List ℕ) → Option (List ℕ) → Option (List ℕ) → World → Type 0

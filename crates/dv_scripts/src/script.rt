@@ -1,11 +1,11 @@
 //! Scripts: lines that bring bytes to the sessions of a hub.
 
-ghost use Rattle.std.specs.Prelude.{◌≡◌, ◌<◌, ◌+◌, ◌^◌, ◌↔◌, ◌⊎◌, ◌++◌, ◌∷◌, ℕ, List, [], length, replicate, string_bytes, suc, IfErr, IfOk, IfSome, IsTrue, MatchOption, OnOk};
-ghost use Rattle.std.specs.Io.KnownBytes.{Appends, Keeps};
-ghost use Rattle.dv_scripts.specs.Script.{DoesOneLine, DoesLine, Finds, HasNoLf, Runs, OpenSessions, no_sessions, open_fault, standing_of};
-ghost use Rattle.dv_scripts.specs.Stops.{AsksForScript, EndsAt, FailsWriting, OfScript, OpensNone, StopsBy, StopsLine, script_read_failed, script_write_failed};
+ghost use Rattle.std.specs.Prelude.{◌≡◌, ◌<◌, ◌+◌, ◌^◌, ◌↔◌, ◌⊎◌, ◌++◌, ◌∷◌, ℕ, [], length, replicate, string_bytes, suc, IfErr, IfOk, IfSome, IsTrue, MatchOption, OnOk};
+ghost use Rattle.std.specs.Io.KnownBytes.{Keeps};
+ghost use Rattle.dv_scripts.specs.Script.{DoesOneLine, DoesLine, Finds, HasNoLf, no_sessions, open_fault, standing_of};
+ghost use Rattle.dv_scripts.specs.Stops.{AsksForScript, EndsAt, FailsWriting, OfScript, OpensNone, RunsWhole, StopsBy, StopsLine, script_read_failed, script_write_failed};
 ghost use Rattle.dv_streams.specs.Failures.{failures_behind, failures_told};
-ghost use Rattle.dv_scripts.specs.Inner.Pieces.{StopsIn, TakesPiece};
+ghost use Rattle.dv_scripts.specs.Inner.Pieces.{DoesRead, EndsAtRead, RunsOn, StopsOn, TakesOn};
 
 use crate::output::{end_text, fed_text};
 use crate::sessions::{Session, Sessions};
@@ -35,8 +35,8 @@ pub fn script<R: ByteIn, W: TextOut>(
     reader: &mut R,
     writer: &mut W,
 ) -> Result<(), ScriptFault>
-    ensures done { OnOk result (IfSome (R.remaining reader.old) (λ text. (said : List ℕ) × (end : OpenSessions)
-        × Appends (W.contents writer.old) (W.contents writer.new) said × Runs (no_sessions hub.old) text said end × (end.hub ≡ hub.new))) }
+    ensures done { OnOk result (IfSome (R.remaining reader.old) (λ text.
+        RunsWhole hub.old (W.contents writer.old) (W.contents writer.new) text hub.new)) }
     ensures stopped { IfErr result (λ fault. StopsBy fault (no_sessions hub.old) (R.remaining reader.old) (R.remaining reader.new)
         (W.contents writer.old) (W.contents writer.new) hub.new) }
     ensures reader { R.failures reader.new ≡ failures_told script_read_failed result (R.failures reader.old) }
@@ -96,7 +96,7 @@ impl Progress {
     ) -> Result<(), ScriptFault>
         requires line { self.old.line.items ≡ [] }
         requires first { self.old.number ≡ 1 }
-        ensures done { OnOk result (OfScript (λ script text. Runs (standing_of self.old.sessions hub.old) script text (standing_of self.new.sessions hub.new))
+        ensures done { OnOk result (OfScript (λ script text. RunsOn self.old hub.old script text self.new hub.new)
             (R.remaining reader.old) (W.contents writer.old) (W.contents writer.new)) }
         ensures stopped { IfErr result (λ fault. StopsBy fault (standing_of self.old.sessions hub.old) (R.remaining reader.old) (R.remaining reader.new)
             (W.contents writer.old) (W.contents writer.new) hub.new) }
@@ -130,11 +130,8 @@ impl Progress {
         requires line { HasNoLf self.old.line.items }
         requires numbers { self.old.number + length piece.now < 2 ^ 64 }
         ensures line { OnOk result (HasNoLf self.new.line.items) }
-        ensures done { OnOk result ((said : List ℕ) × Appends (W.contents writer.old) (W.contents writer.new) said
-            × (takes : TakesPiece (standing_of self.old.sessions hub.old) self.old.line.items piece.now said (standing_of self.new.sessions hub.new) self.new.line.items)
-            × (self.new.number ≡ self.old.number + length takes.lines)) }
-        ensures stopped { IfErr result (λ fault. (said : List ℕ) × Appends (W.contents writer.old) (W.contents writer.new) said
-            × StopsIn fault (standing_of self.old.sessions hub.old) self.old.number self.old.line.items piece.now said hub.new) }
+        ensures done { OnOk result (TakesOn (W.contents writer.old) (W.contents writer.new) self.old hub.old piece.now self.new hub.new) }
+        ensures stopped { IfErr result (λ fault. StopsOn fault (W.contents writer.old) (W.contents writer.new) self.old hub.old piece.now hub.new) }
         ensures reader { (n : ℕ) → failures_told script_read_failed result n ≡ n }
         ensures writer { W.failures writer.new ≡ failures_told script_write_failed result (W.failures writer.old) }
     {
@@ -172,10 +169,8 @@ impl Progress {
     fn finish_line<W: TextOut>(&mut self, hub: &mut Hub, writer: &mut W) -> Result<(), ScriptFault>
         requires { suc self.old.number < 2 ^ 64 }
         ensures next { OnOk result ((self.new.line.items ≡ []) × (self.new.number ≡ suc self.old.number)) }
-        ensures done { OnOk result ((said : List ℕ) × Appends (W.contents writer.old) (W.contents writer.new) said
-            × DoesLine (standing_of self.old.sessions hub.old) self.old.line.items said (standing_of self.new.sessions hub.new)) }
-        ensures stopped { IfErr result (λ fault. (part : List ℕ) × Appends (W.contents writer.old) (W.contents writer.new) part
-            × EndsAt fault (standing_of self.old.sessions hub.old) self.old.number self.old.line.items part hub.new) }
+        ensures done { OnOk result (DoesRead (W.contents writer.old) (W.contents writer.new) self.old hub.old self.new hub.new) }
+        ensures stopped { IfErr result (λ fault. EndsAtRead fault (W.contents writer.old) (W.contents writer.new) self.old hub.old hub.new) }
         ensures reader { (n : ℕ) → failures_told script_read_failed result n ≡ n }
         ensures writer { W.failures writer.new ≡ failures_told script_write_failed result (W.failures writer.old) }
     {

@@ -79,8 +79,8 @@ module _ (connections count : ℕ) (coming_old coming_mid : Option (List (List �
     }
 
     pub not_written : (flushes_new : ℕ) → flushes_new ≡ flushes_mid → count < connections
-        → (n : ℕ) × (text : List ℕ) × (n < connections) × Served (n + 1) coming_old coming_new closed_old closed_new old text new × MoreBy n flushes_old flushes_new
-    not_written flushes_new same more = (count, so_far.text ++ connection_line (count + 1) told, more, one_served, omega (arith, so_far.flushed, same))
+        → (n : ℕ) × (n < connections) × ((text : List ℕ) × Served (n + 1) coming_old coming_new closed_old closed_new old text new × MoreBy n flushes_old flushes_new)
+    not_written flushes_new same more = (count, more, (so_far.text ++ connection_line (count + 1) told, one_served, omega (arith, so_far.flushed, same)))
 
   -- ---- where serving ends
 
@@ -91,15 +91,17 @@ module _ (connections count : ℕ) (coming_old coming_mid : Option (List (List �
       (so_far.text, subst (λ n. Served n coming_old coming_mid closed_old closed_mid old so_far.text mid) same so_far.served, so_far.appended, subst (λ n. MoreBy n flushes_old flushes_mid) same so_far.flushed)
 
   pub none_accepted : (coming_new : Option (List (List ℕ))) (closed_new : Option (List Ended)) (new : World) → count < connections → coming_new ≡ coming_mid → closed_new ≡ closed_mid → new ≡ mid
-      → (n : ℕ) × (text : List ℕ) × (n < connections) × Served n coming_old coming_new closed_old closed_new old text new × Appends taken_old taken_mid text × MoreBy n flushes_old flushes_mid
+      → (n : ℕ) × (n < connections) × ((text : List ℕ) × Served n coming_old coming_new closed_old closed_new old text new × Appends taken_old taken_mid text × MoreBy n flushes_old flushes_mid)
   none_accepted coming_new closed_new new more same_coming same_closed same = (
     count,
-    so_far.text,
     more,
-    subst (λ c. Served count coming_old c closed_old closed_new old so_far.text new) (sym same_coming)
-        (subst (λ c. Served count coming_old coming_mid closed_old c old so_far.text new) (sym same_closed) (subst (λ w. Served count coming_old coming_mid closed_old closed_mid old so_far.text w) (sym same) so_far.served)),
-    so_far.appended,
-    so_far.flushed,
+    (
+      so_far.text,
+      subst (λ c. Served count coming_old c closed_old closed_new old so_far.text new) (sym same_coming)
+          (subst (λ c. Served count coming_old coming_mid closed_old c old so_far.text new) (sym same_closed) (subst (λ w. Served count coming_old coming_mid closed_old closed_mid old so_far.text w) (sym same) so_far.served)),
+      so_far.appended,
+      so_far.flushed,
+    ),
   )
 
 -- ---- a session

@@ -1,6 +1,8 @@
 -- Serving connections one after the other, and what is printed.
 use Rattle.std.specs.Prelude.{◌≡◌, ℕ, ◌+◌, List, [], ◌∷◌, ◌++◌, length, codes, Bool, true, false, Option, Some, None, Result, Ok, Err, ⊤, IfSome}
 use Rattle.std.specs.Fmt.{decimal}
+use Rattle.std.specs.Io.KnownBytes.{Appends}
+use Rattle.dv_streams.specs.Stream.{MoreBy}
 use Rattle.dv_message.specs.Fault.{close_number}
 use Rattle.dv_wire.specs.Schedule.{World}
 use Rattle.dv_wire.specs.Service.{ComesTo}
@@ -87,6 +89,18 @@ pub record Served (count : ℕ) (coming_old coming_new : Option (List (List ℕ)
   pub come : Come coming_old connections coming_new
   pub close : Close closed_old connections closed_new
   pub each : ServesEach 1 connections old text new
+
+-- this number of connections arrive, are served and are closed, and the line of each is printed and flushed
+abbrev pub ServesAndTells : {L W : Type 0} → (L → Option (List (List ℕ))) → (L → Option (List Ended)) → (W → Option (List ℕ)) → (W → ℕ) → ℕ → L → W → World → L → W → World → Type 0
+ServesAndTells coming closed contents flushes count listener_old writer_old old listener_new writer_new new =
+    (text : List ℕ) × Served count (coming listener_old) (coming listener_new) (closed listener_old) (closed listener_new) old text new
+    × Appends (contents writer_old) (contents writer_new) text × MoreBy count (flushes writer_old) (flushes writer_new)
+
+-- the same with one more connection, whose line isn't printed whole, or isn't flushed
+abbrev pub ServesOneMore : {L W : Type 0} → (L → Option (List (List ℕ))) → (L → Option (List Ended)) → (W → ℕ) → ℕ → L → W → World → L → W → World → Type 0
+ServesOneMore coming closed flushes count listener_old writer_old old listener_new writer_new new =
+    (text : List ℕ) × Served (count + 1) (coming listener_old) (coming listener_new) (closed listener_old) (closed listener_new) old text new
+    × MoreBy count (flushes writer_old) (flushes writer_new)
 
 -- whether accepting a connection failed
 abbrev pub accept_failed : ServeFault → Bool

@@ -3,7 +3,8 @@
 ghost use Rattle.std.specs.Prelude.{◌≡◌, ◌<◌, ◌+◌, ℕ, List, Err, IfErr, IfOk, OnErr, OnOk};
 ghost use Rattle.std.specs.Io.KnownBytes.{Appends};
 ghost use Rattle.dv_streams.specs.Stream.{MoreBy};
-ghost use Rattle.dv_serving.specs.Serve.{Accepts, ClosesConnection, Connection, HasSession, Served, accept_failed, connection_line, serve_write_failed};
+ghost use Rattle.dv_serving.specs.Serve.{ServesAndTells, ServesOneMore, accept_failed, connection_line, serve_write_failed};
+ghost use Rattle.dv_serving.specs.Inner.Next.{ServesNext};
 ghost use Rattle.dv_streams.specs.Failures.{failures_behind, failures_told};
 
 use dv_streams::{ByteIn, ByteOut, CountedReader, CountedWriter, Failed, TextOut, counted};
@@ -121,15 +122,12 @@ pub fn serve_on<L: Listener, W: TextOut>(
     connections: u32,
     writer: &mut W,
 ) -> Result<(), ServeFault>
-    ensures all { OnOk result ((text : List ℕ)
-        × Served connections (L.coming listener.old) (L.coming listener.new) (L.closed listener.old) (L.closed listener.new) hub.old text hub.new
-        × Appends (W.contents writer.old) (W.contents writer.new) text × MoreBy connections (W.flushes writer.old) (W.flushes writer.new)) }
-    ensures accept { result ≡ Err ServeFault.Accept → (count : ℕ) × (text : List ℕ) × (count < connections)
-        × Served count (L.coming listener.old) (L.coming listener.new) (L.closed listener.old) (L.closed listener.new) hub.old text hub.new
-        × Appends (W.contents writer.old) (W.contents writer.new) text × MoreBy count (W.flushes writer.old) (W.flushes writer.new) }
-    ensures write { result ≡ Err ServeFault.Write → (count : ℕ) × (text : List ℕ) × (count < connections)
-        × Served (count + 1) (L.coming listener.old) (L.coming listener.new) (L.closed listener.old) (L.closed listener.new) hub.old text hub.new
-        × MoreBy count (W.flushes writer.old) (W.flushes writer.new) }
+    ensures all { OnOk result (ServesAndTells L.coming L.closed W.contents W.flushes connections
+        listener.old writer.old hub.old listener.new writer.new hub.new) }
+    ensures accept { result ≡ Err ServeFault.Accept → (count : ℕ) × (count < connections)
+        × ServesAndTells L.coming L.closed W.contents W.flushes count listener.old writer.old hub.old listener.new writer.new hub.new }
+    ensures write { result ≡ Err ServeFault.Write → (count : ℕ) × (count < connections)
+        × ServesOneMore L.coming L.closed W.flushes count listener.old writer.old hub.old listener.new writer.new hub.new }
     ensures listener { L.failures listener.new ≡ failures_told accept_failed result (L.failures listener.old) }
     ensures writer { W.failures writer.new ≡ failures_told serve_write_failed result (W.failures writer.old) }
 {
@@ -148,8 +146,8 @@ fn serve_next<L: Listener>(
     hub: &mut Hub,
     listener: &mut L,
 ) -> Result<Result<Done, RunFault>, ServeFault>
-    ensures served { IfOk result (λ told. (connection : Connection) × Accepts (L.coming listener.old) connection.input (L.coming listener.new)
-        × ClosesConnection (L.closed listener.old) connection.left connection.taken (L.closed listener.new) × HasSession connection hub.old told hub.new) }
+    ensures served { IfOk result (λ told. ServesNext (L.coming listener.old) (L.coming listener.new) (L.closed listener.old) (L.closed listener.new)
+        hub.old told hub.new) }
     ensures none { OnErr result ((hub.new ≡ hub.old) × (L.coming listener.new ≡ L.coming listener.old) × (L.closed listener.new ≡ L.closed listener.old)) }
     ensures fault { IfErr result (λ fault. fault ≡ ServeFault.Accept) }
     ensures failures { L.failures listener.new ≡ failures_behind result (L.failures listener.old) }

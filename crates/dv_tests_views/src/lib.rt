@@ -6,6 +6,8 @@
 mod changes;
 pub mod simple_turn;
 #[cfg(test)]
+mod told_and_kept;
+#[cfg(test)]
 mod turns;
 #[cfg(test)]
 mod views;

@@ -17,7 +17,7 @@ use std::collections::BTreeMap;
 use std::test::Fail;
 
 /// The position at the number.
-fn place(alloc: Global, number: u64) -> Result<Pos, Fail> {
+pub(crate) fn place(alloc: Global, number: u64) -> Result<Pos, Fail> {
     let start = Pos::of(alloc, Vec::new(alloc))?;
     Ok(start.with(alloc, Part::At(number))?)
 }

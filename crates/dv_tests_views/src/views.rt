@@ -1,19 +1,19 @@
 //! Views that are kept: their rows behind changes, and what they count.
 
-use crate::turns::{gone, put};
-use dv_change::Change;
+use crate::turns::place;
+use dv_change::Taken;
 use dv_pipe::{Pipeline, Sources};
 use dv_testing::spelled::{array_in, document};
-use dv_value::Value;
-use dv_views::{Registry, ViewState};
+use dv_value::{Document, Value};
+use dv_views::{ToldRegistry, ViewState};
 use std::alloc::Global;
 use std::test::Fail;
 
 /// The view `t.v` of the stages over `t.c`, which has no document yet.
-fn registry(alloc: Global, stages: &[u8]) -> Result<Registry, Fail> {
+fn registry(alloc: Global, stages: &[u8]) -> Result<ToldRegistry, Fail> {
     let stages = document(alloc, stages)?;
     let pipeline = Pipeline::parse(alloc, array_in(&stages)?.as_slice())?;
-    let mut views = Registry::new(alloc);
+    let mut views = ToldRegistry::new(alloc);
     views.create("t.v", "t.c", pipeline, &Sources::new(alloc))?;
     Ok(views)
 }
@@ -25,12 +25,34 @@ const SEVEN: &[u8] = b"\x15\0\0\0\x10_id\0\x01\0\0\0\x10a\0\x07\0\0\0\0";
 const EIGHT: &[u8] = b"\x15\0\0\0\x10_id\0\x01\0\0\0\x10a\0\x08\0\0\0\0";
 
 /// The views are told of the changes, and no more is said of that: so a test's proof is short.
-fn tell(views: &mut Registry, namespace: &str, changes: &[Change]) {
+fn tell(views: &mut ToldRegistry, namespace: &str, changes: &[Taken]) {
     views.apply(namespace, changes);
 }
 
+/// At the number the second row stands in place of the first, where there are such.
+fn comes(
+    alloc: Global,
+    number: u64,
+    before: Option<&[u8]>,
+    after: Option<&[u8]>,
+) -> Result<Taken, Fail> {
+    Ok(Taken {
+        pos: place(alloc, number)?,
+        old: row_of(alloc, before)?,
+        new: row_of(alloc, after)?,
+    })
+}
+
+/// The row of these bytes, where there are any.
+fn row_of(alloc: Global, bytes: Option<&[u8]>) -> Result<Option<Document>, Fail> {
+    match bytes {
+        Some(bytes) => Ok(Some(document(alloc, bytes)?)),
+        None => Ok(None),
+    }
+}
+
 /// How many rows the view has, and what it has counted.
-fn counts(views: &Registry) -> (Option<usize>, Option<u64>) {
+fn counts(views: &ToldRegistry) -> (Option<usize>, Option<u64>) {
     (views.row_count("t.v"), views.ticks("t.v"))
 }
 
@@ -43,11 +65,16 @@ fn a_view_counts_what_its_changes_take(rt: HostRuntime) -> Result<(), Fail> {
         alloc,
         b"=\0\0\0\x04p\05\0\0\0\x030\0\x19\0\0\0\x03$match\0\x0c\0\0\0\x10a\0\x07\0\0\0\0\0\x031\0\x11\0\0\0\x10$limit\0\x01\0\0\0\0\0\0",
     )?;
-    tell(&mut views, "t.other", &[put(alloc, 0, SEVEN)?]);
+    let seven = [comes(alloc, 0, None, Some(SEVEN))?];
+    tell(&mut views, "t.other", &seven);
     assert_eq!(rt; counts(&views), (Some(0), Some(0)));
-    tell(&mut views, "t.c", &[put(alloc, 0, SEVEN)?]);
+    tell(&mut views, "t.c", &seven);
     assert_eq!(rt; counts(&views), (Some(1), Some(4)));
-    tell(&mut views, "t.c", &[put(alloc, 0, EIGHT)?]);
+    tell(
+        &mut views,
+        "t.c",
+        &[comes(alloc, 0, Some(SEVEN), Some(EIGHT))?],
+    );
     assert_eq!(rt; counts(&views), (Some(0), Some(8)));
     assert_eq!(rt; views.state("t.v"), Some(ViewState::Live));
     Ok(())
@@ -62,7 +89,7 @@ const GROUPED: [&[u8]; 4] = [
 ];
 
 /// The int64s under `lo` in the rows of the view.
-fn lows(alloc: Global, views: &Registry) -> Result<Vec<i64>, Fail> {
+fn lows(alloc: Global, views: &ToldRegistry) -> Result<Vec<i64>, Fail> {
     let mut found = Vec::new(alloc);
     let Some(rows) = views.rows("t.v") else {
         return Ok(found);
@@ -85,12 +112,12 @@ fn a_group_follows_the_rows_that_come_and_go(rt: HostRuntime) -> Result<(), Fail
         b"D\0\0\0\x04p\0<\0\0\0\x030\x004\0\0\0\x03$group\0'\0\0\0\x02_id\0\x03\0\0\0$k\0\x03lo\0\x12\0\0\0\x02$min\0\x03\0\0\0$v\0\0\0\0\0\0",
     )?;
     let changes = [
-        put(alloc, 1, GROUPED[0])?,
-        put(alloc, 2, GROUPED[1])?,
-        put(alloc, 3, GROUPED[2])?,
-        gone(alloc, 3)?,
-        gone(alloc, 1)?,
-        put(alloc, 2, GROUPED[3])?,
+        comes(alloc, 1, None, Some(GROUPED[0]))?,
+        comes(alloc, 2, None, Some(GROUPED[1]))?,
+        comes(alloc, 3, None, Some(GROUPED[2]))?,
+        comes(alloc, 3, Some(GROUPED[2]), None)?,
+        comes(alloc, 1, Some(GROUPED[0]), None)?,
+        comes(alloc, 2, Some(GROUPED[1]), Some(GROUPED[3]))?,
     ];
     let all = &changes[..];
     let mut ticks = Vec::new(alloc);

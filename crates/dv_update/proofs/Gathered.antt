@@ -5,8 +5,8 @@ use Rattle.dv_update.specs.declared.fault.UpdateFault.{UpdateFault}
 use Rattle.dv_update.specs.declared.fault.UpdateFault.TheVariants.{NoMemory}
 use Rattle.dv_update.specs.declared.operator.Operator.{Operator}
 use Rattle.dv_update.specs.Inner.Collected.{behind}
-use Rattle.dv_update.specs.Parsing.{Gives, operator_named, edit_by, edits_by, edits_under, edits_in}
-use Rattle.dv_value.specs.Results.{◌>>=◌}
+use Rattle.dv_update.specs.Parsing.{operator_named, edit_by, edits_by, edits_under, edits_in}
+use Rattle.dv_value.specs.Results.{◌>>=◌, Gives}
 use Rattle.dv_update.specs.Update.{Edit}
 use Rattle.dv_update.proofs.Items.{drop_at}
 
@@ -62,6 +62,6 @@ module _ (fs : List Field) (i : ℕ) (ys : List Edit) (so-far : edits_in fs ≡ 
   pub operators-end : length fs ≤ i → edits_in fs ≡ Ok ys
   operators-end past = so-far ∙ ap (λ l. behind ys (edits_in l)) (drop_of_length-le fs past) ∙ ap Ok (append-nil ys)
 
-pub gives-fault : {X Y Y' : Type 0} (view : X → Y) (r : Result X UpdateFault) (e : UpdateFault) (part : Result Y' UpdateFault) (whole : Result Y UpdateFault) → r ≡ Err e → (e ≡ NoMemory) ⊎ (part ≡ Err e) → (part ≡ Err e → whole ≡ Err e) → Gives view r whole
+pub gives-fault : {X Y Y' : Type 0} (view : X → Y) (r : Result X UpdateFault) (e : UpdateFault) (part : Result Y' UpdateFault) (whole : Result Y UpdateFault) → r ≡ Err e → (e ≡ NoMemory) ⊎ (part ≡ Err e) → (part ≡ Err e → whole ≡ Err e) → Gives NoMemory view r whole
 gives-fault view r e part whole is (inl m) f = rw is (inl m)
 gives-fault view r e part whole is (inr p) f = rw is (inr (f p))

@@ -1,6 +1,6 @@
 -- How an update is parsed: the parsed update, or the first fault in written order; conflicts between paths come last (MongoDB manual,
 -- "Update Operators", "Replace Documents"). Which fault is reported, and which names are refused, are this server's own.
-use Rattle.std.specs.Prelude.{◌≡◌, ◌⊎◌, ℕ, Bool, false, ◌||◌, List, [], ◌∷◌, ◌++◌, Option, Some, None, Result, Ok, Err, codes, if◌then◌else◌}
+use Rattle.std.specs.Prelude.{ℕ, Bool, false, ◌||◌, List, [], ◌∷◌, ◌++◌, Option, Some, None, Result, Ok, Err, codes, if◌then◌else◌}
 use Rattle.std.specs.List.{list_any}
 use Rattle.std.specs.Str.{bytes_eq}
 use Rattle.std.specs.Ordering.{is_gt}
@@ -14,16 +14,11 @@ use Rattle.dv_match.specs.Parsing.{lists_operators, test_in}
 use Rattle.dv_match.specs.declared.fault.FilterFault.{FilterFault}
 use Rattle.dv_update.specs.declared.number.Number.TheVariants.{Int32, Int64}
 use Rattle.dv_update.specs.declared.fault.UpdateFault.{UpdateFault}
-use Rattle.dv_update.specs.declared.fault.UpdateFault.TheVariants.{UnknownOperator, Conflict, NotNumber, NoMemory, BadName, BadOperand}
+use Rattle.dv_update.specs.declared.fault.UpdateFault.TheVariants.{UnknownOperator, Conflict, NotNumber, BadName, BadOperand}
 use Rattle.dv_update.specs.declared.operator.Operator.{Operator}
 use Rattle.dv_update.specs.declared.operator.Operator.TheVariants.{Set, Unset, Inc, Push, Pull}
 use Rattle.dv_update.specs.PathOrder.{path_order, begins}
 use Rattle.dv_update.specs.Update.{Operation, assign, take_away, increase, append, pull, equal_to, passing, Edit, Update, replacement, operators}
-
--- the call returned the defined result, or ran out of memory; `view` says what a value in memory represents
-abbrev pub Gives : {X Y : Type 0} → (X → Y) → Result X UpdateFault → Result Y UpdateFault → Type 0
-Gives view (Ok x) defined = defined ≡ Ok (view x)
-Gives view (Err e) defined = (e ≡ NoMemory) ⊎ (defined ≡ Err e)
 
 -- the update operator with this name, if any
 unfoldable pub operator_named : List ℕ → Option Operator

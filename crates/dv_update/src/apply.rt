@@ -5,8 +5,9 @@ ghost use Rattle.std.specs.Option.{option_map};
 ghost use Rattle.dv_value.specs.Names.{value_under};
 ghost use Rattle.dv_value.specs.Spelling.{spelling};
 ghost use Rattle.dv_value.specs.View.{tree};
+ghost use Rattle.dv_value.specs.Results.{Gives};
+ghost use Rattle.dv_update.specs.declared.fault.UpdateFault.TheVariants.{NoMemory as no_memory};
 ghost use Rattle.dv_update.specs.Apply as defined;
-ghost use Rattle.dv_update.specs.Parsing.{Gives};
 ghost use Rattle.dv_order.specs.Same.{both_same};
 ghost use Rattle.dv_update.specs.Inner.Standing.{Likewise};
 ghost use Rattle.dv_update.specs.UpdateView.{update};
@@ -38,7 +39,7 @@ impl Update {
     /// What isn't changed is shared with the document; fields of which one is changed are copied once. A `$set`, `$unset` or
     /// `$pull` that changes nothing copies none.
     pub fn apply(&self, alloc: Global, document: &Document) -> Result<Document, UpdateFault>
-        ensures { Gives (λ changed. changed) result (defined.applied (update self.now) document.now) }
+        ensures { Gives no_memory (λ changed. changed) result (defined.applied (update self.now) document.now) }
     {
         self.refuse_too_large(alloc, document)?;
         let mut changed = self.change(alloc, document)?;

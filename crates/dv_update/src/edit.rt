@@ -3,9 +3,10 @@
 ghost use Rattle.std.specs.Prelude.{◌≡◌, ◌++◌, true, IfOk};
 ghost use Rattle.std.specs.List.{list_any};
 ghost use Rattle.dv_value.specs.View.{tree};
+ghost use Rattle.dv_value.specs.Results.{Gives};
+ghost use Rattle.dv_update.specs.declared.fault.UpdateFault.TheVariants.{NoMemory as no_memory};
 ghost use Rattle.dv_path.specs.SlotView.{slot_seen};
 ghost use Rattle.dv_update.specs.Apply as defined;
-ghost use Rattle.dv_update.specs.Parsing.{Gives};
 ghost use Rattle.dv_update.specs.View.{operation, pulled as which};
 
 use crate::fault::UpdateFault;
@@ -20,7 +21,7 @@ use std::alloc::Global;
 impl Edit {
     /// What the operator makes of the document, which is changed in place.
     pub(crate) fn make(&self, alloc: Global, document: Document) -> Result<Document, UpdateFault>
-        ensures { Gives (λ changed. changed) result (defined.edit_at self.now.path (operation self.now.operation) document) }
+        ensures { Gives no_memory (λ changed. changed) result (defined.edit_at self.now.path (operation self.now.operation) document) }
     {
         match &self.operation {
             Operation::Set(value) => set_at(alloc, document, &self.path, value),
@@ -40,7 +41,7 @@ fn set_at(
     path: &Path,
     value: &Value,
 ) -> Result<Document, UpdateFault>
-    ensures { Gives (λ changed. changed) result (defined.set_at path.now (tree value.now) document) }
+    ensures { Gives no_memory (λ changed. changed) result (defined.set_at path.now (tree value.now) document) }
 {
     if let Slot::Taken(there) = slot_at(&document, path) {
         if is_same(there, value) {
@@ -56,7 +57,7 @@ fn increase_at(
     path: &Path,
     number: Number,
 ) -> Result<Document, UpdateFault>
-    ensures { Gives (λ changed. changed) result (defined.increase_at path.now number document) }
+    ensures { Gives no_memory (λ changed. changed) result (defined.increase_at path.now number document) }
 {
     let increased = increased(number, slot_at(&document, path))?;
     Ok(put_at(alloc, document, path, increased)?)
@@ -64,7 +65,7 @@ fn increase_at(
 
 /// The number added to what stands there.
 pub(crate) fn increased(number: Number, slot: Slot<'_>) -> Result<Value, UpdateFault>
-    ensures { Gives tree result (defined.increased number (slot_seen slot.entry)) }
+    ensures { Gives no_memory tree result (defined.increased number (slot_seen slot.entry)) }
 {
     match slot {
         Slot::Free => Ok(number.value()),
@@ -83,7 +84,7 @@ fn append_at(
     path: &Path,
     values: &List,
 ) -> Result<Document, UpdateFault>
-    ensures { Gives (λ changed. changed) result (defined.append_at path.now values.now document) }
+    ensures { Gives no_memory (λ changed. changed) result (defined.append_at path.now values.now document) }
 {
     let appended = appended(values, slot_at(&document, path))?;
     Ok(put_at(alloc, document, path, Value::Array(appended))?)
@@ -92,7 +93,7 @@ fn append_at(
 /// The values behind those that stand there.
 #[tactic(auto, using(crate::proofs::Items::elements_again))]
 fn appended(values: &List, slot: Slot<'_>) -> Result<List, UpdateFault>
-    ensures { Gives (λ list. tree (Value.Array list)) result (defined.appended values.now (slot_seen slot.entry)) }
+    ensures { Gives no_memory (λ list. tree (Value.Array list)) result (defined.appended values.now (slot_seen slot.entry)) }
 {
     match slot {
         Slot::Free => Ok(values.try_clone()?),
@@ -123,7 +124,7 @@ fn pull_at(
     path: &Path,
     pulled: &Pulled,
 ) -> Result<Document, UpdateFault>
-    ensures { Gives (λ changed. changed) result (defined.pull_at path.now (which pulled.now) document) }
+    ensures { Gives no_memory (λ changed. changed) result (defined.pull_at path.now (which pulled.now) document) }
 {
     let Slot::Taken(there) = slot_at(&document, path) else {
         return Ok(document);

@@ -1,8 +1,10 @@
 //! What the edits of an update make of a document.
 
 ghost use Rattle.std.specs.Prelude.{◌≡◌, map, false, IfOk};
+ghost use Rattle.dv_value.specs.Results.{Gives};
+ghost use Rattle.dv_update.specs.declared.fault.UpdateFault.TheVariants.{NoMemory as no_memory};
 ghost use Rattle.dv_update.specs.Apply as defined;
-ghost use Rattle.dv_update.specs.Parsing.{Gives, has_conflict};
+ghost use Rattle.dv_update.specs.Parsing.{has_conflict};
 ghost use Rattle.dv_update.specs.Removals as last;
 ghost use Rattle.dv_update.specs.View.{edit, operation};
 
@@ -24,7 +26,7 @@ pub(crate) fn edited(
     edits: &Edits,
     document: Document,
 ) -> Result<Document, UpdateFault>
-    ensures { Gives (λ changed. changed) result (defined.edited edits.now document) }
+    ensures { Gives no_memory (λ changed. changed) result (defined.edited edits.now document) }
 {
     let edits = edits.as_slice();
     let removals = removals(alloc, edits)?;
@@ -43,7 +45,7 @@ fn removals_last(
 ) -> Result<Document, UpdateFault>
     requires apart { has_conflict (map edit edits.now) ≡ false }
     requires paths { map (λ path. path.now) removals.now ≡ last.removals (map edit edits.now) }
-    ensures { Gives (λ changed. changed) result (defined.edited (map edit edits.now) document) }
+    ensures { Gives no_memory (λ changed. changed) result (defined.edited (map edit edits.now) document) }
 {
     laws::removals_may_come_last();
     let changed = others_in_turn(alloc, edits, document)?;
@@ -51,7 +53,7 @@ fn removals_last(
 }
 
 fn in_turn(alloc: Global, edits: &[Edit], document: Document) -> Result<Document, UpdateFault>
-    ensures { Gives (λ changed. changed) result (defined.edited (map edit edits.now) document) }
+    ensures { Gives no_memory (λ changed. changed) result (defined.edited (map edit edits.now) document) }
 {
     let mut changed = document;
     'edits: for edit in edits {
@@ -66,7 +68,7 @@ fn others_in_turn(
     edits: &[Edit],
     document: Document,
 ) -> Result<Document, UpdateFault>
-    ensures { Gives (λ changed. changed) result (defined.edited (last.other_edits (map edit edits.now)) document) }
+    ensures { Gives no_memory (λ changed. changed) result (defined.edited (last.other_edits (map edit edits.now)) document) }
 {
     let mut changed = document;
     'edits: for edit in edits {

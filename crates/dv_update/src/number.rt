@@ -3,8 +3,9 @@
 ghost use Rattle.std.specs.Prelude.{◌≡◌};
 ghost use Rattle.dv_value.specs.View.{tree};
 ghost use Rattle.dv_value.specs.Widths as widths;
+ghost use Rattle.dv_value.specs.Results.{Gives};
+ghost use Rattle.dv_update.specs.declared.fault.UpdateFault.TheVariants.{NoMemory as no_memory};
 ghost use Rattle.dv_update.specs.Apply as defined;
-ghost use Rattle.dv_update.specs.Parsing.{Gives};
 
 use crate::fault::UpdateFault;
 use dv_value::Value;
@@ -46,7 +47,7 @@ impl Number {
 
     /// The sum: of 32 bits where both numbers are and it fits, else of 64. Refused with `Overflow` beyond these.
     pub(crate) fn add(self, other: Number) -> Result<Value, UpdateFault>
-        ensures { Gives tree result (defined.sum self other) }
+        ensures { Gives no_memory tree result (defined.sum self other) }
     {
         let Some(sum) = self.integer().checked_add(other.integer()) else {
             return Err(UpdateFault::Overflow);

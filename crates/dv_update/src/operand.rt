@@ -2,8 +2,9 @@
 
 ghost use Rattle.dv_value.specs.Tree.{document as doc, fields_of};
 ghost use Rattle.dv_value.specs.View.{tree};
+ghost use Rattle.dv_value.specs.Results.{Gives};
+ghost use Rattle.dv_update.specs.declared.fault.UpdateFault.TheVariants.{NoMemory as no_memory};
 ghost use Rattle.dv_update.specs.Parsing as defined;
-ghost use Rattle.dv_update.specs.Parsing.{Gives};
 ghost use Rattle.dv_update.specs.View.{operation};
 
 use crate::fault::UpdateFault;
@@ -21,7 +22,7 @@ pub(crate) fn operation_of(
     operator: Operator,
     operand: &Value,
 ) -> Result<Operation, UpdateFault>
-    ensures { Gives operation result (defined.operation_by operator (tree operand.now)) }
+    ensures { Gives no_memory operation result (defined.operation_by operator (tree operand.now)) }
 {
     match operator {
         Operator::Set => Ok(Operation::Set(operand.try_clone()?)),
@@ -33,7 +34,7 @@ pub(crate) fn operation_of(
 }
 
 fn number_to_add(operand: &Value) -> Result<Operation, UpdateFault>
-    ensures { Gives operation result (defined.number_to_add (tree operand.now)) }
+    ensures { Gives no_memory operation result (defined.number_to_add (tree operand.now)) }
 {
     match operand {
         Value::Int32(number) => Ok(Operation::Inc(Number::Int32(*number))),
@@ -44,7 +45,7 @@ fn number_to_add(operand: &Value) -> Result<Operation, UpdateFault>
 
 /// A value to push, or the members of `$each`.
 fn values_to_push(alloc: Global, operand: &Value) -> Result<Operation, UpdateFault>
-    ensures { Gives operation result (defined.values_to_push (tree operand.now)) }
+    ensures { Gives no_memory operation result (defined.values_to_push (tree operand.now)) }
 {
     match operand {
         Value::Doc(document) => {
@@ -59,7 +60,7 @@ fn values_to_push(alloc: Global, operand: &Value) -> Result<Operation, UpdateFau
 }
 
 fn one_value(alloc: Global, value: &Value) -> Result<Operation, UpdateFault>
-    ensures { Gives operation result (defined.one_value (tree value.now)) }
+    ensures { Gives no_memory operation result (defined.one_value (tree value.now)) }
 {
     let mut values = Vec::new(alloc);
     values.push(value.try_clone()?)?;
@@ -68,7 +69,7 @@ fn one_value(alloc: Global, value: &Value) -> Result<Operation, UpdateFault>
 
 /// The members of `$each`, which stands alone.
 fn members_of_each(document: &Document) -> Result<Operation, UpdateFault>
-    ensures { Gives operation result (defined.each_alone (fields_of document.now)) }
+    ensures { Gives no_memory operation result (defined.each_alone (fields_of document.now)) }
 {
     match document.entry(0) {
         Some((name, operand)) if document.len() == 1 && name == "$each" => members(operand),
@@ -78,7 +79,7 @@ fn members_of_each(document: &Document) -> Result<Operation, UpdateFault>
 
 #[tactic(auto, using(crate::proofs::Items::elements_again))]
 fn members(operand: &Value) -> Result<Operation, UpdateFault>
-    ensures { Gives operation result (defined.members (tree operand.now)) }
+    ensures { Gives no_memory operation result (defined.members (tree operand.now)) }
 {
     match operand {
         Value::Array(list) => Ok(Operation::Push(list.try_clone()?)),
@@ -88,7 +89,7 @@ fn members(operand: &Value) -> Result<Operation, UpdateFault>
 
 /// A condition on elements, or a value to be equal to.
 fn values_to_pull(alloc: Global, operand: &Value) -> Result<Operation, UpdateFault>
-    ensures { Gives operation result (defined.values_to_pull (tree operand.now)) }
+    ensures { Gives no_memory operation result (defined.values_to_pull (tree operand.now)) }
 {
     match operand {
         Value::Doc(document) => passing(alloc, document),
@@ -97,7 +98,7 @@ fn values_to_pull(alloc: Global, operand: &Value) -> Result<Operation, UpdateFau
 }
 
 fn passing(alloc: Global, document: &Document) -> Result<Operation, UpdateFault>
-    ensures { Gives operation result (defined.values_to_pull (doc (fields_of document.now))) }
+    ensures { Gives no_memory operation result (defined.values_to_pull (doc (fields_of document.now))) }
 {
     Ok(Operation::Pull(Pulled::Passing(Test::parse(alloc, document)?)))
 }

@@ -6,8 +6,9 @@ ghost use Rattle.std.specs.Cmp.{eq_by_cmp_equiv, partial_equiv_from_equiv, parti
 ghost use Rattle.std.specs.List.{list_any};
 ghost use Rattle.std.specs.Ordering.{as_partial_cmp, eq_by_cmp};
 ghost use Rattle.std.specs.declared.cmp.Ordering.TheVariants.{Less};
+ghost use Rattle.dv_value.specs.Results.{Gives};
+ghost use Rattle.dv_update.specs.declared.fault.UpdateFault.TheVariants.{NoMemory as no_memory};
 ghost use Rattle.dv_update.specs.Parsing as defined;
-ghost use Rattle.dv_update.specs.Parsing.{Gives};
 ghost use Rattle.dv_update.specs.PathOrder.{begins as begins_with, component_order, path_order};
 ghost use Rattle.dv_update.specs.Inner.Collected.{ConflictAlike, IsConflictOf, Steps, last_begins};
 ghost use Rattle.dv_update.specs.Inner.PathOrderLaws.{path_order_total};
@@ -162,7 +163,7 @@ fn parts_from(a: &Path, b: &Path) -> bool
 /// `NoMemory`. In time n log n: in order, a path that begins others stands right before the first of them. Edits that stand so
 /// already are given back as they are.
 pub(crate) fn in_order(alloc: Global, edits: Vec<Edit>) -> Result<Edits, UpdateFault>
-    ensures { Gives operators result (defined.in_order (map edit edits.items)) }
+    ensures { Gives no_memory operators result (defined.in_order (map edit edits.items)) }
 {
     if are_apart(&edits) {
         return Ok(Edits::of(edits));
@@ -201,7 +202,7 @@ fn place(places: &mut BTreeMap<PathKey, Operation>, edit: Edit) -> Result<(), Up
 /// The edits of such a map. Refused with `Conflict` where one path begins another.
 fn listed(alloc: Global, places: BTreeMap<PathKey, Operation>) -> Result<Edits, UpdateFault>
     requires { IsOrdered path_order places }
-    ensures { Gives (λ edits. edits) result (if defined.has_conflict (map entry places.entries) then Err Conflict else Ok (map entry places.entries)) }
+    ensures { Gives no_memory (λ edits. edits) result (if defined.has_conflict (map entry places.entries) then Err Conflict else Ok (map entry places.entries)) }
 {
     let mut places = places;
     let mut edits = Vec::new(alloc);

@@ -5,10 +5,11 @@ ghost use Rattle.std.specs.Option.{option_map};
 ghost use Rattle.std.specs.Str.{bytes_eq};
 ghost use Rattle.dv_value.specs.Names.{has_zero};
 ghost use Rattle.dv_value.specs.Tree.{Field};
+ghost use Rattle.dv_value.specs.Results.{Gives};
+ghost use Rattle.dv_update.specs.declared.fault.UpdateFault.TheVariants.{NoMemory as no_memory};
 ghost use Rattle.dv_update.specs.Apply.{applied};
 ghost use Rattle.dv_update.specs.Inner.Outcome.{IsOutcome};
 ghost use Rattle.dv_update.specs.Outcome as defined;
-ghost use Rattle.dv_update.specs.Parsing.{Gives};
 ghost use Rattle.dv_update.specs.UpdateView.{update};
 ghost use Rattle.dv_update.specs.View.{operation};
 
@@ -71,7 +72,7 @@ impl Update {
     /// put under the sole name, or at the end of the array there, and surely has room, nothing else is copied: then a `Field` is
     /// returned. `Same` is returned exactly if the document's encoding stays as it is.
     pub fn outcome(&self, alloc: Global, document: &Document) -> Result<Outcome, UpdateFault>
-        ensures applied { Gives (λ outcome. defined.document_seen (update self.now) document.now outcome) result (applied (update self.now) document.now) }
+        ensures applied { Gives no_memory (λ outcome. defined.document_seen (update self.now) document.now outcome) result (applied (update self.now) document.now) }
         ensures same { IfOk result (λ outcome. defined.stays outcome ≡ defined.stays_so (defined.sole_name (update self.now)) document.now outcome) }
     {
         match self.field_alone(document)? {
@@ -82,7 +83,7 @@ impl Update {
 
     /// The same, but always with a whole document.
     pub fn whole_outcome(&self, alloc: Global, document: &Document) -> Result<Outcome, UpdateFault>
-        ensures applied { Gives (λ outcome. defined.document_seen (update self.now) document.now outcome) result (applied (update self.now) document.now) }
+        ensures applied { Gives no_memory (λ outcome. defined.document_seen (update self.now) document.now outcome) result (applied (update self.now) document.now) }
         ensures same { IfOk result (λ outcome. defined.stays outcome ≡ defined.stays_so (defined.sole_name (update self.now)) document.now outcome) }
         ensures whole { IfOk result (λ outcome. defined.is_field outcome ≡ false) }
     {

@@ -5,12 +5,13 @@ ghost use Rattle.std.specs.List.{list_any};
 ghost use Rattle.dv_value.specs.Names.{begins_with_dollar};
 ghost use Rattle.dv_value.specs.Tree.{fields_of};
 ghost use Rattle.dv_value.specs.View.{tree};
+ghost use Rattle.dv_value.specs.Results.{Gives};
+ghost use Rattle.dv_update.specs.declared.fault.UpdateFault.TheVariants.{NoMemory as no_memory};
 ghost use Rattle.dv_match.specs.Parsing as filters;
 ghost use Rattle.dv_path.specs.Names as names;
 ghost use Rattle.dv_candidates.specs.Path.{path_of};
 ghost use Rattle.dv_update.specs.Inner.Collected.{behind};
 ghost use Rattle.dv_update.specs.Parsing as defined;
-ghost use Rattle.dv_update.specs.Parsing.{Gives};
 ghost use Rattle.dv_update.specs.UpdateView.{update};
 ghost use Rattle.dv_update.specs.View.{edit};
 ghost use Rattle.dv_update.specs.declared.fault.UpdateFault.TheVariants.{BadName};
@@ -36,7 +37,7 @@ impl Update {
     /// begins with `$` at the top level, and none holds a dot at any level (`BadName`, whether there is memory or not). Fails with
     /// `NoMemory` when memory runs out. Takes time n log n in the number of paths.
     pub fn parse(alloc: Global, document: &Document) -> Result<Update, UpdateFault>
-        ensures update { Gives update result (defined.update_of document.now) }
+        ensures update { Gives no_memory update result (defined.update_of document.now) }
         ensures bad_name { filters.lists_operators (fields_of document.now) ≡ false → names.has_bad_name document.now ≡ true → result ≡ Err BadName }
     {
         if lists_operators(document) {
@@ -62,7 +63,7 @@ pub(crate) fn lists_operators(document: &Document) -> bool
 
 /// The edits of all operators, as written.
 fn edits_in(alloc: Global, document: &Document) -> Result<Vec<Edit>, UpdateFault>
-    ensures { Gives (λ edits. map edit edits.items) result (defined.edits_in document.now) }
+    ensures { Gives no_memory (λ edits. map edit edits.items) result (defined.edits_in document.now) }
 {
     let mut edits = Vec::new(alloc);
     'operators: for place in 0..document.len() {
@@ -82,7 +83,7 @@ fn add_edits(
     operand: &Value,
     edits: &mut Vec<Edit>,
 ) -> Result<(), UpdateFault>
-    ensures { Gives (λ _. map edit edits.new.items) result (behind (map edit edits.old.items) (defined.edits_under (defined.operator_named name.now) (tree operand.now))) }
+    ensures { Gives no_memory (λ _. map edit edits.new.items) result (behind (map edit edits.old.items) (defined.edits_under (defined.operator_named name.now) (tree operand.now))) }
 {
     let Some(operator) = operator_named(name) else {
         return Err(UpdateFault::UnknownOperator);
@@ -100,7 +101,7 @@ fn add_each(
     paths: &Document,
     edits: &mut Vec<Edit>,
 ) -> Result<(), UpdateFault>
-    ensures { Gives (λ _. map edit edits.new.items) result (behind (map edit edits.old.items) (defined.edits_by operator paths.now)) }
+    ensures { Gives no_memory (λ _. map edit edits.new.items) result (behind (map edit edits.old.items) (defined.edits_by operator paths.now)) }
 {
     'paths: for place in 0..paths.len() {
         let Some((name, operand)) = paths.entry(place) else {
@@ -118,7 +119,7 @@ fn edit_of(
     name: &str,
     operand: &Value,
 ) -> Result<Edit, UpdateFault>
-    ensures { Gives edit result (defined.edit_by operator (name.now, tree operand.now)) }
+    ensures { Gives no_memory edit result (defined.edit_by operator (name.now, tree operand.now)) }
 {
     let path = plain_path(alloc, name)?;
     let operation = operation_of(alloc, operator, operand)?;
@@ -127,7 +128,7 @@ fn edit_of(
 
 /// The path that a name is, if no component begins with a dollar sign.
 fn plain_path(alloc: Global, name: &str) -> Result<Path, UpdateFault>
-    ensures { Gives (λ path. path) result (defined.plain (path_of name.now)) }
+    ensures { Gives no_memory (λ path. path) result (defined.plain (path_of name.now)) }
 {
     let path = Path::parse(alloc, name)?;
     if has_dollar(&path) {

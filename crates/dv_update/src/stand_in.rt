@@ -9,9 +9,11 @@ ghost use Rattle.std.specs.Option.{option_map};
 ghost use Rattle.dv_value.specs.Spelling.{payload};
 ghost use Rattle.dv_value.specs.Tree.{Field};
 ghost use Rattle.dv_value.specs.View.{tree};
+ghost use Rattle.dv_value.specs.Results.{Gives};
+ghost use Rattle.dv_update.specs.declared.fault.UpdateFault.TheVariants.{NoMemory as no_memory};
 ghost use Rattle.dv_path.specs.Slots.{slot, free, blocked};
 ghost use Rattle.dv_update.specs.Apply as defined;
-ghost use Rattle.dv_update.specs.Parsing.{Gives, has_conflict};
+ghost use Rattle.dv_update.specs.Parsing.{has_conflict};
 ghost use Rattle.dv_update.specs.PathOrder.{begins as begins_with};
 ghost use Rattle.dv_update.specs.Removals as last_of;
 ghost use Rattle.dv_update.specs.Inner.StandIn.{Alike, PullsShallow, names_length, new_value};
@@ -280,7 +282,7 @@ fn put(
     path: &Path,
     value: Value,
 ) -> Result<Document, UpdateFault>
-    ensures { Gives (λ changed. changed) result (defined.set_at path.now (tree value) document) }
+    ensures { Gives no_memory (λ changed. changed) result (defined.set_at path.now (tree value) document) }
 {
     Ok(put_at(alloc, document, path, value)?)
 }

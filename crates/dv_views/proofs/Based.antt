@@ -7,27 +7,23 @@ use Rattle.std.specs.Option.{IfSome, option_map}
 use Rattle.std.specs.Str.{bytes_eq}
 use Rattle.std.specs.String.{string_bytes}
 use Rattle.std.proofs.lemmas.Slice.Eq.{bytes_eq-Decides}
-use Rattle.dv_change.specs.declared.live_rows.LiveRows.{LiveRows}
+use Rattle.dv_change.specs.declared.told_rows.ToldRows.{ToldRows}
 use Rattle.dv_change.specs.Changes.{Positioned}
-use Rattle.dv_change.specs.Inner.Changes.{IsPositioned}
 use Rattle.dv_pipe.specs.Sources.{Row}
 use Rattle.dv_pipe.specs.Stages.{Lists, evaluated}
 use Rattle.dv_views.specs.declared.stage_operator.StageOperator.{StageOperator}
 use Rattle.dv_views.specs.Inner.Based.{IsBasedOn}
 use Rattle.dv_views.specs.Inner.Body.{Body}
 use Rattle.dv_views.specs.Inner.ById.{AreAtIds, at_ids_through}
-use Rattle.dv_views.specs.Flow.{outs_made}
 use Rattle.dv_views.specs.Forms.{ViewForm, outs_of, places_over, rows_over, with_places, with_rows}
-use Rattle.dv_views.specs.Inner.Keeping.{IsSoundLive, kept_seen}
+use Rattle.dv_views.specs.Inner.Keeping.{kept_seen}
 use Rattle.dv_views.specs.Inner.Older.{Entries, is_called, place_of_name, views, views_before}
 use Rattle.dv_views.specs.Placed.{ListPlaces, lookups_of}
 use Rattle.dv_views.specs.Inner.Seen.{entry_view}
 use Rattle.dv_views.specs.Views.{View, ViewMark, live, taken_from}
 use Rattle.dv_views.specs.Inner.Views.{AreKept, AreNamedApart, AreRightOver, view_form}
 use Rattle.dv_views.proofs.Before.{no_view_before, place_within}
-use Rattle.dv_views.proofs.Building.{live_outs}
 use Rattle.dv_views.proofs.ById.{through_at_ids}
-use Rattle.dv_views.proofs.Rolling.{entries_are}
 use Rattle.dv_views.proofs.Shown.{no_view, places_untouched}
 
 -- ---- what stands under the name of an older view
@@ -117,18 +113,15 @@ module _ {Y : Type 0} where
   -- ---- what a right view at a place has taken in
 
   pub right_at : (i : ℕ) (es : Entries Y) (b : Body) (places : ListPlaces) (lists : Lists) → AreRightOver places lists (views es) → slice_get (values_of es) i ≡ Some b
-      → AreKept b.mark (taken_from b.stages b.source (places_over (map view_form (views (take i es))) places)) (evaluated b.stages b.source (rows_over (map view_form (views (take i es))) lists))
+      → AreKept b.stages b.mark (taken_from b.stages b.source (places_over (map view_form (views (take i es))) places)) (evaluated b.stages b.source (rows_over (map view_form (views (take i es))) lists))
   right_at i [] b places lists right there = absurd cc
   right_at zero (e ∷ es) b places lists right there =
-      let here : e.1 ≡ b = cc in subst (λ (c : Body). AreKept c.mark (taken_from c.stages c.source places) (evaluated c.stages c.source lists)) here right.0
+      let here : e.1 ≡ b = cc in subst (λ (c : Body). AreKept c.stages c.mark (taken_from c.stages c.source places) (evaluated c.stages c.source lists)) here right.0
   right_at (suc i) (e ∷ es) b places lists right there = right_at i es b (with_places (view_form (entry_view e)) places) (with_rows (view_form (entry_view e)) lists) right.1 there
 
 -- ---- the rows in memory
 
-pub entries_at_ids : (b : Body) (rows : LiveRows StageOperator) (places : ListPlaces) (shown : List Row) → AreKept b.mark (taken_from b.stages b.source places) shown → b.mark ≡ live (kept_seen rows) → IsSoundLive b.stages rows → AreAtIds (outs_of b.stages b.source places) → AreAtIds rows.rows.entries
-entries_at_ids b rows places shown kept is sound are =
-    let right : AreKept (live (kept_seen rows)) (taken_from b.stages b.source places) shown = subst (λ (m : ViewMark). AreKept m (taken_from b.stages b.source places) shown) is kept in
-    subst (λ (es : Positioned). AreAtIds es) (sym (entries_are b.stages rows sound ∙ ap (outs_made b.stages) right.0)) are
-
-pub entries_positioned : (b : Body) (rows : LiveRows StageOperator) → IsSoundLive b.stages rows → IsPositioned rows.rows.entries
-entries_positioned b rows sound = subst (λ (es : Positioned). IsPositioned es) (sym (entries_are b.stages rows sound)) (live_outs b.stages rows sound)
+pub entries_at_ids : (b : Body) (rows : ToldRows StageOperator) (places : ListPlaces) (shown : List Row) → AreKept b.stages b.mark (taken_from b.stages b.source places) shown → b.mark ≡ live (kept_seen rows) → AreAtIds (outs_of b.stages b.source places) → AreAtIds rows.rows.entries
+entries_at_ids b rows places shown kept is are =
+    let right : AreKept b.stages (live (kept_seen rows)) (taken_from b.stages b.source places) shown = subst (λ (m : ViewMark). AreKept b.stages m (taken_from b.stages b.source places) shown) is kept in
+    subst (λ (es : Positioned). AreAtIds es) (sym right.0.made.made) are

@@ -11,8 +11,8 @@ use Rattle.std.proofs.lemmas.Bool.{le-ltb, ltb-false, ltb-true, lt-ltb}
 use Rattle.std.proofs.lemmas.Iterator.Adapters.{position_from-zero}
 use Rattle.std.proofs.lemmas.Slice.Eq.{bytes_eq-Decides}
 use Rattle.dv_views.specs.Inner.Body.{Body}
-use Rattle.dv_change.specs.declared.change.Change.{Change}
-use Rattle.dv_views.specs.Flow.{Told, told_at, flow_with_told}
+use Rattle.dv_change.specs.declared.taking.Taken as taking
+use Rattle.dv_views.specs.Inner.Turned.{Known, known_at, with_known}
 use Rattle.dv_views.specs.Inner.Older.{Entries, is_called, place_of_name, told_before, told_else, told_found, told_named, told_over, views, views_before}
 use Rattle.dv_views.specs.Inner.Seen.{view_seen}
 use Rattle.dv_views.specs.Views.{View}
@@ -143,13 +143,13 @@ module _ {Y : Type 0} (name : List ℕ) where
       by false zero (Some j) is there rest = absurd cc
       by false (suc i) (Some j) is there rest = let at : j ≡ i = cc in rest i (ap Some at) there
 
-  pub told_here : (namespace : List ℕ) (changes : List Change) (n : ℕ) (es : Entries Y) → told_named name (take n es) ≡ None → bytes_eq name namespace ≡ true → Some changes ≡ told_found namespace changes n es name
-  told_here namespace changes n es none is =
-      sym (ap (λ t. told_else t (told_at namespace changes name)) none ∙ ap (λ (b : Bool). if b then Some changes else None) (either-way namespace name ∙ is))
+  pub told_here : (namespace : List ℕ) (all : List taking.Taken) (n : ℕ) (es : Entries Y) → told_named name (take n es) ≡ None → bytes_eq name namespace ≡ true → Some all ≡ told_found namespace all n es name
+  told_here namespace all n es none is =
+      sym (ap (λ t. told_else t (known_at namespace all name)) none ∙ ap (λ (b : Bool). if b then Some all else None) (either-way namespace name ∙ is))
 
-  pub told_nowhere : (namespace : List ℕ) (changes : List Change) (n : ℕ) (es : Entries Y) → told_named name (take n es) ≡ None → bytes_eq name namespace ≡ false → None ≡ told_found namespace changes n es name
-  told_nowhere namespace changes n es none is =
-      sym (ap (λ t. told_else t (told_at namespace changes name)) none ∙ ap (λ (b : Bool). if b then Some changes else None) (either-way namespace name ∙ is))
+  pub told_nowhere : (namespace : List ℕ) (all : List taking.Taken) (n : ℕ) (es : Entries Y) → told_named name (take n es) ≡ None → bytes_eq name namespace ≡ false → None ≡ told_found namespace all n es name
+  told_nowhere namespace all n es none is =
+      sym (ap (λ t. told_else t (known_at namespace all name)) none ∙ ap (λ (b : Bool). if b then Some all else None) (either-way namespace name ∙ is))
 
 -- ---- the first view of a name is the only one
 
@@ -160,16 +160,16 @@ module _ {Y : Type 0} (name : List ℕ) where
       let away : is_called name e.0 ≡ false = ap (λ (m : List ℕ). bytes_eq m (string_bytes e.0)) ((bytes_eq-Decides name n).0 is) ∙ apart.0 in
       ap (λ (b : Bool). if b then Some e.1.told else told_named name es) away ∙ none-later n es is apart.1
 
-  over-is : (come : Told) (es : Entries Y) → AreNamedApart (views es) → told_over come es name ≡ told_else (told_named name es) (come name)
+  over-is : (come : Known) (es : Entries Y) → AreNamedApart (views es) → told_over come es name ≡ told_else (told_named name es) (come name)
   unfolding IsDistinct
   over-is come [] apart = refl
-  over-is come (e ∷ es) apart = by (is_called name e.0) refl (over-is (flow_with_told (string_bytes e.0) e.1.told come) es apart.1)
+  over-is come (e ∷ es) apart = by (is_called name e.0) refl (over-is (with_known (string_bytes e.0) e.1.told come) es apart.1)
     where
-      by : (b : Bool) → is_called name e.0 ≡ b → told_over (flow_with_told (string_bytes e.0) e.1.told come) es name ≡ told_else (told_named name es) (flow_with_told (string_bytes e.0) e.1.told come name)
-          → told_over (flow_with_told (string_bytes e.0) e.1.told come) es name ≡ told_else (if b then Some e.1.told else told_named name es) (come name)
+      by : (b : Bool) → is_called name e.0 ≡ b → told_over (with_known (string_bytes e.0) e.1.told come) es name ≡ told_else (told_named name es) (with_known (string_bytes e.0) e.1.told come name)
+          → told_over (with_known (string_bytes e.0) e.1.told come) es name ≡ told_else (if b then Some e.1.told else told_named name es) (come name)
       by true is rest =
-          rest ∙ ap (λ t. told_else t (flow_with_told (string_bytes e.0) e.1.told come name)) (none-later (string_bytes e.0) es is apart.0) ∙ ap (λ (b : Bool). if b then e.1.told else come name) is
+          rest ∙ ap (λ t. told_else t (with_known (string_bytes e.0) e.1.told come name)) (none-later (string_bytes e.0) es is apart.0) ∙ ap (λ (b : Bool). if b then e.1.told else come name) is
       by false is rest = rest ∙ ap (λ (b : Bool). told_else (told_named name es) (if b then e.1.told else come name)) is
 
-pub found_is_before : {Y : Type 0} (namespace : List ℕ) (changes : List Change) (n : ℕ) (es : Entries Y) → AreNamedApart (views_before n es) → told_found namespace changes n es ≡ told_before namespace changes n es
-found_is_before namespace changes n es apart = λ i name. sym (over-is name (told_at namespace changes) (take n es) apart) i
+pub found_is_before : {Y : Type 0} (namespace : List ℕ) (all : List taking.Taken) (n : ℕ) (es : Entries Y) → AreNamedApart (views_before n es) → told_found namespace all n es ≡ told_before namespace all n es
+found_is_before namespace all n es apart = λ i name. sym (over-is name (known_at namespace all) (take n es) apart) i

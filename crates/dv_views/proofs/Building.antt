@@ -1,5 +1,6 @@
 -- What a view keeps as it is made, over older views and documents.
-use Rattle.std.proofs.Common.{◌≡◌, ℕ, Bool, List, [], ◌∷◌, ◌++◌, map, Option, Some, None, refl, ap, sym, subst, ◌∙◌}
+use Rattle.std.proofs.Common.{◌≡◌, ◌+◌, ◌<◌, ℕ, zero, suc, Bool, List, [], ◌∷◌, ◌++◌, map, length, take, drop, slice_get, Option, Some, None, refl, ap, sym, subst, ◌∙◌, append_assoc, length-append, arith}
+use Rattle.std.proofs.lemmas.List.{length-map, map_push}
 use Rattle.std.specs.Str.{bytes_eq}
 use Rattle.std.specs.Prelude.{Result, Ok, Err, IfOk}
 use Rattle.std.specs.List.{AllByRecursion}
@@ -11,28 +12,30 @@ use Rattle.dv_value.specs.Tree.{int64}
 use Rattle.dv_order.specs.Key.{key_order}
 use Rattle.dv_order.specs.OwnKeys.{IsOwn}
 use Rattle.dv_coll.specs.Collection.{IsAscending, id_key}
-use Rattle.dv_change.specs.declared.input.Input.TheVariants.{Left}
-use Rattle.dv_change.specs.declared.live_rows.LiveRows.{LiveRows}
-use Rattle.dv_change.specs.Changes.{forget}
+use Rattle.dv_change.specs.declared.input.Input.TheVariants.{Named}
+use Rattle.dv_change.specs.declared.taking.Taken as taking
+use Rattle.dv_change.specs.declared.told_rows.ToldRows.{ToldRows}
+use Rattle.dv_change.specs.Changes.{Positioned}
 use Rattle.dv_change.specs.Inner.Changes.{IsPositioned}
 use Rattle.dv_change.specs.Positions.{IsExact, pos_order}
 use Rattle.dv_pipe.specs.Sources.{Row, lists_of}
 use Rattle.dv_pipe.specs.Stages.{Lists}
 use Rattle.dv_pipe.specs.declared.stage.Stage.{Stage}
 use Rattle.dv_views.specs.declared.stage_operator.StageOperator.{StageOperator}
-use Rattle.dv_views.specs.Inner.Filled.{lists_in_turn, rows_filled}
-use Rattle.dv_views.specs.Flow.{outs_made}
 use Rattle.dv_views.specs.Inner.Ground.{IsBuilt, IsLive, IsLiveView, IsPlacedUnder, outs_below, outs_of_mark, outs_of_view}
-use Rattle.dv_views.specs.Inner.Keeping.{IsSoundLive, kept_seen, lists_of_all, taken_seen}
-use Rattle.dv_views.specs.Placed.{lookups_of, own_position, positioned}
-use Rattle.dv_views.specs.Inner.Turned.{turned_rows}
+use Rattle.dv_views.specs.Inner.Holding.{HasMade}
+use Rattle.dv_views.specs.Inner.Keeping.{IsSoundLive, kept_seen}
+use Rattle.dv_views.specs.Flow.{arriving}
+use Rattle.dv_views.specs.Inner.Filled.{firsts_of, puts_of}
 use Rattle.dv_views.specs.Inner.Operating.{empty_lists}
-use Rattle.dv_views.specs.Views.{ViewMark, Taken, View, live, taken_from}
+use Rattle.dv_views.specs.Inner.Turned.{Turns, come_along, coming}
+use Rattle.dv_views.specs.Placed.{ListPlaces, lookups_of, own_position, positioned}
+use Rattle.dv_views.specs.Views.{Kept, Taken, ViewMark, View, live, taken_from}
 use Rattle.dv_views.specs.Inner.Views.{AreInOrder, Views, view_under}
-use Rattle.dv_views.proofs.Filling.{all_filled, source_filled}
+use Rattle.dv_views.proofs.Coming.{each_there, list_comes, list_takes}
+use Rattle.dv_views.proofs.Filling.{firsts_told, puts_lead}
 use Rattle.dv_views.proofs.Made.{one_part}
-use Rattle.dv_views.proofs.Rolling.{lookups_count, rows_are_made}
-use Rattle.dv_views.proofs.Scratch.{ordered_outs}
+use Rattle.dv_views.proofs.Marked.{take_count, take_last}
 
 -- ---- documents in order stand at exact positions, in their order
 
@@ -58,11 +61,8 @@ places_are_positioned ds ascending = record { ascending = ascending-places ds as
 
 -- ---- what stands under a name
 
-pub live_outs : (stages : List Stage) (rows : LiveRows StageOperator) → IsSoundLive stages rows → IsPositioned (outs_made stages (kept_seen rows).taken)
-live_outs stages rows sound = ordered_outs stages (taken_seen rows).named (taken_seen rows).left sound.kept.positioned
-
-pub live_placed : (stages : List Stage) (mark : ViewMark) (rows : LiveRows StageOperator) → mark ≡ live (kept_seen rows) → IsSoundLive stages rows → IsLive mark × IsPositioned (outs_of_mark stages mark)
-live_placed stages mark rows is sound = subst (λ (m : ViewMark). IsLive m × IsPositioned (outs_of_mark stages m)) (sym is) (tt, live_outs stages rows sound)
+pub live_placed : (mark : ViewMark) (rows : ToldRows StageOperator) → mark ≡ live (kept_seen rows) → IsSoundLive rows → IsLive mark × IsPositioned (outs_of_mark mark)
+live_placed mark rows is sound = subst (λ (m : ViewMark). IsLive m × IsPositioned (outs_of_mark m)) (sym is) (tt, sound.positioned)
 
 -- what holds whatever comes
 pub whatever : {T E : Type 0} {P : Type 0} (r : Result T E) → P → IfOk r (λ _. P)
@@ -77,16 +77,52 @@ pub ok_both : {T E : Type 0} {P Q R : T → Type 0} (r : Result T E) → IfOk r 
 ok_both (Ok x) p q more = more x p q
 ok_both (Err e) p q more = tt
 
+-- ---- the lists that are looked into
+
+-- rows that come to a list of which none came yet
+pub list_filled : (i : ℕ) (front back : List Positioned) (list : Positioned) (firsts : List taking.Taken) (before after : Kept) (first told : List taking.Taken) → i ≡ length front → IsPositioned list → firsts ≡ firsts_of list → Turns (coming (Named i) (Some firsts)) before first after told
+    → (stages : List Stage) → HasMade stages before (record { left = []; named = front ++ [] ∷ back }) → HasMade stages after (record { left = []; named = front ++ list ∷ back })
+list_filled i front back list firsts before after first told e are is turns stages made =
+    let there : i < length (front ++ [] ∷ back) = let n : length (front ++ [] ∷ back) ≡ length front + suc (length back) = length-append front ([] ∷ back) in omega (arith, n, e) in
+    let come : coming (Named i) (Some firsts) ≡ come_along (arriving (Named i) (Some (puts_of list))) (record { left = []; named = front ++ [] ∷ back }) =
+    ap (λ (ts : List taking.Taken). coming (Named i) (Some ts)) (is ∙ firsts_told list are) ∙ list_comes i front back e [] (puts_of list) [] in
+    let turned = turns stages (record { left = []; named = front ++ [] ∷ back }) (arriving (Named i) (Some (puts_of list))) made (each_there (front ++ [] ∷ back) (Named i) (puts_of list) there) come in
+    subst (λ (t : Taken). HasMade stages after t) (list_takes i front back e [] (puts_of list) [] ∙ ap (λ (rows : Positioned). record { left = []; named = front ++ rows ∷ back }) (puts_lead list are)) turned.made
+
+-- the names from a place on
+pub dropped : (names : List (List ℕ)) (i : ℕ) (name : List ℕ) → slice_get names i ≡ Some name → drop i names ≡ name ∷ drop (i + 1) names
+dropped names i name there = at names i there ∙ ap (λ n. name ∷ drop n names) (let e : suc i ≡ i + 1 = omega arith in e)
+  where
+    at : (names : List (List ℕ)) (i : ℕ) → slice_get names i ≡ Some name → drop i names ≡ name ∷ drop (suc i) names
+    at [] i there = absurd cc
+    at (n ∷ ns) zero there = let same : n ≡ name = cc in ap (λ (m : List ℕ). m ∷ ns) same
+    at (n ∷ ns) (suc i) there = at ns i there
+
+module _ (places : ListPlaces) (names : List (List ℕ)) where
+  -- the lists of the first names are filled
+  abbrev pub first_lists : ℕ → List Positioned
+  first_lists i = map places (take i names) ++ empty_lists (length (drop i names))
+
+  pub next_filled : (i : ℕ) (name : List ℕ) → slice_get names i ≡ Some name → i < length names → (before after : Kept)
+      → ((stages : List Stage) (front back : List Positioned) (list : Positioned) → i ≡ length front → IsPositioned list → firsts_of (places name) ≡ firsts_of list → HasMade stages before (record { left = []; named = front ++ [] ∷ back })
+      → HasMade stages after (record { left = []; named = front ++ list ∷ back }))
+      → IsPositioned (places name) → (stages : List Stage) → HasMade stages before (record { left = []; named = first_lists i }) → HasMade stages after (record { left = []; named = first_lists (i + 1) })
+  next_filled i name there within before after fills are stages made =
+      let front = map places (take i names) in
+      let back = empty_lists (length (drop (i + 1) names)) in
+      let count : i ≡ length front = sym (length-map (take i names) places ∙ take_count names i within) in
+      let was : first_lists i ≡ front ++ [] ∷ back = ap (λ (ns : List (List ℕ)). front ++ empty_lists (length ns)) (dropped names i name there) in
+      let now : front ++ places name ∷ back ≡ first_lists (i + 1) =
+      sym (append_assoc front (places name ∷ []) back) ∙ ap (λ (ls : List Positioned). ls ++ back) (sym (ap (map places) (take_last names i name there) ∙ map_push places (take i names) name)) in
+      subst (λ (ls : List Positioned). HasMade stages after (record { left = []; named = ls })) now
+      (fills stages front back (places name) count are refl (subst (λ (ls : List Positioned). HasMade stages before (record { left = []; named = ls })) was made))
+
 module _ (older : Views) (lists : Lists) where
-  pub view_placed : (name : List ℕ) (v : View) → view_under name older ≡ Some v → IsLive v.mark → IsPositioned (outs_of_mark v.stages v.mark) → IsPlacedUnder older lists name
+  pub view_placed : (name : List ℕ) (v : View) → view_under name older ≡ Some v → IsLive v.mark → IsPositioned (outs_of_mark v.mark) → IsPlacedUnder older lists name
   view_placed name v is lives are = subst (λ (o : Option View). IsLiveView o × IsPositioned (outs_of_view o (lists name))) (sym is) (lives, are)
 
   pub list_placed : (name : List ℕ) → view_under name older ≡ None → AreInOrder (lists name) → IsPlacedUnder older lists name
   list_placed name is ordered = subst (λ (o : Option View). IsLiveView o × IsPositioned (outs_of_view o (lists name))) (sym is) (tt, places_are_positioned (lists name) ordered.0)
-
-  all-positioned : (names : List (List ℕ)) → AllByRecursion (IsPlacedUnder older lists) names → AllByRecursion (λ name. IsPositioned (outs_below older lists name)) names
-  all-positioned [] all = tt
-  all-positioned (name ∷ names) all = (all.0.1, all-positioned names all.1)
 
   all-live : (names : List (List ℕ)) → AllByRecursion (IsPlacedUnder older lists) names → AllByRecursion (λ name. IsLiveView (view_under name older)) names
   all-live [] all = tt
@@ -96,23 +132,7 @@ module _ (older : Views) (lists : Lists) where
   more_placed [] name all one = (one, tt)
   more_placed (n ∷ names) name all one = (all.0, more_placed names name all.1 one)
 
-  module _ (stages : List Stage) (source : List ℕ) (placed : AllByRecursion (IsPlacedUnder older lists) (lookups_of stages source)) (own : IsPlacedUnder older lists source) where
-    all-taken : (fresh some : Taken) → fresh ≡ record { left = []; named = empty_lists (lists_of_all stages) } → some ≡ lists_in_turn 0 (lookups_of stages source) (outs_below older lists) fresh
-        → rows_filled Left some (outs_below older lists source) ≡ taken_from stages source (outs_below older lists)
-    all-taken fresh some none is =
-        ap (λ (t : Taken). rows_filled Left t (outs_below older lists source))
-        (is ∙ ap (lists_in_turn 0 (lookups_of stages source) (outs_below older lists)) (none ∙ ap (λ n. record { left = []; named = empty_lists n }) (sym (lookups_count stages source)))
-        ∙ all_filled (lookups_of stages source) (outs_below older lists) (all-positioned (lookups_of stages source) placed))
-        ∙ source_filled (outs_below older lists source) (map (outs_below older lists) (lookups_of stages source)) own.1
-
-    pub built : (fresh some : Taken) (whole after : LiveRows StageOperator) → fresh ≡ record { left = []; named = empty_lists (lists_of_all stages) } → some ≡ lists_in_turn 0 (lookups_of stages source) (outs_below older lists) fresh
-        → (kept_seen whole).taken ≡ rows_filled Left some (outs_below older lists source) → IsSoundLive stages whole → taken_seen after ≡ taken_seen whole → after.rows.entries ≡ whole.rows.entries → after.ticks ≡ 0
-        → IsBuilt stages source older lists (live (kept_seen after))
-    built fresh some whole after none is all sound same entries ticks =
-        let taken = same ∙ all ∙ all-taken fresh some none is in (
-          taken,
-          ap forget entries ∙ rows_are_made stages whole sound ∙ ap (turned_rows stages) (sym same),
-          subst (λ (t : Taken). IsPositioned t.left) (sym taken) own.1,
-          ticks,
-          (own.0, all-live (lookups_of stages source) placed),
-        )
+  -- what was made of all that is read is what a view keeps
+  pub built : (stages : List Stage) (source : List ℕ) (kept : Kept) → AllByRecursion (IsPlacedUnder older lists) (lookups_of stages source) → IsPlacedUnder older lists source → HasMade stages kept (taken_from stages source (outs_below older lists)) → kept.ticks ≡ 0
+      → IsBuilt stages source older lists (live kept)
+  built stages source kept placed own made ticks = (made, ticks, (own.0, all-live (lookups_of stages source) placed))

@@ -1,25 +1,21 @@
 -- Rows at positions, put into empty lists one after the other, stand there.
-use Rattle.std.proofs.Common.{◌≡◌, ℕ, zero, suc, List, [], ◌∷◌, ◌++◌, map, length, fold, refl, ap, sym, subst, ◌∙◌, append_assoc, append-nil}
+use Rattle.std.proofs.Common.{◌≡◌, ℕ, zero, suc, List, [], ◌∷◌, ◌++◌, length, fold, None, Some, cond, refl, ap, sym, subst, ◌∙◌, append_assoc, append-nil}
 use Rattle.std.specs.BTreeMap.{insert_entry}
 use Rattle.std.specs.List.{AllByRecursion}
 use Rattle.std.specs.List.Sorted.{IsStrictlySortedBy}
 use Rattle.std.specs.Map.{keys_of}
-use Rattle.std.specs.Ordering.{match_ordering, ordering_reverse}
+use Rattle.std.specs.Ordering.{is_eq, match_ordering, ordering_reverse}
 use Rattle.std.specs.declared.cmp.Ordering.TheVariants.{Less, Greater}
 use Rattle.dv_value.specs.Tree.{Field}
 use Rattle.dv_change.specs.declared.change.Change.{Change}
 use Rattle.dv_change.specs.declared.change.Change.TheVariants.{Put}
-use Rattle.dv_change.specs.declared.input.Input.TheVariants.{Left, Named}
-use Rattle.dv_change.specs.Changes.{Positioned, with_change, with_changes}
-use Rattle.dv_change.specs.Inner.Changes.{IsPositioned}
+use Rattle.dv_change.specs.Changes.{Positioned, at, with_change, with_changes}
+use Rattle.dv_change.specs.Inner.Changes.{IsExactChange, IsPositioned}
+use Rattle.dv_change.specs.Inner.Told.{told_along}
 use Rattle.dv_change.specs.Inputs.{input_changed_at}
 use Rattle.dv_change.specs.Inner.PositionLaws.{pos_order_total}
-use Rattle.dv_change.specs.Positions.{PosTree, pos_order}
-use Rattle.dv_views.specs.Inner.Filled.{lists_in_turn, puts_of, rows_filled}
-use Rattle.dv_views.specs.Flow.{taken_after}
-use Rattle.dv_views.specs.Placed.{ListPlaces}
-use Rattle.dv_views.specs.Inner.Operating.{empty_lists}
-use Rattle.dv_views.specs.Views.{Taken}
+use Rattle.dv_change.specs.Positions.{IsExact, PosTree, pos_order}
+use Rattle.dv_views.specs.Inner.Filled.{firsts_of, puts_of}
 
 -- ---- one list among others
 
@@ -65,52 +61,37 @@ filled front (e ∷ back) ascending =
     ∙ filled (front ++ e ∷ []) back (subst (λ (all : Positioned). IsStrictlySortedBy pos_order (keys_of all)) (sym (append_assoc front (e ∷ []) back)) ascending)
     ∙ append_assoc front (e ∷ []) back
 
--- ---- the source
+-- ---- rows that come where none were
 
-left-filled : (es rows : Positioned) (named : List Positioned) → rows_filled Left (record { left = rows; named = named }) es ≡ record { left = fold put_in rows es; named = named }
-left-filled [] rows named = refl
-left-filled (e ∷ es) rows named = left-filled es (put_in rows e) named
+puts-fold : (es rows : Positioned) → with_changes rows (puts_of es) ≡ fold put_in rows es
+puts-fold [] rows = refl
+puts-fold (e ∷ es) rows = puts-fold es (put_in rows e)
 
-pub source_filled : (es : Positioned) (named : List Positioned) → IsPositioned es → rows_filled Left (record { left = []; named = named }) es ≡ record { left = es; named = named }
-source_filled es named are = left-filled es [] named ∙ ap (λ (rows : Positioned). record { left = rows; named = named }) (filled [] es are.ascending)
-
--- the rows come to what was there
-pub puts_filled : (es : Positioned) (t : Taken) → rows_filled Left t es ≡ record { left = with_changes t.left (puts_of es); named = t.named }
-puts_filled [] t = refl
-puts_filled (e ∷ es) t = puts_filled es (taken_after Left (Put e.0 e.1) t)
-
--- put in where nothing is, they are all
+-- they are all
 pub puts_lead : (es : Positioned) → IsPositioned es → with_changes [] (puts_of es) ≡ es
-puts_lead es are = ap (λ (t : Taken). t.left) (sym (puts_filled es (record { left = []; named = [] })) ∙ source_filled es [] are)
+puts_lead es are = puts-fold es [] ∙ filled [] es are.ascending
 
--- ---- the other lists
+none-at : (rows : Positioned) (pos : PosTree) → AreBelow rows pos → at pos rows ≡ None
+none-at [] pos below = refl
+none-at (e ∷ rows) pos below = ap (λ o. cond (is_eq o) (Some e.1) (at pos rows)) (turned pos e.0 below.0) ∙ none-at rows pos below.1
 
-list-left : (i : ℕ) (es : Positioned) (t : Taken) → (rows_filled (Named i) t es).left ≡ t.left
-list-left i [] t = refl
-list-left i (e ∷ es) t = list-left i es (taken_after (Named i) (Put e.0 e.1) t)
+told-behind : (front back : Positioned) → IsStrictlySortedBy pos_order (keys_of (front ++ back)) → firsts_of back ≡ told_along front (puts_of back)
+told-behind front [] ascending = refl
+told-behind front (e ∷ back) ascending =
+    let below = below-all front back e ascending in
+    let none = none-at front e.0 below in
+    let rest : firsts_of back ≡ told_along (put_in front e) (puts_of back) =
+    told-behind (front ++ e ∷ []) back (subst (λ (all : Positioned). IsStrictlySortedBy pos_order (keys_of all)) (sym (append_assoc front (e ∷ []) back)) ascending)
+    ∙ ap (λ (rows : Positioned). told_along rows (puts_of back)) (sym (put-last front e.0 e.1 below)) in
+    λ i. record { pos = e.0; old = sym none i; new = Some e.1 } ∷ rest i
 
--- the source stays as it is
-pub lists_left : (i : ℕ) (names : List (List ℕ)) (places : ListPlaces) (t : Taken) → (lists_in_turn i names places t).left ≡ t.left
-lists_left i [] places t = refl
-lists_left i (name ∷ names) places t = lists_left (suc i) names places (rows_filled (Named i) t (places name)) ∙ list-left i (places name) t
+-- they are told with nothing that stood there
+pub firsts_told : (es : Positioned) → IsPositioned es → firsts_of es ≡ told_along [] (puts_of es)
+firsts_told es are = told-behind [] es are.ascending
 
-list-filled : (i : ℕ) (es left rows : Positioned) (front back : List Positioned) → i ≡ length front
-    → rows_filled (Named i) (record { left = left; named = front ++ rows ∷ back }) es ≡ record { left = left; named = front ++ fold put_in rows es ∷ back }
-list-filled i [] left rows front back e = refl
-list-filled i (d ∷ es) left rows front back e =
-    ap (λ (ns : List Positioned). rows_filled (Named i) (record { left = left; named = ns }) es) (changed_mid i (Put d.0 d.1) front back rows e) ∙ list-filled i es left (put_in rows d) front back e
+puts-exact : (es : Positioned) → AllByRecursion IsExact (keys_of es) → AllByRecursion IsExactChange (puts_of es)
+puts-exact [] all = tt
+puts-exact (e ∷ es) all = (all.0, puts-exact es all.1)
 
-lists-filled : (i : ℕ) (names : List (List ℕ)) (places : ListPlaces) (left : Positioned) (front : List Positioned) → i ≡ length front → AllByRecursion (λ name. IsPositioned (places name)) names
-    → lists_in_turn i names places (record { left = left; named = front ++ empty_lists (length names) }) ≡ record { left = left; named = front ++ map places names }
-lists-filled i [] places left front e all = refl
-lists-filled i (name ∷ names) places left front e all =
-    ap (lists_in_turn (suc i) names places)
-    (list-filled i (places name) left [] front (empty_lists (length names)) e
-    ∙ ap (λ (rows : Positioned). record { left = left; named = front ++ rows ∷ empty_lists (length names) }) (filled [] (places name) all.0.ascending)
-    ∙ ap (λ (ns : List Positioned). record { left = left; named = ns }) (sym (append_assoc front (places name ∷ []) (empty_lists (length names)))))
-    ∙ lists-filled (suc i) names places left (front ++ places name ∷ []) (longer i front (places name) e) all.1
-    ∙ ap (λ (ns : List Positioned). record { left = left; named = ns }) (append_assoc front (places name ∷ []) (map places names))
-
-pub all_filled : (names : List (List ℕ)) (places : ListPlaces) → AllByRecursion (λ name. IsPositioned (places name)) names
-    → lists_in_turn 0 names places (record { left = []; named = empty_lists (length names) }) ≡ record { left = []; named = map places names }
-all_filled names places all = lists-filled 0 names places [] [] refl all
+pub puts_exact : (es : Positioned) → IsPositioned es → AllByRecursion IsExactChange (puts_of es)
+puts_exact es are = puts-exact es are.exact

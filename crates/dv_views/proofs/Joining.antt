@@ -4,18 +4,17 @@ use Rattle.std.specs.Bool.{if◌then◌else◌}
 use Rattle.std.specs.List.{AllByRecursion}
 use Rattle.std.specs.Str.{bytes_eq}
 use Rattle.std.proofs.lemmas.Slice.Eq.{bytes_eq-Decides}
-use Rattle.dv_change.specs.Inner.Changes.{IsPositioned}
+use Rattle.dv_change.specs.Changes.{forget}
 use Rattle.dv_pipe.specs.Stages.{Lists, evaluated}
 use Rattle.dv_pipe.specs.declared.stage.Stage.{Stage}
 use Rattle.dv_views.specs.Forms.{ViewForm, is_name_among, names_read, places_over, rows_over, with_places, with_rows}
 use Rattle.dv_views.specs.Inner.Ground.{IsBuilt, IsLive, IsLiveView, outs_below, outs_of_mark, outs_of_view}
 use Rattle.dv_views.specs.Inner.Made.{AreAlike}
 use Rattle.dv_views.specs.Placed.{ListPlaces, list_places, positioned}
-use Rattle.dv_views.specs.Inner.Seen.{IsWellKept}
-use Rattle.dv_views.specs.Inner.Turned.{turned_rows}
+use Rattle.dv_views.specs.Inner.Holding.{HasMade}
 use Rattle.dv_views.specs.Views.{ViewMark, Taken, View, live, stale, taken_from}
 use Rattle.dv_views.specs.Inner.Views.{AreKept, AreNamedApart, AreOverLive, AreRight, AreRightOver, IsJustMade, IsRight, Views, distance, distances_of, view_form, is_stale, no_distance, reads, view_under, with_distance}
-use Rattle.dv_views.proofs.Agree.{FromScratch, TakesInOrder, agree}
+use Rattle.dv_views.proofs.Agree.{FromScratch, agree}
 use Rattle.dv_views.proofs.Right.{UnreadDoesNotMatter, itself, or-left, read_among, same_taken}
 use Rattle.dv_views.proofs.Shown.{IsShownAt, distance_at, distance_named, no_view, shown_at}
 
@@ -27,15 +26,6 @@ each_among P (n ∷ names) name all among = by (bytes_eq name n) refl among (eac
     by : (b : Bool) → bytes_eq name n ≡ b → b || is_name_among name names ≡ true → (is_name_among name names ≡ true → P name) → P name
     by true is among rest = subst P (sym ((bytes_eq-Decides name n).0 is)) all.0
     by false is among rest = rest among
-
--- what was taken in stands in order
-pub in_order : (vs : Views) → AllByRecursion (λ v. IsWellKept v.stages v.mark) vs → AllByRecursion (λ v. TakesInOrder v.mark) vs
-in_order [] kept = tt
-in_order (v ∷ vs) kept = (by v.mark kept.0, in_order vs kept.1)
-  where
-    by : (m : ViewMark) → IsWellKept v.stages m → TakesInOrder m
-    by (live k) well = well.1
-    by stale well = tt
 
 -- ---- what stands under a name that is read
 
@@ -50,11 +40,11 @@ module _ (scratch : FromScratch) (unread : UnreadDoesNotMatter) (lists others : 
   live-outs name None is alike lives = ap positioned alike ∙ sym (no_view name (list_places lists) lists older is).0
   live-outs name (Some v) is alike lives = by v.mark (shown_at name (list_places lists) lists older v apart right is) lives
     where
-      by : (m : ViewMark) → IsShownAt m v.stages (places name) (rows name) → IsLive m → outs_of_mark v.stages m ≡ places name
+      by : (m : ViewMark) → IsShownAt m (places name) (rows name) → IsLive m → outs_of_mark m ≡ places name
       by (live k) shown lives = sym shown.0
       by stale shown lives = absurd lives
 
-  module _ (stages : List Stage) (source : List ℕ) (alike : AreAlike (names_read stages source) others lists) (over : AreOverLive no_distance older) (kept : AllByRecursion (λ v. IsWellKept v.stages v.mark) older) where
+  module _ (stages : List Stage) (source : List ℕ) (alike : AreAlike (names_read stages source) others lists) (over : AreOverLive no_distance older) where
     near : AllByRecursion (λ n. IsLiveView (view_under n older)) (names_read stages source) → (name : List ℕ) → is_name_among name (names_read stages source) ≡ true → distances_of older name ≡ 0
     near lives name among = distance_at name older apart ∙ by (view_under name older) (each_among (λ n. IsLiveView (view_under n older)) (names_read stages source) name lives among)
       where
@@ -66,16 +56,17 @@ module _ (scratch : FromScratch) (unread : UnreadDoesNotMatter) (lists others : 
         by None lives = refl
         by (Some v) lives = at v.mark lives
 
-    pub right_built : (mark : ViewMark) → IsBuilt stages source older others mark → AreKept mark (taken_from stages source places) (evaluated stages source rows)
+    pub right_built : (mark : ViewMark) → IsBuilt stages source older others mark → AreKept stages mark (taken_from stages source places) (evaluated stages source rows)
     right_built (live k) built =
-        let taken : k.taken ≡ taken_from stages source places =
-        built.0 ∙ same_taken source (outs_below older others) places stages (λ name read.
+        let same : taken_from stages source (outs_below older others) ≡ taken_from stages source places =
+        same_taken source (outs_below older others) places stages (λ name read.
         let among = sym (read_among stages source name) ∙ read in
-        live-outs name (view_under name older) refl (alike name among) (each_among (λ n. IsLiveView (view_under n older)) (names_read stages source) name built.4 among)) in
-        let own = agree scratch lists older over right (in_order older kept) source (near built.4 source (or-left (bytes_eq source source) _ (itself source))) in (
-          taken,
-          built.1 ∙ ap (turned_rows stages) taken
-              ∙ scratch stages source places rows (subst (λ (t : Taken). IsPositioned t.left) taken built.2) own.0 (λ name among. (agree scratch lists older over right (in_order older kept) name (near built.4 name among)).1),
+        live-outs name (view_under name older) refl (alike name among) (each_among (λ n. IsLiveView (view_under n older)) (names_read stages source) name built.2 among)) in
+        let made : HasMade stages k (taken_from stages source places) = subst (λ (t : Taken). HasMade stages k t) same built.0 in
+        let own = agree scratch lists older over right source (near built.2 source (or-left (bytes_eq source source) _ (itself source))) in (
+          made,
+          ap forget made.made.made
+              ∙ scratch stages source places rows made.made.positioned own.0 (λ name among. (agree scratch lists older over right name (near built.2 name among)).1),
         )
     right_built stale built = absurd built
 
@@ -94,16 +85,12 @@ module _ (older : Views) (apart : AreNamedApart older) (lists : Lists) (stages :
       of-live (Some v) lives = at-live v.mark lives
 
       by : (m : ViewMark) → IsBuilt stages source older lists m → (o : Option View) → view_under name older ≡ o → distance_named o ≤ distance m
-      by (live k) built o is = of-live o (subst (λ (p : Option View). IsLiveView p) is (each_among (λ n. IsLiveView (view_under n older)) (names_read stages source) name built.4 among))
+      by (live k) built o is = of-live o (subst (λ (p : Option View). IsLiveView p) is (each_among (λ n. IsLiveView (view_under n older)) (names_read stages source) name built.2 among))
       by stale built o is = absurd built
 
 pub fresh_built : (stages : List Stage) (source : List ℕ) (older : Views) (lists : Lists) (mark : ViewMark) → IsBuilt stages source older lists mark → IsJustMade mark
-fresh_built stages source older lists (live k) built = record { live = refl; ticks = built.3 }
+fresh_built stages source older lists (live k) built = record { live = refl; ticks = built.1 }
 fresh_built stages source older lists stale built = absurd built
-
-pub well_built : (stages : List Stage) (source : List ℕ) (older : Views) (lists : Lists) (mark : ViewMark) → IsBuilt stages source older lists mark → IsWellKept stages mark
-well_built stages source older lists (live k) built = (built.1, built.2)
-well_built stages source older lists stale built = absurd built
 
 -- ---- a view behind the others
 

@@ -11,11 +11,12 @@ pub mod Filling
 pub mod Building
 pub mod Joining
 pub mod Refreshing
-pub mod WellKept
+pub mod Silent
 pub mod Marked
 pub mod Needed
 pub mod Unread
 pub mod Limit
+pub mod Coming
 pub mod OneBehind
 pub mod Behind
 mod Losing
@@ -27,3 +28,5 @@ pub mod Ranges
 pub mod ReadBy
 pub mod Listed
 pub mod Walked
+pub mod Copied
+pub mod Kept

@@ -13,7 +13,7 @@ use Rattle.dv_order.specs.Inner.KeyLaws.{key_order_total}
 use Rattle.dv_coll.specs.Collection.{IsAscending, id_key, has_key, found, inserted, removed, replaced}
 use Rattle.dv_change.specs.declared.change.Change.TheVariants.{Put, Gone}
 use Rattle.dv_change.specs.declared.position.Part.TheVariants.{Up}
-use Rattle.dv_change.specs.Changes.{Positioned}
+use Rattle.dv_change.specs.Changes.{Positioned, at}
 use Rattle.dv_change.specs.Positions.{pos_order}
 use Rattle.dv_pipe.specs.Sources.{Row}
 use Rattle.dv_views.specs.Changed.{documents_changed}
@@ -60,6 +60,11 @@ wanted d ds = if is_some (found (id_key d) ds) then replaced d ds else inserted 
 pub forgotten : (ds : List Row) → values_of (positioned ds) ≡ ds
 forgotten [] = refl
 forgotten (d ∷ ds) = ap (λ es. d ∷ es) (forgotten ds)
+
+-- what stands at the position of a key is what is found under it
+pub found_at : (k : KeyTree) (ds : List Row) → at (Up k ∷ []) (positioned ds) ≡ found k ds
+found_at k [] = refl
+found_at k (d ∷ ds) = λ i. cond (is_eq (one_part (key_order k (id_key d)) i)) (Some d) (found_at k ds i)
 
 -- ---- a put
 

@@ -6,26 +6,23 @@ use Rattle.std.specs.Map.{values_of}
 use Rattle.std.specs.Str.{bytes_eq}
 use Rattle.std.specs.String.{string_bytes}
 use Rattle.indexmap.specs.IndexMap.{set_value_at}
-use Rattle.dv_change.specs.declared.change.Change.{Change}
-use Rattle.dv_change.specs.declared.live_rows.LiveRows.{LiveRows}
+use Rattle.dv_change.specs.declared.taking.Taken as taking
+use Rattle.dv_change.specs.declared.told_rows.ToldRows.{ToldRows}
 use Rattle.dv_views.specs.declared.stage_operator.StageOperator.{StageOperator}
 use Rattle.dv_views.specs.Inner.Body.{Body}
-use Rattle.dv_views.specs.Flow.{Told, arrivals, is_reached, outs_made, told_at, flow_with_told}
 use Rattle.dv_views.specs.Forms.{names_read}
 use Rattle.dv_views.specs.Inner.Ground.{IsLive, IsLiveView}
-use Rattle.dv_views.specs.Inner.Keeping.{Turns, kept_seen}
+use Rattle.dv_views.specs.Inner.Keeping.{kept_seen}
 use Rattle.dv_views.specs.Inner.Older.{Entries, told_before, told_else, told_found, told_named, told_over, views, views_before}
 use Rattle.dv_views.specs.Inner.Passing.{IsTakenAt}
-use Rattle.dv_views.specs.Inner.Seen.{AreSilent, IsWellKept, view_seen, entry_view, telling}
-use Rattle.dv_views.specs.Inner.Turned.{AreTakenBy, HaveTaken, IsTakenBy}
+use Rattle.dv_views.specs.Inner.Seen.{AreSilent, view_seen, entry_view, telling}
+use Rattle.dv_views.specs.Inner.Turned.{AreTakenBy, HaveTaken, IsTakenBy, Known, Turns, comes_to, coming_to, coming_under, known_at, with_known}
+use Rattle.dv_views.specs.Placed.{lookups_of}
 use Rattle.dv_views.specs.Views.{ViewMark, View, live, stale}
 use Rattle.dv_views.specs.Inner.Views.{AreNamedApart, Views, distance, distances_of, no_distance, view_under, with_distance}
-use Rattle.dv_pipe.specs.declared.stage.Stage.{Stage}
 use Rattle.dv_views.proofs.Before.{found_is_before}
 use Rattle.dv_views.proofs.Joining.{each_among}
-use Rattle.dv_views.proofs.Rolling.{rows_are_made}
 use Rattle.dv_views.proofs.Shown.{distance_at, distance_named}
-use Rattle.dv_views.proofs.WellKept.{AreWellKept}
 
 -- ---- what is no view, or a live one
 
@@ -69,14 +66,14 @@ module _ {Y : Type 0} where
   -- ---- one after the other
 
   -- the first n views have taken in what was told, and the others are as they were and tell nothing
-  abbrev pub HaveFirst : ℕ → Told → (List ℕ → ℕ) → Views → Entries Y → Type 0
+  abbrev pub HaveFirst : ℕ → Known → (List ℕ → ℕ) → Views → Entries Y → Type 0
   HaveFirst zero come distances before es = (views es ≡ before) × AreSilent es
   HaveFirst (suc n) come distances [] es = es ≡ []
   HaveFirst (suc n) come distances (v ∷ before) [] = ⊥
-  HaveFirst (suc n) come distances (v ∷ before) (e ∷ es) = IsTakenBy come distances v (telling e) × HaveFirst n (flow_with_told v.name e.1.told come) (with_distance (entry_view e) distances) before es
+  HaveFirst (suc n) come distances (v ∷ before) (e ∷ es) = IsTakenBy come distances v (telling e) × HaveFirst n (with_known v.name e.1.told come) (with_distance (entry_view e) distances) before es
 
   module _ (old new : Body) where
-    next : (n : ℕ) (come : Told) (distances : List ℕ → ℕ) (before : Views) (es : Entries Y) → HaveFirst n come distances before es → slice_get (values_of es) n ≡ Some old
+    next : (n : ℕ) (come : Known) (distances : List ℕ → ℕ) (before : Views) (es : Entries Y) → HaveFirst n come distances before es → slice_get (values_of es) n ≡ Some old
         → ((name : List ℕ) → IsTakenBy (told_over come (take n es)) (fold (λ below v. with_distance v below) distances (views (take n es))) (view_seen name old) (record { view = view_seen name new; told = new.told }))
         → HaveFirst (suc n) come distances before (set_value_at es n new)
     next zero come distances before [] first there taken = absurd cc
@@ -96,33 +93,33 @@ module _ {Y : Type 0} where
     next (suc n) come distances (v ∷ before) (e ∷ es) first there taken =
         let called : string_bytes e.0 ≡ v.name = ap (λ f. f.name) first.0.form in (
           first.0,
-          next n (flow_with_told v.name e.1.told come) (with_distance (entry_view e) distances) before es first.1 there
+          next n (with_known v.name e.1.told come) (with_distance (entry_view e) distances) before es first.1 there
               (subst
-              (λ (name : List ℕ). (m : List ℕ) → IsTakenBy (told_over (flow_with_told name e.1.told come) (take n es)) (fold (λ below v. with_distance v below) (with_distance (entry_view e) distances) (views (take n es))) (view_seen m old) (record { view = view_seen m new; told = new.told }))
+              (λ (name : List ℕ). (m : List ℕ) → IsTakenBy (told_over (with_known name e.1.told come) (take n es)) (fold (λ below v. with_distance v below) (with_distance (entry_view e) distances) (views (take n es))) (view_seen m old) (record { view = view_seen m new; told = new.told }))
               called taken),
         )
 
-  pub taken_next : (namespace : List ℕ) (changes : List Change) (n : ℕ) (before : Views) (es left : Entries Y) → HaveFirst n (told_at namespace changes) no_distance before es → IsTakenAt namespace changes n es left
-      → HaveFirst (n + 1) (told_at namespace changes) no_distance before left
-  taken_next namespace changes n before es left first at =
+  pub taken_next : (namespace : List ℕ) (all : List taking.Taken) (n : ℕ) (before : Views) (es left : Entries Y) → HaveFirst n (known_at namespace all) no_distance before es → IsTakenAt namespace all n es left
+      → HaveFirst (n + 1) (known_at namespace all) no_distance before left
+  taken_next namespace all n before es left first at =
       let more : suc n ≡ n + 1 = omega arith in
-      subst (λ (fs : Entries Y). HaveFirst (n + 1) (told_at namespace changes) no_distance before fs) (sym at.left)
-      (subst (λ (m : ℕ). HaveFirst m (told_at namespace changes) no_distance before (set_value_at es n at.new)) more (next at.old at.new n (told_at namespace changes) no_distance before es first at.there at.taken))
+      subst (λ (fs : Entries Y). HaveFirst (n + 1) (known_at namespace all) no_distance before fs) (sym at.left)
+      (subst (λ (m : ℕ). HaveFirst m (known_at namespace all) no_distance before (set_value_at es n at.new)) more (next at.old at.new n (known_at namespace all) no_distance before es first at.there at.taken))
 
-  all-taken : (come : Told) (distances : List ℕ → ℕ) (before : Views) (es : Entries Y) → HaveFirst (length before) come distances before es → AreTakenBy come distances before (map telling es)
+  all-taken : (come : Known) (distances : List ℕ → ℕ) (before : Views) (es : Entries Y) → HaveFirst (length before) come distances before es → AreTakenBy come distances before (map telling es)
   all-taken come distances [] es first = subst (λ (fs : Entries Y). AreTakenBy come distances [] (map telling fs)) (sym (none es first.0)) tt
     where
       none : (es : Entries Y) → views es ≡ [] → es ≡ []
       none [] is = refl
       none (e ∷ es) is = absurd cc
   all-taken come distances (v ∷ before) [] first = absurd first
-  all-taken come distances (v ∷ before) (e ∷ es) first = (first.0, all-taken (flow_with_told v.name e.1.told come) (with_distance (entry_view e) distances) before es first.1)
+  all-taken come distances (v ∷ before) (e ∷ es) first = (first.0, all-taken (with_known v.name e.1.told come) (with_distance (entry_view e) distances) before es first.1)
 
   told-views : (es : Entries Y) → map (λ t. t.view) (map telling es) ≡ views es
   told-views [] = refl
   told-views (e ∷ es) = ap (λ (vs : Views). entry_view e ∷ vs) (told-views es)
 
-  pub all_taken : (come : Told) (n end : ℕ) (before : Views) (es : Entries Y) → length before ≡ end → n ≤ end → end ≤ n → HaveFirst n come no_distance before es → HaveTaken come before (views es)
+  pub all_taken : (come : Known) (n end : ℕ) (before : Views) (es : Entries Y) → length before ≡ end → n ≤ end → end ≤ n → HaveFirst n come no_distance before es → HaveTaken come before (views es)
   all_taken come n end before es all within stop first =
       let is : n ≡ length before = omega arith in
       record { tellings = map telling es; views = told-views es; taken = all-taken come no_distance before es (subst (λ (m : ℕ). HaveFirst m come no_distance before es) is first) }
@@ -155,11 +152,6 @@ module _ {Y : Type 0} where
   views_silent zero (e ∷ es) old new there same = let was : e.1 ≡ old = cc in ap (λ (v : View). v ∷ views es) (same (string_bytes e.0) ∙ ap (view_seen (string_bytes e.0)) (sym was))
   views_silent (suc n) (e ∷ es) old new there same = ap (λ (vs : Views). entry_view e ∷ vs) (views_silent n es old new there same)
 
-  pub kept_there : (n : ℕ) (es : Entries Y) (old : Body) → AreWellKept es → slice_get (values_of es) n ≡ Some old → IsWellKept old.stages old.mark
-  kept_there n [] old kept there = absurd cc
-  kept_there zero (e ∷ es) old kept there = let was : e.1 ≡ old = cc in subst (λ (b : Body). IsWellKept b.stages b.mark) was kept.0
-  kept_there (suc n) (e ∷ es) old kept there = kept_there n es old kept.1 there
-
   apart-take : (n : ℕ) (es : Entries Y) → AreNamedApart (views es) → AreNamedApart (views_before n es)
   unfolding IsDistinct
   apart-take zero es apart = tt
@@ -181,11 +173,11 @@ module _ {Y : Type 0} where
 
   -- ---- what is made of the view at a place
 
-  module _ (namespace : List ℕ) (changes : List Change) (n : ℕ) (es left : Entries Y) (old new : Body) (there : slice_get (values_of es) n ≡ Some old) (written : left ≡ set_value_at es n new) where
-    abbrev come : Told
-    come = told_before namespace changes n es
+  module _ (namespace : List ℕ) (all : List taking.Taken) (n : ℕ) (es left : Entries Y) (old new : Body) (there : slice_get (values_of es) n ≡ Some old) (written : left ≡ set_value_at es n new) where
+    abbrev come : Known
+    come = told_before namespace all n es
 
-    pub left_alone : is_reached old.stages old.source come ≡ false → new ≡ record old { told = None } → IsTakenAt namespace changes n es left
+    pub left_alone : comes_to old.stages old.source come ≡ false → new ≡ record old { told = None } → IsTakenAt namespace all n es left
     left_alone away is = record {
       old = old;
       new = new;
@@ -198,11 +190,10 @@ module _ {Y : Type 0} where
         turned = λ reached. absurd (cc (sym away ∙ reached));
         live = λ reached. absurd (cc (sym away ∙ reached));
       });
-      well = λ well. subst (λ (b : Body). IsWellKept b.stages b.mark) (sym is) well;
       height = ap (λ (b : Body). b.height) is;
     }
 
-    pub made_stale : is_reached old.stages old.source come ≡ true → new ≡ record old { mark = stale; told = Some [] } → IsTakenAt namespace changes n es left
+    pub made_stale : comes_to old.stages old.source come ≡ true → new ≡ record old { mark = stale; told = Some [] } → IsTakenAt namespace all n es left
     made_stale reached is = record {
       old = old;
       new = new;
@@ -215,13 +206,12 @@ module _ {Y : Type 0} where
         turned = λ _. inl refl;
         live = λ _ fresh. absurd cc;
       });
-      well = λ _. subst (λ (b : Body). IsWellKept b.stages b.mark) (sym is) tt;
       height = ap (λ (b : Body). b.height) is;
     }
 
-    module _ (before after : LiveRows StageOperator) (told : List Change) (apart : AreNamedApart (views es)) (turns : Turns old.stages (arrivals old.stages old.source come) before [] after told)
+    module _ (before after : ToldRows StageOperator) (told : List taking.Taken) (apart : AreNamedApart (views es)) (turns : Turns (coming_to old.stages old.source come) (kept_seen before) [] (kept_seen after) told)
         (lives : AllByRecursion (λ name. IsLiveView (view_under name (views_before n es))) (names_read old.stages old.source)) where
-      pub turned_on : is_reached old.stages old.source come ≡ true → old.mark ≡ live (kept_seen before) → new ≡ record old { mark = live (kept_seen after); told = Some told } → IsTakenAt namespace changes n es left
+      pub turned_on : comes_to old.stages old.source come ≡ true → old.mark ≡ live (kept_seen before) → new ≡ record old { mark = live (kept_seen after); told = Some told } → IsTakenAt namespace all n es left
       turned_on reached was is = record {
         old = old;
         new = new;
@@ -231,19 +221,10 @@ module _ {Y : Type 0} where
           form = refl;
           tells = sym reached;
           unread = λ away. absurd (cc (sym away ∙ reached));
-          turned = λ _. inr (
-            kept_seen before,
-            was,
-            record {
-              kept = ap live turns.kept;
-              tells = ap Some turns.told;
-              leads = turns.leads ∙ ap (λ k. outs_made old.stages k.taken) turns.kept;
-            },
-          );
+          turned = λ _. inr (record { old = kept_seen before; new = kept_seen after; all = told; was = was; is = refl; tells = refl; turns = turns });
           live = λ _ _ other among.
               distance_at other (views_before n es) (apart-take n es apart) ∙ nearest (view_under other (views_before n es)) (each_among (λ m. IsLiveView (view_under m (views_before n es))) (names_read old.stages old.source) other lives among);
         });
-        well = λ _. subst (λ (b : Body). IsWellKept b.stages b.mark) (sym is) (rows_are_made old.stages after turns.sound, turns.sound.kept.positioned);
         height = ap (λ (b : Body). b.height) is;
       }
 
@@ -251,50 +232,51 @@ module _ {Y : Type 0} where
   pub read_written : (n : ℕ) (es : Entries Y) (a old now : Body) → slice_get (values_of es) n ≡ Some old → slice_get (values_of (set_value_at es n a)) n ≡ Some now → now ≡ a
   read_written n es a old now there is = let both : Some now ≡ Some a = sym is ∙ there_written n es a old there in cc
 
-  module _ (namespace : List ℕ) (changes : List Change) (n : ℕ) (es : Entries Y) (apart : AreNamedApart (views es)) where
-    found-is : told_found namespace changes n es ≡ told_before namespace changes n es
-    found-is = found_is_before namespace changes n es (apart-take n es apart)
+  module _ (namespace : List ℕ) (all : List taking.Taken) (n : ℕ) (es : Entries Y) (apart : AreNamedApart (views es)) where
+    found-is : told_found namespace all n es ≡ told_before namespace all n es
+    found-is = found_is_before namespace all n es (apart-take n es apart)
 
-    found-written : (a : Body) → told_found namespace changes n (set_value_at es n a) ≡ told_before namespace changes n es
-    found-written a = (λ i name. told_else (told_named name (take_written n es a i)) (told_at namespace changes name)) ∙ found-is
+    found-written : (a : Body) → told_found namespace all n (set_value_at es n a) ≡ told_before namespace all n es
+    found-written a = (λ i name. told_else (told_named name (take_written n es a i)) (known_at namespace all name)) ∙ found-is
 
     module _ (old : Body) (there : slice_get (values_of es) n ≡ Some old) where
-      pub alone_at : (new : Body) → false ≡ is_reached old.stages old.source (told_found namespace changes n es) → new ≡ record old { told = None } → IsTakenAt namespace changes n es (set_value_at es n new)
-      alone_at new away is = left_alone namespace changes n es (set_value_at es n new) old new there refl (sym (away ∙ ap (is_reached old.stages old.source) found-is)) is
+      pub alone_at : (new : Body) → false ≡ comes_to old.stages old.source (told_found namespace all n es) → new ≡ record old { told = None } → IsTakenAt namespace all n es (set_value_at es n new)
+      alone_at new away is = left_alone namespace all n es (set_value_at es n new) old new there refl (sym (away ∙ ap (comes_to old.stages old.source) found-is)) is
 
-      pub stale_at : (new : Body) → true ≡ is_reached old.stages old.source (told_found namespace changes n es) → new ≡ record old { mark = stale; told = Some [] } → IsTakenAt namespace changes n es (set_value_at es n new)
-      stale_at new reached is = made_stale namespace changes n es (set_value_at es n new) old new there refl (sym (reached ∙ ap (is_reached old.stages old.source) found-is)) is
+      pub stale_at : (new : Body) → true ≡ comes_to old.stages old.source (told_found namespace all n es) → new ≡ record old { mark = stale; told = Some [] } → IsTakenAt namespace all n es (set_value_at es n new)
+      stale_at new reached is = made_stale namespace all n es (set_value_at es n new) old new there refl (sym (reached ∙ ap (comes_to old.stages old.source) found-is)) is
 
-      pub turned_at : (a b : Body) (before after : LiveRows StageOperator) (told : List Change) (stages : List Stage) (source : List ℕ) → true ≡ is_reached old.stages old.source (told_found namespace changes n es) → a ≡ record old { mark = stale; told = Some [] }
-          → stages ≡ a.stages → source ≡ a.source → old.mark ≡ live (kept_seen before) → Turns stages (arrivals stages source (told_found namespace changes n (set_value_at es n a))) before [] after told
-          → AllByRecursion (λ name. IsLiveView (view_under name (views_before n (set_value_at es n a)))) (names_read stages source) → b ≡ record a { mark = live (kept_seen after); told = Some told }
-          → IsTakenAt namespace changes n es (set_value_at (set_value_at es n a) n b)
-      turned_at a b before after told stages source reached was same_stages same_source kept turns lives is =
-          let stages_is : stages ≡ old.stages = same_stages ∙ ap (λ (x : Body). x.stages) was in
+      pub turned_at : (a b : Body) (before after : ToldRows StageOperator) (told : List taking.Taken) (source : List ℕ) (lookups : List (List ℕ)) → true ≡ comes_to old.stages old.source (told_found namespace all n es) → a ≡ record old { mark = stale; told = Some [] }
+          → source ≡ a.source → lookups ≡ lookups_of a.stages a.source → old.mark ≡ live (kept_seen before) → Turns (coming_under source lookups (told_found namespace all n (set_value_at es n a))) (kept_seen before) [] (kept_seen after) told
+          → AllByRecursion (λ name. IsLiveView (view_under name (views_before n (set_value_at es n a)))) (source ∷ lookups) → b ≡ record a { mark = live (kept_seen after); told = Some told }
+          → IsTakenAt namespace all n es (set_value_at (set_value_at es n a) n b)
+      turned_at a b before after told source lookups reached was same_source same_lookups kept turns lives is =
           let source_is : source ≡ old.source = same_source ∙ ap (λ (x : Body). x.source) was in
-          let come = told_before namespace changes n es in
-          let turned =
-          subst (λ (s : List Stage). Turns s (arrivals s old.source come) before [] after told) stages_is
-          (subst (λ (s : List ℕ). Turns stages (arrivals stages s come) before [] after told) source_is
-          (subst (λ (c : Told). Turns stages (arrivals stages source c) before [] after told) (found-written a) turns)) in
-          let live_ones =
-          subst (λ (s : List Stage). AllByRecursion (λ name. IsLiveView (view_under name (views_before n es))) (names_read s old.source)) stages_is
-          (subst (λ (s : List ℕ). AllByRecursion (λ name. IsLiveView (view_under name (views_before n es))) (names_read stages s)) source_is
-          (subst (λ (fs : Entries Y). AllByRecursion (λ name. IsLiveView (view_under name (views fs))) (names_read stages source)) (take_written n es a) lives)) in
-          turned_on namespace changes n es (set_value_at (set_value_at es n a) n b) old b there (written_twice n es a b) before after told apart turned live_ones (sym (reached ∙ ap (is_reached old.stages old.source) found-is)) kept
+          let lookups_are : lookups ≡ lookups_of old.stages old.source = same_lookups ∙ ap (λ (x : Body). lookups_of x.stages x.source) was in
+          let come = told_before namespace all n es in
+          let turned : Turns (coming_to old.stages old.source come) (kept_seen before) [] (kept_seen after) told =
+          subst (λ (ls : List (List ℕ)). Turns (coming_under old.source ls come) (kept_seen before) [] (kept_seen after) told) lookups_are
+          (subst (λ (s : List ℕ). Turns (coming_under s lookups come) (kept_seen before) [] (kept_seen after) told) source_is
+          (subst (λ (c : Known). Turns (coming_under source lookups c) (kept_seen before) [] (kept_seen after) told) (found-written a) turns)) in
+          let live_ones : AllByRecursion (λ name. IsLiveView (view_under name (views_before n es))) (names_read old.stages old.source) =
+          subst (λ (ls : List (List ℕ)). AllByRecursion (λ name. IsLiveView (view_under name (views_before n es))) (old.source ∷ ls)) lookups_are
+          (subst (λ (s : List ℕ). AllByRecursion (λ name. IsLiveView (view_under name (views_before n es))) (s ∷ lookups)) source_is
+          (subst (λ (fs : Entries Y). AllByRecursion (λ name. IsLiveView (view_under name (views fs))) (source ∷ lookups)) (take_written n es a) lives)) in
+          turned_on namespace all n es (set_value_at (set_value_at es n a) n b) old b there (written_twice n es a b) before after told apart turned live_ones (sym (reached ∙ ap (comes_to old.stages old.source) found-is)) kept
           (is ∙ ap (λ (x : Body). record x { mark = live (kept_seen after); told = Some told }) was)
 
-      left_at : (a b : Body) → true ≡ is_reached old.stages old.source (told_found namespace changes n es) → a ≡ record old { mark = stale; told = Some [] } → b ≡ a → IsTakenAt namespace changes n es (set_value_at (set_value_at es n a) n b)
+      left_at : (a b : Body) → true ≡ comes_to old.stages old.source (told_found namespace all n es) → a ≡ record old { mark = stale; told = Some [] } → b ≡ a → IsTakenAt namespace all n es (set_value_at (set_value_at es n a) n b)
       left_at a b reached was same =
-          made_stale namespace changes n es (set_value_at (set_value_at es n a) n b) old b there (written_twice n es a b) (sym (reached ∙ ap (is_reached old.stages old.source) found-is)) (same ∙ was)
+          made_stale namespace all n es (set_value_at (set_value_at es n a) n b) old b there (written_twice n es a b) (sym (reached ∙ ap (comes_to old.stages old.source) found-is)) (same ∙ was)
 
       -- it is put back where all went well, and else stays stale
-      pub settled_at : {P E : Type 0} (r : Result P E) (rows : P → LiveRows StageOperator) (told : P → List Change) (a b : Body) (before : LiveRows StageOperator) (stages : List Stage) (source : List ℕ) → true ≡ is_reached old.stages old.source (told_found namespace changes n es) → a ≡ record old { mark = stale; told = Some [] }
-          → stages ≡ a.stages → source ≡ a.source → old.mark ≡ live (kept_seen before) → IfOk r (λ p. Turns stages (arrivals stages source (told_found namespace changes n (set_value_at es n a))) before [] (rows p) (told p))
-          → IfOk r (λ _. AllByRecursion (λ name. IsLiveView (view_under name (views_before n (set_value_at es n a)))) (names_read stages source)) → IfOk r (λ p. b ≡ record a { mark = live (kept_seen (rows p)); told = Some (told p) }) → IfErr r (λ _. b ≡ a)
-          → IsTakenAt namespace changes n es (set_value_at (set_value_at es n a) n b)
-      settled_at (Ok p) rows told a b before stages source reached was same_stages same_source kept turns lives is same = turned_at a b before (rows p) (told p) stages source reached was same_stages same_source kept turns lives is
-      settled_at (Err e) rows told a b before stages source reached was same_stages same_source kept turns lives is same = left_at a b reached was same
+      pub settled_at : {P E : Type 0} (r : Result P E) (rows : P → ToldRows StageOperator) (told : P → List taking.Taken) (a b : Body) (before : ToldRows StageOperator) (source : List ℕ) (lookups : List (List ℕ)) → true ≡ comes_to old.stages old.source (told_found namespace all n es)
+          → a ≡ record old { mark = stale; told = Some [] } → source ≡ a.source → lookups ≡ lookups_of a.stages a.source → old.mark ≡ live (kept_seen before)
+          → IfOk r (λ p. Turns (coming_under source lookups (told_found namespace all n (set_value_at es n a))) (kept_seen before) [] (kept_seen (rows p)) (told p))
+          → IfOk r (λ _. AllByRecursion (λ name. IsLiveView (view_under name (views_before n (set_value_at es n a)))) (source ∷ lookups)) → IfOk r (λ p. b ≡ record a { mark = live (kept_seen (rows p)); told = Some (told p) }) → IfErr r (λ _. b ≡ a)
+          → IsTakenAt namespace all n es (set_value_at (set_value_at es n a) n b)
+      settled_at (Ok p) rows told a b before source lookups reached was same_source same_lookups kept turns lives is same = turned_at a b before (rows p) (told p) source lookups reached was same_source same_lookups kept turns lives is
+      settled_at (Err e) rows told a b before source lookups reached was same_source same_lookups kept turns lives is same = left_at a b reached was same
 
 pub length_views : {Y : Type 0} (es : Entries Y) → length (views es) ≡ length es
 length_views [] = refl

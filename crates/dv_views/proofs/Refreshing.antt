@@ -19,19 +19,14 @@ use Rattle.dv_views.specs.Forms.{AreFounded, IsClosed, ViewForm, fault_of_new, h
 use Rattle.dv_views.specs.Inner.Ground.{IsBuilt}
 use Rattle.dv_views.specs.Inner.Made.{AreAlike, IsAdded, IsNoStale, IsRefreshedAt}
 use Rattle.dv_views.specs.Placed.{ListPlaces, list_places}
-use Rattle.dv_views.specs.Inner.Seen.{IsSoundRegistry, IsWellKept, view_seen, entry_view}
+use Rattle.dv_views.specs.Inner.Seen.{IsSoundRegistry, view_seen, entry_view}
 use Rattle.dv_views.specs.Views.{ViewMark, View}
 use Rattle.dv_views.specs.Inner.Views.{AreInOrder, AreNamedApart, AreOverLive, ArePartlyRefreshed, AreRight, AreRightOver, IsJustMade, IsMadeAnew, IsPartlyRefreshed, IsRefusedFor, Views, view_form, has_view, is_stale, no_distance, view_under, with_distance}
 use Rattle.dv_views.proofs.Agree.{FromScratch}
-use Rattle.dv_views.proofs.Joining.{Replaces, each_among, fresh_built, over_append, over_built, over_set, right_built, right_set, set_view, well_built}
+use Rattle.dv_views.proofs.Joining.{Replaces, each_among, fresh_built, over_append, over_built, over_set, right_built, right_set, set_view}
 use Rattle.dv_views.proofs.Right.{UnreadDoesNotMatter, neither, read_among, right_append}
 
 -- ---- the first of views
-
-pub all_take : (P : View → Type 0) (n : ℕ) (vs : Views) → AllByRecursion P vs → AllByRecursion P (take n vs)
-all_take P zero vs all = tt
-all_take P (suc n) [] all = tt
-all_take P (suc n) (v ∷ vs) all = (all.0, all_take P n vs all.1)
 
 right_take : (n : ℕ) (places : ListPlaces) (lists : Lists) (vs : Views) → AreRightOver places lists vs → AreRightOver places lists (take n vs)
 right_take zero places lists vs right = tt
@@ -100,11 +95,6 @@ module _ (w : View) where
   forms_set zero (v ∷ vs) in_place = ap (λ (f : ViewForm). f ∷ map view_form vs) in_place.0
   forms_set (suc n) (v ∷ vs) in_place = ap (λ (fs : List ViewForm). view_form v ∷ fs) (forms_set n vs in_place)
 
-  pub kept_set : (n : ℕ) (vs : Views) → Replaces w n vs → AllByRecursion (λ v. IsWellKept v.stages v.mark) vs → IsWellKept w.stages w.mark → AllByRecursion (λ v. IsWellKept v.stages v.mark) (set_view n w vs)
-  kept_set n [] in_place kept own = absurd in_place
-  kept_set zero (v ∷ vs) in_place kept own = (own, kept.1)
-  kept_set (suc n) (v ∷ vs) in_place kept own = (kept.0, kept_set n vs in_place kept.1 own)
-
 pub names_of_forms : (vs : Views) → map (λ (v : View). v.name) vs ≡ map (λ (f : ViewForm). f.name) (map view_form vs)
 names_of_forms [] = refl
 names_of_forms (v ∷ vs) = ap (λ (ns : List (List ℕ)). v.name ∷ ns) (names_of_forms vs)
@@ -144,7 +134,6 @@ module _ (names : List (List ℕ)) (mark : ViewMark) (v : View) (stale : is_stal
       let in_place = replaces mark v stale n vs there in
       record {
         apart = apart_by_forms vs now (forms_set (keeping v mark) n vs in_place) sound.apart;
-        kept = kept_set (keeping v mark) n vs in_place sound.kept (well_built v.stages v.source (take n vs) lists mark built);
         live = over_set (keeping v mark) n no_distance vs in_place sound.live (λ name read.
             over_built (take n vs) (apart_take n vs sound.apart) lists v.stages v.source mark built name
             (sym (read_among v.stages v.source name) ∙ read));
@@ -155,7 +144,7 @@ module _ (names : List (List ℕ)) (mark : ViewMark) (v : View) (stale : is_stal
   right_refreshed scratch unread others alike right =
       right_set (keeping v mark) n (list_places others) others vs (replaces mark v stale n vs there) right
       (right_built scratch unread others lists (take n vs) (apart_take n vs sound.apart) (right_take n (list_places others) others vs right) v.stages v.source (alike_reads names lists others (names_read v.stages v.source) alike some)
-      (over_take n no_distance vs sound.live) (all_take (λ u. IsWellKept u.stages u.mark) n vs sound.kept) mark built)
+      (over_take n no_distance vs sound.live) mark built)
 
 -- ---- a view behind the others
 
@@ -173,22 +162,17 @@ forms-last : (vs : Views) (w : View) → map view_form (vs ++ w ∷ []) ≡ map 
 forms-last [] w = refl
 forms-last (v ∷ vs) w = ap (λ (fs : List ViewForm). view_form v ∷ fs) (forms-last vs w)
 
-kept-last : (vs : Views) (w : View) → AllByRecursion (λ v. IsWellKept v.stages v.mark) vs → IsWellKept w.stages w.mark → AllByRecursion (λ v. IsWellKept v.stages v.mark) (vs ++ w ∷ [])
-kept-last [] w kept own = (own, tt)
-kept-last (v ∷ vs) w kept own = (kept.0, kept-last vs w kept.1 own)
-
 module _ (vs : Views) (w : View) (sound : IsSoundRegistry vs) (lists : Lists) (built : IsBuilt w.stages w.source vs lists w.mark) where
   pub sound_last : AreNamedApart (vs ++ w ∷ []) → is_read_by (map view_form vs) w.name ≡ false → is_read w.stages w.source w.name ≡ false → IsSoundRegistry (vs ++ w ∷ [])
   sound_last apart unread own = record {
     apart = apart;
-    kept = kept-last vs w sound.kept (well_built w.stages w.source vs lists w.mark built);
     live = over_append no_distance vs w sound.live (λ name read. over_built vs sound.apart lists w.stages w.source w.mark built name (sym (read_among w.stages w.source name) ∙ read));
     founded = subst AreFounded (sym (forms-last vs w)) (founded-last (map view_form vs) (view_form w) sound.founded unread own);
   }
 
   pub right_last : FromScratch → UnreadDoesNotMatter → (others : Lists) → AreAlike (names_read w.stages w.source) lists others → AreRight others vs → AreRight others (vs ++ w ∷ [])
   right_last scratch unread others alike right =
-      right_append (list_places others) others vs w right (right_built scratch unread others lists vs sound.apart right w.stages w.source alike sound.live sound.kept w.mark built)
+      right_append (list_places others) others vs w right (right_built scratch unread others lists vs sound.apart right w.stages w.source alike sound.live w.mark built)
 
 -- ---- views made anew one after the other
 

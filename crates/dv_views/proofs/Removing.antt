@@ -17,7 +17,7 @@ use Rattle.dv_views.specs.Inner.Views.{AreNamedApart, AreOverLive, Views, distan
 use Rattle.dv_views.proofs.Entries.{AreOthers, others, taken_out}
 use Rattle.dv_views.proofs.Heights.{forms_of}
 use Rattle.dv_views.proofs.Right.{either-way, neither, read_among}
-use Rattle.dv_views.proofs.WellKept.{AreWellKept, kept_removed, silent_removed}
+use Rattle.dv_views.proofs.Silent.{silent_removed}
 
 -- ---- the others are no farther from being live than before
 
@@ -128,7 +128,6 @@ sound_without gone es left listing less is apart away sound readers =
     record {
       views = record {
         apart = apart;
-        kept = subst AreWellKept (sym is) (kept_removed (is_called gone) es sound.views.kept);
         live = subst (λ (vs : Views). AreOverLive no_distance vs) same (live_without gone (views es) no_distance away sound.views.live);
         founded = subst (λ (vs : Views). AreFounded (map view_form vs)) same (founded_without gone (views es) sound.views.founded);
       };

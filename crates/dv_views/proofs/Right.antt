@@ -10,6 +10,7 @@ use Rattle.dv_pipe.specs.Sources.{Row}
 use Rattle.dv_pipe.specs.Stages.{Lists, evaluated, is_source_named, is_read, looked_into}
 use Rattle.dv_pipe.specs.declared.stage.Stage.{Stage}
 use Rattle.dv_views.specs.Forms.{ViewForm, is_name_among, names_read, outs_of, places_over, rows_over, with_places, with_rows}
+use Rattle.dv_views.specs.Inner.Holding.{HasMade}
 use Rattle.dv_views.specs.Placed.{ListPlaces, forms, lookups_of, list_places, positioned, names_with}
 use Rattle.dv_views.specs.Views.{ViewMark, Taken, live, stale, View, taken_from}
 use Rattle.dv_views.specs.Inner.Views.{AreKept, AreRight, AreRightOver, IsRight, Views, view_form, reads, reads_name, views_without}
@@ -79,11 +80,11 @@ module _ (source : List ℕ) (places others : ListPlaces) where
 -- a view's rightness depends on its form and its mark alone
 pub same_form : (places : ListPlaces) (lists : Lists) (v w : View) → view_form v ≡ view_form w → v.mark ≡ w.mark → IsRight places lists v → IsRight places lists w
 same_form places lists v w form mark right =
-    subst (λ (p : ViewForm × ViewMark). AreKept p.1 (taken_from p.0.stages p.0.source places) (evaluated p.0.stages p.0.source lists)) (λ i. (form i, mark i)) right
+    subst (λ (p : ViewForm × ViewMark). AreKept p.0.stages p.1 (taken_from p.0.stages p.0.source places) (evaluated p.0.stages p.0.source lists)) (λ i. (form i, mark i)) right
 
-pub kept_same : (m : ViewMark) (t u : Taken) (rows others : List Row) → t ≡ u → rows ≡ others → AreKept m t rows → AreKept m u others
-kept_same (live kept) t u rows others taken same h = (h.0 ∙ taken, h.1 ∙ same)
-kept_same stale t u rows others taken same h = tt
+pub kept_same : (stages : List Stage) (m : ViewMark) (t u : Taken) (rows others : List Row) → t ≡ u → rows ≡ others → AreKept stages m t rows → AreKept stages m u others
+kept_same stages (live kept) t u rows others taken same h = (subst (λ (x : Taken). HasMade stages kept x) taken h.0, h.1 ∙ same)
+kept_same stages stale t u rows others taken same h = tt
 
 -- the same stands under a name in both
 abbrev pub IsSame : ListPlaces → ListPlaces → Lists → Lists → List ℕ → Type 0
@@ -92,7 +93,7 @@ IsSame places others lists rows name = (places name ≡ others name) × (lists n
 module _ (unread : UnreadDoesNotMatter) (places others : ListPlaces) (lists rows : Lists) where
   right-same : (v : View) → ((name : List ℕ) → reads v name ≡ true → IsSame places others lists rows name) → IsRight places lists v → IsRight others rows v
   right-same v same right =
-      kept_same v.mark (taken_from v.stages v.source places) (taken_from v.stages v.source others) (evaluated v.stages v.source lists) (evaluated v.stages v.source rows)
+      kept_same v.stages v.mark (taken_from v.stages v.source places) (taken_from v.stages v.source others) (evaluated v.stages v.source lists) (evaluated v.stages v.source rows)
       (same_taken v.source places others v.stages (λ name h. (same name h).0)) (unread v.stages v.source lists rows (λ name h. (same name h).1)) right
 
   -- behind the view the same stands under its name, and elsewhere where it did

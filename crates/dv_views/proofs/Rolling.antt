@@ -1,30 +1,35 @@
--- Rows that are kept by changes: operators that are the stages stay so, and keep what they are defined to keep.
-use Rattle.std.proofs.Common.{◌≡◌, map, ◌+◌, ◌-◌, ℕ, zero, suc, false, if◌then◌else◌, List, [], ◌∷◌, ◌++◌, length, take, drop, Option, Some, None, refl, ap, sym, subst, ◌∙◌, arith, append_assoc, append-nil}
-use Rattle.std.specs.Prelude.{IfOk, Result, Ok, Err, nat_lt}
+-- Rows that are kept by changes: operators that are the stages stay so, and make what these are defined to make.
+use Rattle.std.proofs.Common.{◌≡◌, ◌+◌, ◌-◌, ◌<◌, ℕ, zero, suc, false, if◌then◌else◌, List, [], ◌∷◌, ◌++◌, map, length, take, drop, Option, Some, None, refl, ap, sym, subst, ◌∙◌, arith, append_assoc, append-nil}
+use Rattle.std.specs.Prelude.{nat_lt}
 use Rattle.std.proofs.lemmas.Bool.{le-ltb}
-use Rattle.std.specs.List.{AllByRecursion}
+use Rattle.std.proofs.lemmas.List.{map_push}
 use Rattle.std.proofs.lemmas.List.Sums.{fold-append}
+use Rattle.std.specs.List.{AllByRecursion}
 use Rattle.std.specs.Option.{option_map}
 use Rattle.dv_change.specs.declared.change.Change.{Change}
 use Rattle.dv_change.specs.declared.input.Input.{Input}
 use Rattle.dv_change.specs.declared.input.Input.TheVariants.{Left, Named}
-use Rattle.dv_change.specs.declared.live_rows.LiveRows.{LiveRows}
-use Rattle.dv_change.specs.Changes.{Positioned, forget, with_changes}
+use Rattle.dv_change.specs.declared.taking.Taken as taking
+use Rattle.dv_change.specs.declared.told_rows.ToldRows.{ToldRows}
+use Rattle.dv_change.specs.Changes.{Positioned, with_changes}
 use Rattle.dv_change.specs.Inner.DiffLaws.{with_changes-both}
 use Rattle.dv_change.specs.Inner.Fed as fed
-use Rattle.dv_change.specs.Inner.LiveRows.{IsLive, lists_of}
+use Rattle.dv_change.specs.Inner.Told.{input_rows, told_along, with_old}
+use Rattle.dv_change.specs.Inner.ToldLaws.{told-both}
+use Rattle.dv_change.specs.Inner.ToldRows.{HaveMade, TakesTold}
 use Rattle.dv_change.specs.Inputs.{HasInput, input_changed_at, left_after, others_after}
 use Rattle.dv_change.specs.Raised.{raised}
 use Rattle.dv_change.specs.Work.{Form, pass_in, work_in}
-use Rattle.dv_change.specs.Inner.Work.{forms_after, forms_named}
+use Rattle.dv_change.specs.Inner.Work.{forms_after, forms_named, lists_of}
 use Rattle.dv_pipe.specs.declared.stage.Stage.{Stage}
 use Rattle.dv_pipe.specs.Stages.{beside, from_of}
 use Rattle.dv_views.specs.declared.stage_operator.StageOperator.{StageOperator}
-use Rattle.dv_views.specs.Flow.{Arrival, arriving, arriving_at_lists, handed_by, outs_made, taken_after}
-use Rattle.dv_views.specs.Inner.Keeping.{IsSoundLive, Turns, kept_seen, lists_of_all, taken_seen}
+use Rattle.dv_views.specs.Flow.{Arrival, handed_by, taken_after, work_by}
+use Rattle.dv_views.specs.Inner.Holding.{HasMade, lists_of_all}
+use Rattle.dv_views.specs.Inner.Keeping.{kept_seen}
 use Rattle.dv_views.specs.Inner.Operating.{AreFresh, HoldsStage, IsFreshStage, IsSoundStage, empty_lists, stage_makes}
-use Rattle.dv_views.specs.Inner.Turned.{kept_after, kept_behind, turned_rows}
-use Rattle.dv_views.specs.Views.{Kept}
+use Rattle.dv_views.specs.Inner.Turned.{Come, HasTurned, Known, Turns, come_along, coming, coming_to_lists, taken_by}
+use Rattle.dv_views.specs.Views.{Kept, Taken}
 use Rattle.dv_views.specs.Placed.{forms, listed_under, lookups_of, stage_at, names_with}
 
 -- ---- the lists of stages
@@ -90,155 +95,164 @@ lists-there (s ∷ ss) named e = by (from_of s) named e (lists-there ss)
         let more : suc (length ns) ≡ 1 + lists_of_all ss = e in
         ap (λ (all : List Positioned). n ∷ all) (rest ns (omega arith))
 
-abbrev pub IsLiveAs : LiveRows StageOperator → List Form → Type 0
-IsLiveAs live fs = IsLive stage_makes HoldsStage IsSoundStage live fs
-
--- rows that are kept are those that the stages make of what was taken in
-pub entries_are : (stages : List Stage) (live : LiveRows StageOperator) → IsSoundLive stages live → live.rows.entries ≡ outs_made stages (kept_seen live).taken
-entries_are stages live sound = sound.kept.rows
-
-pub rows_are_made : (stages : List Stage) (live : LiveRows StageOperator) → IsSoundLive stages live → (kept_seen live).rows ≡ turned_rows stages (kept_seen live).taken
-rows_are_made stages live sound = ap forget sound.kept.rows
-
--- each input stays
-pub input_stays : (stages : List Stage) (before after : LiveRows StageOperator) (input : Input) → IsSoundLive stages before → IsSoundLive stages after → HasInput input (kept_seen before).taken.named → HasInput input (kept_seen after).taken.named
-input_stays stages before after Left b a h = tt
-input_stays stages before after (Named i) b a h =
-    let few = b.count in
-    let many = a.count in
-    omega (arith, few, many)
-
--- the same lists, and with them the same forms
-pub sound_still : (stages : List Stage) (before after : LiveRows StageOperator) → IsSoundLive stages before → (taken_seen after).named ≡ (taken_seen before).named → ((fs : List Form) → IsLiveAs before fs → IsLiveAs after fs) → IsSoundLive stages after
-sound_still stages before after sound same keeps =
-    record { kept = subst (IsLiveAs after) (ap (forms stages) (sym same)) (keeps (forms stages (taken_seen before).named) sound.kept); count = ap length same ∙ sound.count }
-
-abbrev pub arrival : Input → Change → Arrival
-arrival input change = record { input = input; change = change }
-
 -- ---- a change of an input
 
-module _ (stages : List Stage) (before after : LiveRows StageOperator) (input : Input) (c : Change) (sound : IsSoundLive stages before) (left_now : after.left.entries ≡ left_after input c before.left.entries)
-    (lists_now : (taken_seen after).named ≡ others_after input c (taken_seen before).named)
-    (kept_now : (fs : List Form) → IsLiveAs before fs → IsLiveAs after (forms_after input c fs))
-    (ticks_now : (fs : List Form) → IsLiveAs before fs → after.ticks ≡ raised before.ticks (work_in input c fs before.left.entries))
-    (first now : List Change)
-    (told_now : (fs : List Form) → IsLiveAs before fs → now ≡ first ++ pass_in input c fs before.left.entries)
-    (leads_now : (fs : List Form) → IsLiveAs before fs → after.rows.entries ≡ with_changes before.rows.entries (pass_in input c fs before.left.entries)) where
-  abbrev fs-before : List Form
-  fs-before = forms stages (taken_seen before).named
+abbrev come_of : Input → taking.Taken → Come
+come_of input taken = record { input = input; taken = taken }
 
-  taken-after : taken_seen after ≡ taken_after input c (taken_seen before)
-  taken-after = λ i. record { left = left_now i; named = lists_now i }
+none-more : (n : ℕ) → n ≡ n + 0
+none-more n = omega arith
 
-  sound_after : IsSoundLive stages after
-  sound_after = record {
-    kept = subst (IsLiveAs after) (forms-after input c stages (taken_seen before).named ∙ ap (forms stages) (sym lists_now)) (kept_now fs-before sound.kept);
-    count = ap length lists_now ∙ same_count input c (taken_seen before).named ∙ sound.count;
-  }
+module _ (input : Input) (taken : taking.Taken) (before after : ToldRows StageOperator) (first now : List taking.Taken) where
+  module _ (stages : List Stage) (t : Taken) (made : HasMade stages (kept_seen before) t) where
+    one-turned : (change : Change) → TakesTold stage_makes HoldsStage input taken before after first now → HasInput input t.named → taken ≡ with_old (input_rows input t.named t.left) change
+        → HasTurned stages t (record { input = input; change = change } ∷ []) (kept_seen before) first (kept_seen after) now
+    one-turned change takes has told =
+        let fs = forms stages t.named in
+        let lists : lists_of fs ≡ t.named = lists-there stages t.named made.count in
+        let taken_in = takes fs t.left change made.made (subst (λ (ls : List Positioned). HasInput input ls) (sym lists) has) (told ∙ ap (λ (ls : List Positioned). with_old (input_rows input ls t.left) change) (sym lists)) in
+        let passed = pass_in input change fs t.left in
+        record {
+          made = record {
+            made = subst (λ (gs : List Form). HaveMade stage_makes HoldsStage after.operators after.rows.entries gs (left_after input change t.left)) (forms-after input change stages t.named) taken_in.made;
+            count = same_count input change t.named ∙ made.count;
+          };
+          tells = taken_in.told ∙ ap (λ (cs : List Change). first ++ told_along before.rows.entries cs) (sym (append-nil passed));
+          ticks = taken_in.ticks ∙ ap (raised before.ticks) (none-more (work_in input change fs t.left));
+          leads = taken_in.leads ∙ ap (with_changes before.rows.entries) (sym (append-nil passed));
+        }
 
-  rows-after : forget after.rows.entries ≡ turned_rows stages (taken_after input c (taken_seen before))
-  rows-after = rows_are_made stages after sound_after ∙ ap (turned_rows stages) taken-after
+    once : TakesTold stage_makes HoldsStage input taken before after first now → (all : List Arrival) → AllByRecursion (λ a. HasInput a.input t.named) all → come_of input taken ∷ [] ≡ come_along all t
+        → HasTurned stages t all (kept_seen before) first (kept_seen after) now
+    once takes [] there come = absurd cc
+    once takes (a ∷ []) there come =
+        let is : come_of input taken ≡ come_of a.input (with_old (input_rows a.input t.named t.left) a.change) = cc in
+        let same : a.input ≡ input = ap (λ (c : Come). c.input) (sym is) in
+        let told : taken ≡ with_old (input_rows input t.named t.left) a.change = ap (λ (c : Come). c.taken) is ∙ ap (λ (i : Input). with_old (input_rows i t.named t.left) a.change) same in
+        subst (λ (i : Input). HasTurned stages t (record { input = i; change = a.change } ∷ []) (kept_seen before) first (kept_seen after) now) (sym same)
+        (one-turned a.change takes (subst (λ (i : Input). HasInput i t.named) same there.0) told)
+    once takes (a ∷ b ∷ all) there come = absurd cc
 
-  abbrev passed : List Change
-  passed = pass_in input c fs-before before.left.entries
-
-  pub turns_once : Turns stages (arrival input c ∷ []) before first after now
-  turns_once = record {
-    sound = sound_after;
-    kept = λ i. record { taken = taken-after i; rows = rows-after i; ticks = ticks_now fs-before sound.kept i };
-    told = told_now fs-before sound.kept ∙ ap (λ (cs : List Change). first ++ cs) (sym (append-nil passed));
-    leads =
-        (λ i. with_changes (sym (entries_are stages before sound) i) (append-nil passed i))
-        ∙ sym (leads_now fs-before sound.kept)
-        ∙ entries_are stages after sound_after;
-  }
-
--- ---- the same of what a call answers
-
-module _ (stages : List Stage) (before : LiveRows StageOperator) (input : Input) (c d : Change) (same : d ≡ c) (sound : IsSoundLive stages before) (first now : List Change) where
-  abbrev LeftNow : LiveRows StageOperator → Change → Type 0
-  LeftNow after e = after.left.entries ≡ left_after input e before.left.entries
-
-  abbrev ListsNow : LiveRows StageOperator → Change → Type 0
-  ListsNow after e = (taken_seen after).named ≡ others_after input e (taken_seen before).named
-
-  abbrev KeptNow : LiveRows StageOperator → Change → Type 0
-  KeptNow after e = (fs : List Form) → IsLiveAs before fs → IsLiveAs after (forms_after input e fs)
-
-  abbrev TicksNow : LiveRows StageOperator → Change → Type 0
-  TicksNow after e = (fs : List Form) → IsLiveAs before fs → after.ticks ≡ raised before.ticks (work_in input e fs before.left.entries)
-
-  abbrev ToldNow : LiveRows StageOperator → Change → Type 0
-  ToldNow after e = (fs : List Form) → IsLiveAs before fs → now ≡ first ++ pass_in input e fs before.left.entries
-
-  abbrev LeadsNow : LiveRows StageOperator → Change → Type 0
-  LeadsNow after e = (fs : List Form) → IsLiveAs before fs → after.rows.entries ≡ with_changes before.rows.entries (pass_in input e fs before.left.entries)
-
-  pub result_turns : {E : Type 0} (r : Result (LiveRows StageOperator) E) → IfOk r (λ (after : LiveRows StageOperator). LeftNow after d) → IfOk r (λ (after : LiveRows StageOperator). ListsNow after d)
-      → IfOk r (λ (after : LiveRows StageOperator). KeptNow after d) → IfOk r (λ (after : LiveRows StageOperator). TicksNow after d) → IfOk r (λ (after : LiveRows StageOperator). ToldNow after d)
-      → IfOk r (λ (after : LiveRows StageOperator). LeadsNow after d) → IfOk r (λ (after : LiveRows StageOperator). Turns stages (arrival input c ∷ []) before first after now)
-  result_turns (Ok after) left lists kept ticked told leads =
-      turns_once stages before after input c sound (subst (LeftNow after) same left) (subst (ListsNow after) same lists) (subst (KeptNow after) same kept) (subst (TicksNow after) same ticked) first now
-      (subst (ToldNow after) same told) (subst (LeadsNow after) same leads)
-  result_turns (Err e) left lists kept ticked told leads = tt
+  pub turns_once : TakesTold stage_makes HoldsStage input taken before after first now → Turns (record { input = input; taken = taken } ∷ []) (kept_seen before) first (kept_seen after) now
+  turns_once takes stages t all made there come = once stages t made takes all there come
 
 -- ---- one after the other
 
-handed-both : (stages : List Stage) (xs ys : List Arrival) (kept : Kept) → handed_by stages (xs ++ ys) kept.taken ≡ handed_by stages xs kept.taken ++ handed_by stages ys (kept_behind stages xs kept).taken
-handed-both stages [] ys kept = refl
-handed-both stages (x ∷ xs) ys kept =
-    let one = pass_in x.input x.change (forms stages kept.taken.named) kept.taken.left in
-    ap (λ (cs : List Change). one ++ cs) (handed-both stages xs ys (kept_after stages kept x))
-    ∙ sym (append_assoc one (handed_by stages xs (taken_after x.input x.change kept.taken)) (handed_by stages ys (kept_behind stages xs (kept_after stages kept x)).taken))
+handed-both : (stages : List Stage) (xs ys : List Arrival) (t : Taken) → handed_by stages (xs ++ ys) t ≡ handed_by stages xs t ++ handed_by stages ys (taken_by t xs)
+handed-both stages [] ys t = refl
+handed-both stages (x ∷ xs) ys t =
+    let one = pass_in x.input x.change (forms stages t.named) t.left in
+    let next = taken_after x.input x.change t in
+    ap (λ (cs : List Change). one ++ cs) (handed-both stages xs ys next) ∙ sym (append_assoc one (handed_by stages xs next) (handed_by stages ys (taken_by next xs)))
 
-pub turns_none : (stages : List Stage) (live : LiveRows StageOperator) (first : List Change) → IsSoundLive stages live → Turns stages [] live first live first
-turns_none stages live first sound = record { sound = sound; kept = refl; told = sym (append-nil first); leads = refl }
+work-both : (stages : List Stage) (xs ys : List Arrival) (t : Taken) → work_by stages (xs ++ ys) t ≡ work_by stages xs t + work_by stages ys (taken_by t xs)
+work-both stages [] ys t = let n = work_by stages ys t in let e : n ≡ 0 + n = omega arith in e
+work-both stages (x ∷ xs) ys t =
+    let next = taken_after x.input x.change t in
+    let one = work_in x.input x.change (forms stages t.named) t.left in
+    let some = work_by stages xs next in
+    let others = work_by stages ys (taken_by next xs) in
+    let rest = work-both stages xs ys next in
+    ap (λ (n : ℕ). one + n) rest ∙ (let e : one + (some + others) ≡ (one + some) + others = omega arith in e)
 
-module _ (stages : List Stage) (xs ys : List Arrival) (before mid after : LiveRows StageOperator) (first told now : List Change) where
-  pub turns_then : Turns stages xs before first mid told → Turns stages ys mid told after now → Turns stages (xs ++ ys) before first after now
-  turns_then one two =
-      let k = kept_seen before in
-      let b = kept_seen mid in
-      let hx = handed_by stages xs k.taken in
-      let hy = handed_by stages ys b.taken in
-      let handed : handed_by stages (xs ++ ys) k.taken ≡ hx ++ hy = handed-both stages xs ys k ∙ ap (λ (m : Kept). hx ++ handed_by stages ys m.taken) (sym one.kept) in
+pub raised_twice : (n a b : ℕ) → raised (raised n a) b ≡ raised n (a + b)
+raised_twice n a b = omega arith
+
+pub raised_none : (n : ℕ) → n ≡ raised n 0
+raised_none n = omega arith
+
+taken-count : (t : Taken) (all : List Arrival) → length (taken_by t all).named ≡ length t.named
+taken-count t [] = refl
+taken-count t (a ∷ all) = taken-count (taken_after a.input a.change t) all ∙ same_count a.input a.change t.named
+
+still-there : (input : Input) (some others : List Positioned) → length others ≡ length some → HasInput input some → HasInput input others
+still-there Left some others same has = tt
+still-there (Named i) some others same has = omega (arith, same, has)
+
+all-there : (some others : List Positioned) → length others ≡ length some → (all : List Arrival) → AllByRecursion (λ a. HasInput a.input some) all → AllByRecursion (λ a. HasInput a.input others) all
+all-there some others same [] there = tt
+all-there some others same (a ∷ all) there = (still-there a.input some others same there.0, all-there some others same all there.1)
+
+parts-there : (P : Arrival → Type 0) (xs ys : List Arrival) → AllByRecursion P (xs ++ ys) → AllByRecursion P xs × AllByRecursion P ys
+parts-there P [] ys all = (tt, all)
+parts-there P (x ∷ xs) ys all = let rest = parts-there P xs ys all.1 in ((all.0, rest.0), rest.1)
+
+-- what comes in two parts
+pub record AreParts (xs ys : List Come) (all : List Arrival) (t : Taken) : Type 0 where
+  pub some : List Arrival
+  pub others : List Arrival
+  pub whole : all ≡ some ++ others
+  pub first : xs ≡ come_along some t
+  pub second : ys ≡ come_along others (taken_by t some)
+
+parts : (xs ys : List Come) (all : List Arrival) (t : Taken) → xs ++ ys ≡ come_along all t → AreParts xs ys all t
+parts [] ys all t come = record { some = []; others = all; whole = refl; first = refl; second = come }
+parts (x ∷ xs) ys [] t come = absurd cc
+parts (x ∷ xs) ys (a ∷ all) t come =
+    let head : x ≡ come_of a.input (with_old (input_rows a.input t.named t.left) a.change) = cc in
+    let tail : xs ++ ys ≡ come_along all (taken_after a.input a.change t) = cc in
+    let rest = parts xs ys all (taken_after a.input a.change t) tail in
+    record { some = a ∷ rest.some; others = rest.others; whole = ap (λ (arrived : List Arrival). a ∷ arrived) rest.whole; first = (let behind = rest.first in λ i. head i ∷ behind i); second = rest.second }
+
+pub turns_none : (kept : Kept) (first : List taking.Taken) → Turns [] kept first kept first
+turns_none kept first stages t [] made there come = record { made = made; tells = sym (append-nil first); ticks = raised_none kept.ticks; leads = refl }
+turns_none kept first stages t (a ∷ all) made there come = absurd cc
+
+module _ (xs ys : List Come) (before mid after : Kept) (first told now : List taking.Taken) where
+  both-turned : (stages : List Stage) (t : Taken) (some others : List Arrival) → HasTurned stages t some before first mid told → HasTurned stages (taken_by t some) others mid told after now → HasTurned stages t (some ++ others) before first after now
+  both-turned stages t some others one two =
+      let hx = handed_by stages some t in
+      let hy = handed_by stages others (taken_by t some) in
+      let handed = handed-both stages some others t in
       record {
-        sound = two.sound;
-        kept = two.kept ∙ ap (kept_behind stages ys) one.kept ∙ sym (fold-append (kept_after stages) k xs ys);
-        told = two.told ∙ ap (λ (cs : List Change). cs ++ hy) one.told ∙ append_assoc first hx hy ∙ ap (λ (cs : List Change). first ++ cs) (sym handed);
+        made = subst (λ (u : Taken). HasMade stages after u) (sym (fold-append (λ (t : Taken) (a : Arrival). taken_after a.input a.change t) t some others)) two.made;
+        tells =
+            two.tells
+            ∙ (λ i. one.tells i ++ told_along (one.leads i) hy)
+            ∙ append_assoc first (told_along before.rows hx) (told_along (with_changes before.rows hx) hy)
+            ∙ ap (λ (ts : List taking.Taken). first ++ ts) (sym (told-both before.rows hx hy) ∙ ap (told_along before.rows) (sym handed));
+        ticks =
+            two.ticks
+            ∙ ap (λ (n : ℕ). raised n (work_by stages others (taken_by t some))) one.ticks
+            ∙ raised_twice before.ticks (work_by stages some t) (work_by stages others (taken_by t some))
+            ∙ ap (raised before.ticks) (sym (work-both stages some others t));
         leads =
-            ap (with_changes (outs_made stages k.taken)) handed
-            ∙ with_changes-both (outs_made stages k.taken) hx hy
+            two.leads
             ∙ ap (λ (rows : Positioned). with_changes rows hy) one.leads
-            ∙ two.leads;
+            ∙ sym (with_changes-both before.rows hx hy)
+            ∙ ap (with_changes before.rows) (sym handed);
       }
 
-map-last : (input : Input) (cs : List Change) (c : Change) → map (arrival input) (cs ++ c ∷ []) ≡ map (arrival input) cs ++ arrival input c ∷ []
-map-last input [] c = refl
-map-last input (d ∷ cs) c = ap (λ (all : List Arrival). arrival input d ∷ all) (map-last input cs c)
+  pub turns_then : Turns xs before first mid told → Turns ys mid told after now → Turns (xs ++ ys) before first after now
+  turns_then one two stages t all made there come =
+      let p = parts xs ys all t come in
+      let each = parts-there (λ (a : Arrival). HasInput a.input t.named) p.some p.others (subst (λ (arrived : List Arrival). AllByRecursion (λ a. HasInput a.input t.named) arrived) p.whole there) in
+      let first_part = one stages t p.some made each.0 p.first in
+      let second_part = two stages (taken_by t p.some) p.others first_part.made (all-there t.named (taken_by t p.some).named (taken-count t p.some) p.others each.1) p.second in
+      subst (λ (arrived : List Arrival). HasTurned stages t arrived before first after now) (sym p.whole) (both-turned stages t p.some p.others first_part second_part)
 
-module _ (stages : List Stage) (before mid after : LiveRows StageOperator) (first told now : List Change) where
-  pub turns_more : (input : Input) (cs more : List Change) (c : Change) → more ≡ cs ++ c ∷ [] → Turns stages (map (arrival input) cs) before first mid told → Turns stages (arrival input c ∷ []) mid told after now
-      → Turns stages (map (arrival input) more) before first after now
-  turns_more input cs more c is one two =
-      subst (λ (all : List Arrival). Turns stages all before first after now) (sym (ap (map (arrival input)) is ∙ map-last input cs c)) (turns_then stages (map (arrival input) cs) (arrival input c ∷ []) before mid after first told now one two)
+module _ (before mid after : Kept) (first told now : List taking.Taken) where
+  pub turns_more : (input : Input) (some more : List taking.Taken) (taken : taking.Taken) → more ≡ some ++ taken ∷ [] → Turns (coming input (Some some)) before first mid told → Turns (record { input = input; taken = taken } ∷ []) mid told after now
+      → Turns (coming input (Some more)) before first after now
+  turns_more input some more taken is one two =
+      let tells : taking.Taken → Come = λ u. record { input = input; taken = u } in
+      subst (λ (all : List Come). Turns all before first after now) (sym (ap (map tells) is ∙ map_push tells some taken)) (turns_then (map tells some) (tells taken ∷ []) before mid after first told now one two)
 
-lists-last : (i : ℕ) (names : List (List ℕ)) (name : List ℕ) (told : List ℕ → Option (List Change)) → arriving_at_lists i (names ++ name ∷ []) told ≡ arriving_at_lists i names told ++ arriving (Named (i + length names)) (told name)
-lists-last i [] name told = append-nil (arriving (Named i) (told name)) ∙ ap (λ n. arriving (Named n) (told name)) (let e : i ≡ i + 0 = omega arith in e)
-lists-last i (n ∷ names) name told =
-    let one = arriving (Named i) (told n) in
+lists-last : (i : ℕ) (names : List (List ℕ)) (name : List ℕ) (known : Known) → coming_to_lists i (names ++ name ∷ []) known ≡ coming_to_lists i names known ++ coming (Named (i + length names)) (known name)
+lists-last i [] name known = append-nil (coming (Named i) (known name)) ∙ ap (λ n. coming (Named n) (known name)) (none-more i)
+lists-last i (n ∷ names) name known =
+    let one = coming (Named i) (known n) in
     let more : suc i + length names ≡ i + suc (length names) = omega arith in
-    ap (λ (all : List Arrival). one ++ all) (lists-last (suc i) names name told ∙ ap (λ m. arriving_at_lists (suc i) names told ++ arriving (Named m) (told name)) more)
-    ∙ sym (append_assoc one (arriving_at_lists (suc i) names told) (arriving (Named (i + suc (length names))) (told name)))
+    ap (λ (all : List Come). one ++ all) (lists-last (suc i) names name known ∙ ap (λ m. coming_to_lists (suc i) names known ++ coming (Named m) (known name)) more)
+    ∙ sym (append_assoc one (coming_to_lists (suc i) names known) (coming (Named (i + suc (length names))) (known name)))
 
-module _ (stages : List Stage) (before mid after : LiveRows StageOperator) (first now next : List Change) where
-  pub turns_list : (told : List ℕ → Option (List Change)) (names more : List (List ℕ)) (name : List ℕ) (place : ℕ) → more ≡ names ++ name ∷ [] → length names ≡ place → Turns stages (arriving_at_lists 0 names told) before first mid now
-      → Turns stages (arriving (Named place) (told name)) mid now after next → Turns stages (arriving_at_lists 0 more told) before first after next
-  turns_list told names more name place is count one two =
-      let all : arriving_at_lists 0 more told ≡ arriving_at_lists 0 names told ++ arriving (Named place) (told name) =
-      ap (λ (ns : List (List ℕ)). arriving_at_lists 0 ns told) is ∙ lists-last 0 names name told ∙ ap (λ n. arriving_at_lists 0 names told ++ arriving (Named n) (told name)) (let e : 0 + length names ≡ place = omega (arith, count) in e) in
-      subst (λ (arrived : List Arrival). Turns stages arrived before first after next) (sym all) (turns_then stages (arriving_at_lists 0 names told) (arriving (Named place) (told name)) before mid after first now next one two)
+module _ (before mid after : Kept) (first now next : List taking.Taken) where
+  pub turns_list : (known : Known) (names more : List (List ℕ)) (name : List ℕ) (place : ℕ) → more ≡ names ++ name ∷ [] → length names ≡ place → Turns (coming_to_lists 0 names known) before first mid now
+      → Turns (coming (Named place) (known name)) mid now after next → Turns (coming_to_lists 0 more known) before first after next
+  turns_list known names more name place is count one two =
+      let all : coming_to_lists 0 more known ≡ coming_to_lists 0 names known ++ coming (Named place) (known name) =
+      ap (λ (ns : List (List ℕ)). coming_to_lists 0 ns known) is ∙ lists-last 0 names name known ∙ ap (λ n. coming_to_lists 0 names known ++ coming (Named n) (known name)) (let e : 0 + length names ≡ place = omega (arith, count) in e) in
+      subst (λ (come : List Come). Turns come before first after next) (sym all) (turns_then (coming_to_lists 0 names known) (coming (Named place) (known name)) before mid after first now next one two)
 
 -- ---- operators that have taken in nothing
 
@@ -269,26 +283,9 @@ sound_operators [] (o ∷ os) fresh = absurd fresh
 sound_operators (s ∷ ss) [] fresh = absurd fresh
 sound_operators (s ∷ ss) (o ∷ os) fresh = (fresh.0.sound, sound_operators ss os fresh.1)
 
-empty-count : (n : ℕ) → length (empty_lists n) ≡ n
-empty-count zero = refl
-empty-count (suc n) = ap suc (empty-count n)
-
--- one list more
-pub lists_more : (n : ℕ) → empty_lists n ++ [] ∷ [] ≡ empty_lists (suc n)
-lists_more zero = refl
-lists_more (suc n) = ap (λ (ls : List Positioned). [] ∷ ls) (lists_more n)
-
-pub map_last : {A B : Type 0} (f : A → B) (xs : List A) (x : A) → map f (xs ++ x ∷ []) ≡ map f xs ++ f x ∷ []
-map_last f [] x = refl
-map_last f (y ∷ xs) x = ap (λ ys. f y ∷ ys) (map_last f xs x)
-
--- they are the stages over lists of no rows
-pub fresh_kept : (ss : List Stage) (live : LiveRows StageOperator) → (taken_seen live).named ≡ empty_lists (lists_of_all ss) → ((fs : List Form) → lists_of fs ≡ empty_lists (lists_of_all ss) → fed.AreFresh stage_makes HoldsStage live.operators fs → IsLiveAs live fs)
-    → fed.AreFresh stage_makes HoldsStage live.operators (forms ss (empty_lists (lists_of_all ss))) → IsSoundLive ss live
-fresh_kept ss live named keeps fresh = record {
-  kept = subst (λ (ns : List Positioned). IsLiveAs live (forms ss ns)) (sym named) (keeps (forms ss (empty_lists (lists_of_all ss))) (lists-there ss (empty_lists (lists_of_all ss)) (empty-count (lists_of_all ss))) fresh);
-  count = ap length named ∙ empty-count (lists_of_all ss);
-}
+pub empty_count : (n : ℕ) → length (empty_lists n) ≡ n
+empty_count zero = refl
+empty_count (suc n) = ap suc (empty_count n)
 
 pub fresh_more : (ss : List Stage) (os : List StageOperator) (s : Stage) (o : StageOperator) → AreFresh ss os → IsFreshStage s o → AreFresh (ss ++ s ∷ []) (os ++ o ∷ [])
 fresh_more [] [] s o all one = (one, tt)

@@ -6,11 +6,10 @@ use Rattle.std.specs.List.{AllByRecursion, IsDistinct, list_any}
 use Rattle.std.specs.Option.{option_and_then}
 use Rattle.std.specs.Str.{bytes_eq}
 use Rattle.std.proofs.lemmas.Slice.Eq.{bytes_eq-Decides}
-use Rattle.dv_change.specs.Changes.{Positioned}
+use Rattle.dv_change.specs.Changes.{Positioned, forget}
 use Rattle.dv_pipe.specs.Sources.{Row}
 use Rattle.dv_pipe.specs.Stages.{Lists, evaluated}
 use Rattle.dv_pipe.specs.declared.stage.Stage.{Stage}
-use Rattle.dv_views.specs.Flow.{outs_made}
 use Rattle.dv_views.specs.Forms.{ViewForm, outs_of, places_over, rows_over, with_places, with_rows}
 use Rattle.dv_views.specs.Placed.{ListPlaces, list_places}
 use Rattle.dv_views.specs.Views.{ViewMark, live, stale, View, taken_from}
@@ -54,31 +53,31 @@ others_apart v vs apart = apart.1
 
 -- ---- what stands under a view's name
 
--- a live view has what its stages make of what it has taken in, at these positions, and one that isn't stale has these rows
-abbrev pub IsShownAt : ViewMark → List Stage → Positioned → List Row → Type 0
-IsShownAt (live kept) stages outs rows = (outs ≡ outs_made stages kept.taken) × (kept.rows ≡ rows)
-IsShownAt stale stages outs rows = ⊤
+-- a live view keeps these rows at their positions, and shows these
+abbrev pub IsShownAt : ViewMark → Positioned → List Row → Type 0
+IsShownAt (live kept) outs rows = (outs ≡ kept.rows) × (forget kept.rows ≡ rows)
+IsShownAt stale outs rows = ⊤
 
-shown-kept : (m : ViewMark) (stages : List Stage) (source : List ℕ) (places : ListPlaces) (outs : Positioned) (lists rows : List Row) → AreKept m (taken_from stages source places) lists → outs ≡ outs_of stages source places → rows ≡ lists → IsShownAt m stages outs rows
-shown-kept (live kept) stages source places outs lists rows right made is = (made ∙ sym (ap (outs_made stages) right.0), right.1 ∙ sym is)
+shown-kept : (m : ViewMark) (stages : List Stage) (source : List ℕ) (places : ListPlaces) (outs : Positioned) (lists rows : List Row) → AreKept stages m (taken_from stages source places) lists → outs ≡ outs_of stages source places → rows ≡ lists → IsShownAt m outs rows
+shown-kept (live kept) stages source places outs lists rows right made is = (made ∙ sym right.0.made.made, right.1 ∙ sym is)
 shown-kept stale stages source places outs lists rows right made is = tt
 
 pub shown_at : (name : List ℕ) (places : ListPlaces) (lists : Lists) (vs : Views) (v : View) → AreNamedApart vs → AreRightOver places lists vs → view_under name vs ≡ Some v
-    → IsShownAt v.mark v.stages (places_over (map view_form vs) places name) (rows_over (map view_form vs) lists name)
+    → IsShownAt v.mark (places_over (map view_form vs) places name) (rows_over (map view_form vs) lists name)
 shown_at name places lists [] v apart right is = absurd cc
 shown_at name places lists (u ∷ us) v apart right is = by (is_view_named name u) refl is (shown_at name (with_places (view_form u) places) (with_rows (view_form u) lists) us v (others_apart u us apart) right.1)
   where
-    here : u ≡ v → is_view_named name u ≡ true → IsShownAt v.mark v.stages (places_over (map view_form (u ∷ us)) places name) (rows_over (map view_form (u ∷ us)) lists name)
+    here : u ≡ v → is_view_named name u ≡ true → IsShownAt v.mark (places_over (map view_form (u ∷ us)) places name) (rows_over (map view_form (u ∷ us)) lists name)
     here same has =
         let away = later_apart name u us has apart in
-        subst (λ (w : View). IsShownAt w.mark w.stages (places_over (map view_form (u ∷ us)) places name) (rows_over (map view_form (u ∷ us)) lists name)) same
+        subst (λ (w : View). IsShownAt w.mark (places_over (map view_form (u ∷ us)) places name) (rows_over (map view_form (u ∷ us)) lists name)) same
         (shown-kept u.mark u.stages u.source places (places_over (map view_form (u ∷ us)) places name) (evaluated u.stages u.source lists) (rows_over (map view_form (u ∷ us)) lists name) right.0
         (places_untouched (map view_form us) (with_places (view_form u) places) name away ∙ ap (λ (b : Bool). if b then outs_of u.stages u.source places else places name) has)
         (rows_untouched (map view_form us) (with_rows (view_form u) lists) name away ∙ ap (λ (b : Bool). if b then evaluated u.stages u.source lists else lists name) has))
 
     by : (b : Bool) → is_view_named name u ≡ b → cond b (Some u) (view_under name us) ≡ Some v
-        → (view_under name us ≡ Some v → IsShownAt v.mark v.stages (places_over (map view_form (u ∷ us)) places name) (rows_over (map view_form (u ∷ us)) lists name))
-        → IsShownAt v.mark v.stages (places_over (map view_form (u ∷ us)) places name) (rows_over (map view_form (u ∷ us)) lists name)
+        → (view_under name us ≡ Some v → IsShownAt v.mark (places_over (map view_form (u ∷ us)) places name) (rows_over (map view_form (u ∷ us)) lists name))
+        → IsShownAt v.mark (places_over (map view_form (u ∷ us)) places name) (rows_over (map view_form (u ∷ us)) lists name)
     by true has is rest = here (let same : u ≡ v = cc in same) has
     by false has is rest = rest is
 
@@ -130,9 +129,9 @@ distance_at name vs apart = distance-over vs no_distance name apart ∙ distance
 
 -- ---- the rows that are shown
 
-mark-shown : (m : ViewMark) (stages : List Stage) (outs : Positioned) (rows shown : List Row) → IsShownAt m stages outs rows → kept_rows m ≡ Some shown → shown ≡ rows
-mark-shown (live kept) stages outs rows shown right is = (let same : shown ≡ kept.rows = cc in same) ∙ right.1
-mark-shown stale stages outs rows shown right is = absurd cc
+mark-shown : (m : ViewMark) (outs : Positioned) (rows shown : List Row) → IsShownAt m outs rows → kept_rows m ≡ Some shown → shown ≡ rows
+mark-shown (live kept) outs rows shown right is = (let same : shown ≡ forget kept.rows = cc in same) ∙ right.1
+mark-shown stale outs rows shown right is = absurd cc
 
 pub right_shown : (name : List ℕ) (lists : Lists) (views : Views) (rows : List Row) → AreNamedApart views → AreRight lists views → rows_shown name views ≡ Some rows → rows ≡ rows_over (map view_form views) lists name
 right_shown name lists views rows apart right shown = by (view_under name views) refl shown
@@ -140,4 +139,4 @@ right_shown name lists views rows apart right shown = by (view_under name views)
     by : (o : Option View) → view_under name views ≡ o → option_and_then (λ v. kept_rows v.mark) o ≡ Some rows → rows ≡ rows_over (map view_form views) lists name
     by None is shown = absurd cc
     by (Some v) is shown =
-        mark-shown v.mark v.stages (places_over (map view_form views) (list_places lists) name) (rows_over (map view_form views) lists name) rows (shown_at name (list_places lists) lists views v apart right is) shown
+        mark-shown v.mark (places_over (map view_form views) (list_places lists) name) (rows_over (map view_form views) lists name) rows (shown_at name (list_places lists) lists views v apart right is) shown

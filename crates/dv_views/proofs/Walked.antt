@@ -10,29 +10,27 @@ use Rattle.std.proofs.lemmas.Bool.Decides.{nat_tests}
 use Rattle.std.proofs.lemmas.List.{drop_all}
 use Rattle.std.proofs.lemmas.Slice.Eq.{bytes_eq-Decides}
 use Rattle.indexmap.specs.IndexMap.{set_value_at}
-use Rattle.dv_change.specs.declared.change.Change.{Change}
+use Rattle.dv_change.specs.declared.taking.Taken as taking
 use Rattle.dv_pipe.specs.Stages.{is_read}
-use Rattle.dv_views.specs.Flow.{Told, flow_with_told, is_reached, told_at}
 use Rattle.dv_views.specs.Forms.{ViewForm, heights, is_name_among, names_read}
 use Rattle.dv_views.specs.Inner.Body.{Body}
 use Rattle.dv_views.specs.Inner.Handing.{AreSilentBut, IsHandedOn, is_place_among, silenced}
 use Rattle.dv_views.specs.Inner.Older.{Entries, views}
 use Rattle.dv_views.specs.Inner.Passing.{IsTakenAt}
 use Rattle.dv_views.specs.Inner.Readers.{AreReaders, Listing, readers_from, readers_of, reads_any}
-use Rattle.dv_views.specs.Inner.Seen.{AreSilent, AreSoundEntries, HaveHeights, IsWellKept, entry_view, telling}
-use Rattle.dv_views.specs.Inner.Turned.{HaveTaken, IsTakenBy}
+use Rattle.dv_views.specs.Inner.Seen.{AreSilent, AreSoundEntries, HaveHeights, entry_view, telling}
+use Rattle.dv_views.specs.Inner.Turned.{HaveTaken, IsTakenBy, Known, comes_to, known_at, with_known}
 use Rattle.dv_views.specs.Inner.Views.{AreNamedApart, Views, view_form, no_distance, with_distance}
 use Rattle.dv_views.specs.Views.{View}
 use Rattle.dv_views.proofs.Heights.{heights_written}
-use Rattle.dv_views.proofs.Marked.{HaveFirst, all_taken, apart_written, kept_there, length_views, length_written, taken_next}
+use Rattle.dv_views.proofs.Marked.{HaveFirst, all_taken, apart_written, length_views, length_written, taken_next}
 use Rattle.dv_views.proofs.OneBehind.{forms_after, founded_after, none_of, over_after}
 use Rattle.dv_views.proofs.Right.{either-way, itself, neither, or-left, or-right, read_among}
-use Rattle.dv_views.proofs.WellKept.{AreWellKept, kept_at}
 
 -- ---- a change comes to no view that reads none of the names to which it came
 
 -- nothing is told but under these names
-abbrev pub AreToldAlone : List (List ℕ) → Told → Type 0
+abbrev pub AreToldAlone : List (List ℕ) → Known → Type 0
 AreToldAlone names told = (name : List ℕ) → is_name_among name names ≡ false → told name ≡ None
 
 none-among : (v : ViewForm) (names : List (List ℕ)) → reads_any names v ≡ false → (name : List ℕ) → is_read v.stages v.source name ≡ true → is_name_among name names ≡ false
@@ -45,33 +43,33 @@ none-among v (n ∷ names) away name read =
     by true is off rest = let no : true ≡ false = sym read ∙ ap (is_read v.stages v.source) ((bytes_eq-Decides name n).0 is) ∙ off in absurd cc
     by false is off rest = rest
 
-none-told : (told : Told) (names : List (List ℕ)) → ((name : List ℕ) → is_name_among name names ≡ true → told name ≡ None) → list_any (λ name. is_some (told name)) names ≡ false
+none-told : (told : Known) (names : List (List ℕ)) → ((name : List ℕ) → is_name_among name names ≡ true → told name ≡ None) → list_any (λ name. is_some (told name)) names ≡ false
 none-told told [] none = refl
 none-told told (n ∷ names) none =
     let here = none n (or-left (bytes_eq n n) (is_name_among n names) (itself n)) in
     let rest = none-told told names (λ name among. none name (or-right (bytes_eq name n) (is_name_among name names) among)) in
     λ i. is_some (here i) || rest i
 
-unreached : (names : List (List ℕ)) (told : Told) (v : ViewForm) → AreToldAlone names told → reads_any names v ≡ false → is_reached v.stages v.source told ≡ false
+unreached : (names : List (List ℕ)) (told : Known) (v : ViewForm) → AreToldAlone names told → reads_any names v ≡ false → comes_to v.stages v.source told ≡ false
 unreached names told v alone away = none-told told (names_read v.stages v.source) (λ name among. alone name (none-among v names away name (read_among v.stages v.source name ∙ among)))
 
-told-first : (namespace : List ℕ) (changes : List Change) → AreToldAlone (namespace ∷ []) (told_at namespace changes)
-told-first namespace changes name off =
+told-first : (namespace : List ℕ) (all : List taking.Taken) → AreToldAlone (namespace ∷ []) (known_at namespace all)
+told-first namespace all name off =
     let both = neither (bytes_eq name namespace) false off in
     let away : bytes_eq namespace name ≡ false = either-way namespace name ∙ both.0 in
-    ap (λ (b : Bool). if b then Some changes else None) away
+    ap (λ (b : Bool). if b then Some all else None) away
 
-told-unlisted : (names : List (List ℕ)) (told : Told) (name : List ℕ) (changes : Option (List Change)) → changes ≡ None → AreToldAlone names told → AreToldAlone names (flow_with_told name changes told)
-told-unlisted names told name changes none alone other off = by (bytes_eq other name)
+told-unlisted : (names : List (List ℕ)) (told : Known) (name : List ℕ) (all : Option (List taking.Taken)) → all ≡ None → AreToldAlone names told → AreToldAlone names (with_known name all told)
+told-unlisted names told name all none alone other off = by (bytes_eq other name)
   where
-    by : (b : Bool) → (if b then changes else told other) ≡ None
+    by : (b : Bool) → (if b then all else told other) ≡ None
     by true = none
     by false = alone other off
 
-told-listed : (names : List (List ℕ)) (told : Told) (name : List ℕ) (changes : Option (List Change)) → AreToldAlone names told → AreToldAlone (name ∷ names) (flow_with_told name changes told)
-told-listed names told name changes alone other off =
+told-listed : (names : List (List ℕ)) (told : Known) (name : List ℕ) (all : Option (List taking.Taken)) → AreToldAlone names told → AreToldAlone (name ∷ names) (with_known name all told)
+told-listed names told name all alone other off =
     let both = neither (bytes_eq other name) (is_name_among other names) off in
-    ap (λ (b : Bool). if b then changes else told other) both.0 ∙ alone other both.1
+    ap (λ (b : Bool). if b then all else told other) both.0 ∙ alone other both.1
 
 -- ---- places of readers
 
@@ -159,7 +157,7 @@ no-entries [] is = refl
 no-entries (e ∷ es) is = absurd cc
 
 module _ {Y : Type 0} where
-  untouched : (come : Told) (distances : List ℕ → ℕ) (v : View) (e : String Y × Body) → entry_view e ≡ v → e.1.told ≡ None → is_reached v.stages v.source come ≡ false → IsTakenBy come distances v (telling e)
+  untouched : (come : Known) (distances : List ℕ → ℕ) (v : View) (e : String Y × Body) → entry_view e ≡ v → e.1.told ≡ None → comes_to v.stages v.source come ≡ false → IsTakenBy come distances v (telling e)
   untouched come distances v e same silent away = record {
     form = ap view_form same;
     tells = ap is_some silent ∙ sym away;
@@ -169,7 +167,7 @@ module _ {Y : Type 0} where
   }
 
   -- from n views on to the next one that is listed
-  skip : (low high n m k : ℕ) (names : List (List ℕ)) (come : Told) (distances : List ℕ → ℕ) (before : Views) (es : Entries Y) → AreToldAlone names come → low ≤ k + n → k + m ≤ high → n ≤ m
+  skip : (low high n m k : ℕ) (names : List (List ℕ)) (come : Known) (distances : List ℕ → ℕ) (before : Views) (es : Entries Y) → AreToldAlone names come → low ≤ k + n → k + m ≤ high → n ≤ m
       → AllByRecursion (IsOutside low high) (readers_from names k (map view_form before)) → HaveFirst n come distances before es → HaveFirst m come distances before es
   skip low high zero zero k names come distances before es alone l h le outside first = first
   skip low high (suc n) zero k names come distances before es alone l h le outside first = absurd (omega (arith, le))
@@ -177,12 +175,12 @@ module _ {Y : Type 0} where
   skip low high zero (suc m) k names come distances (v ∷ before) [] alone l h le outside first = let same : views {Y = Y} [] ≡ v ∷ before = first.0 in absurd cc
   skip low high zero (suc m) k names come distances (v ∷ before) (e ∷ es) alone l h le outside first =
       by (reads_any names (view_form v)) refl outside
-      (λ out. skip low high zero m (suc k) names (flow_with_told v.name e.1.told come) (with_distance (entry_view e) distances) before es (told-unlisted names come v.name e.1.told first.1.0 alone) (let a : low ≤ k + 0 = l in omega (arith, a))
+      (λ out. skip low high zero m (suc k) names (with_known v.name e.1.told come) (with_distance (entry_view e) distances) before es (told-unlisted names come v.name e.1.told first.1.0 alone) (let a : low ≤ k + 0 = l in omega (arith, a))
       (let a : k + suc m ≤ high = h in omega (arith, a)) (omega arith) out ((let all : views (e ∷ es) ≡ v ∷ before = first.0 in cc), first.1.1))
     where
       by : (b : Bool) → reads_any names (view_form v) ≡ b
           → AllByRecursion (IsOutside low high) (if b then k ∷ readers_from (v.name ∷ names) (suc k) (map view_form before) else readers_from names (suc k) (map view_form before))
-          → (AllByRecursion (IsOutside low high) (readers_from names (suc k) (map view_form before)) → HaveFirst m (flow_with_told v.name e.1.told come) (with_distance (entry_view e) distances) before es) → HaveFirst (suc m) come distances (v ∷ before) (e ∷ es)
+          → (AllByRecursion (IsOutside low high) (readers_from names (suc k) (map view_form before)) → HaveFirst m (with_known v.name e.1.told come) (with_distance (entry_view e) distances) before es) → HaveFirst (suc m) come distances (v ∷ before) (e ∷ es)
       by true is out rest = absurd (no out.0)
         where
           no : IsOutside low high k → ⊥
@@ -197,28 +195,28 @@ module _ {Y : Type 0} where
   skip low high (suc n) (suc m) k names come distances (v ∷ before) (e ∷ es) alone l h le outside first = (
     first.0,
     by (reads_any names (view_form v)) refl outside
-        (λ others known out. skip low high n m (suc k) others (flow_with_told v.name e.1.told come) (with_distance (entry_view e) distances) before es known (let a : low ≤ k + suc n = l in omega (arith, a)) (let a : k + suc m ≤ high = h in omega (arith, a)) (omega (arith, le)) out first.1),
+        (λ others known out. skip low high n m (suc k) others (with_known v.name e.1.told come) (with_distance (entry_view e) distances) before es known (let a : low ≤ k + suc n = l in omega (arith, a)) (let a : k + suc m ≤ high = h in omega (arith, a)) (omega (arith, le)) out first.1),
   )
     where
       by : (b : Bool) → reads_any names (view_form v) ≡ b
           → AllByRecursion (IsOutside low high) (if b then k ∷ readers_from (v.name ∷ names) (suc k) (map view_form before) else readers_from names (suc k) (map view_form before))
-          → ((others : List (List ℕ)) → AreToldAlone others (flow_with_told v.name e.1.told come) → AllByRecursion (IsOutside low high) (readers_from others (suc k) (map view_form before))
-          → HaveFirst m (flow_with_told v.name e.1.told come) (with_distance (entry_view e) distances) before es)
-          → HaveFirst m (flow_with_told v.name e.1.told come) (with_distance (entry_view e) distances) before es
+          → ((others : List (List ℕ)) → AreToldAlone others (with_known v.name e.1.told come) → AllByRecursion (IsOutside low high) (readers_from others (suc k) (map view_form before))
+          → HaveFirst m (with_known v.name e.1.told come) (with_distance (entry_view e) distances) before es)
+          → HaveFirst m (with_known v.name e.1.told come) (with_distance (entry_view e) distances) before es
       by true is out rest = rest (v.name ∷ names) (told-listed names come v.name e.1.told alone) out.1
       by false is out rest = rest names (told-unlisted names come v.name e.1.told (none_of e.1.told (first.0.tells ∙ unreached names come (view_form v) alone is)) alone) out
 
   -- views that aren't listed tell nothing
-  quiet : (ps : List ℕ) (k : ℕ) (names : List (List ℕ)) (come : Told) (distances : List ℕ → ℕ) (before : Views) (es : Entries Y) → AreToldAlone names come
+  quiet : (ps : List ℕ) (k : ℕ) (names : List (List ℕ)) (come : Known) (distances : List ℕ → ℕ) (before : Views) (es : Entries Y) → AreToldAlone names come
       → ((p : ℕ) → is_place_among p (readers_from names k (map view_form before)) ≡ true → is_place_among p ps ≡ true) → HaveFirst (length before) come distances before es → AreSilentBut ps k es
   quiet ps k names come distances [] es alone among first = subst (AreSilentBut ps k) (sym (no-entries es first.0)) tt
   quiet ps k names come distances (v ∷ before) [] alone among first = absurd first
   quiet ps k names come distances (v ∷ before) (e ∷ es) alone among first =
-      by (reads_any names (view_form v)) refl among (λ others known there. quiet ps (suc k) others (flow_with_told v.name e.1.told come) (with_distance (entry_view e) distances) before es known there first.1)
+      by (reads_any names (view_form v)) refl among (λ others known there. quiet ps (suc k) others (with_known v.name e.1.told come) (with_distance (entry_view e) distances) before es known there first.1)
     where
       by : (b : Bool) → reads_any names (view_form v) ≡ b
           → ((p : ℕ) → is_place_among p (if b then k ∷ readers_from (v.name ∷ names) (suc k) (map view_form before) else readers_from names (suc k) (map view_form before)) ≡ true → is_place_among p ps ≡ true)
-          → ((others : List (List ℕ)) → AreToldAlone others (flow_with_told v.name e.1.told come) → ((p : ℕ) → is_place_among p (readers_from others (suc k) (map view_form before)) ≡ true → is_place_among p ps ≡ true) → AreSilentBut ps (suc k) es)
+          → ((others : List (List ℕ)) → AreToldAlone others (with_known v.name e.1.told come) → ((p : ℕ) → is_place_among p (readers_from others (suc k) (map view_form before)) ≡ true → is_place_among p ps ≡ true) → AreSilentBut ps (suc k) es)
           → AreSilentBut ps k (e ∷ es)
       by true is listed rest =
           let behind = readers_from (v.name ∷ names) (suc k) (map view_form before) in
@@ -232,7 +230,7 @@ module _ {Y : Type 0} where
   -- ---- what is let go
 
   silenced-same : (e : String Y × Body) → e.1.told ≡ None → silenced e ≡ e
-  silenced-same e silent = ap (λ (t : Option (List Change)). (e.0, record e.1 { told = t })) (sym silent)
+  silenced-same e silent = ap (λ (t : Option (List taking.Taken)). (e.0, record e.1 { told = t })) (sym silent)
 
   pub all_silent : (k : ℕ) (es : Entries Y) → AreSilentBut [] k es → map silenced es ≡ es
   all_silent k [] silent = refl
@@ -285,27 +283,25 @@ module _ {Y : Type 0} where
   -- ---- the walk over the places
 
   -- views of which those before the next place have taken in a change
-  pub record HaveWalked (namespace : List ℕ) (changes : List Change) (left : List ℕ) (before now : Entries Y) : Type 0 where
-    pub taken : HaveFirst (next_of (length before) left) (told_at namespace changes) no_distance (views before) now
+  pub record HaveWalked (namespace : List ℕ) (all : List taking.Taken) (left : List ℕ) (before now : Entries Y) : Type 0 where
+    pub taken : HaveFirst (next_of (length before) left) (known_at namespace all) no_distance (views before) now
     pub apart : AreNamedApart (views now)
-    pub kept : AreWellKept before → AreWellKept now
     pub heights : (high : List ℕ → ℕ) → HaveHeights high before → HaveHeights high now
     pub count : length now ≡ length before
 
-  module _ (namespace : List ℕ) (changes : List Change) (places : List ℕ) (before : Entries Y) (are : places ≡ readers_of namespace (map view_form (views before))) where
+  module _ (namespace : List ℕ) (all : List taking.Taken) (places : List ℕ) (before : Entries Y) (are : places ≡ readers_of namespace (map view_form (views before))) where
     ascend : IsFrom 0 places
     ascend = subst (IsFrom 0) (sym are) (readers-from (namespace ∷ []) 0 (map view_form (views before)))
 
-    pub walk_begins : AreNamedApart (views before) → AreSilent before → HaveWalked namespace changes (drop 0 places) before before
+    pub walk_begins : AreNamedApart (views before) → AreSilent before → HaveWalked namespace all (drop 0 places) before before
     walk_begins apart silent =
         let end = next_of (length before) places in
-        let first : HaveFirst 0 (told_at namespace changes) no_distance (views before) before = (refl, silent) in
+        let first : HaveFirst 0 (known_at namespace all) no_distance (views before) before = (refl, silent) in
         record {
           taken =
-              skip 0 end 0 end 0 (namespace ∷ []) (told_at namespace changes) no_distance (views before) before (told-first namespace changes) (omega arith) (omega arith) (omega arith)
+              skip 0 end 0 end 0 (namespace ∷ []) (known_at namespace all) no_distance (views before) before (told-first namespace all) (omega arith) (omega arith) (omega arith)
               (subst (AllByRecursion (IsOutside 0 end)) are (next-behind 0 (length before) 0 places ascend)) first;
           apart = apart;
-          kept = λ kept. kept;
           heights = λ high kept. kept;
           count = refl;
         }
@@ -317,61 +313,58 @@ module _ {Y : Type 0} where
         length-forms [] = refl
         length-forms (e ∷ es) = ap suc (length-forms es)
 
-    module _ (i p : ℕ) (now : Entries Y) (there : slice_get places i ≡ Some p) (walked : HaveWalked namespace changes (drop i places) before now) where
+    module _ (i p : ℕ) (now : Entries Y) (there : slice_get places i ≡ Some p) (walked : HaveWalked namespace all (drop i places) before now) where
       pub place_within : p < length now
       place_within = let less : p < length before = all_at (λ q. q < length before) i p places places_below there in let many = walked.count in omega (arith, less, many)
 
-      pub walk_goes : (left : Entries Y) → IsTakenAt namespace changes p now left → HaveWalked namespace changes (drop (i + 1) places) before left
+      pub walk_goes : (left : Entries Y) → IsTakenAt namespace all p now left → HaveWalked namespace all (drop (i + 1) places) before left
       walk_goes left at =
-          let come = told_at namespace changes in
+          let come = known_at namespace all in
           let more : suc i ≡ i + 1 = omega arith in
           let end = next_of (length before) (drop (suc i) places) in
           let here : HaveFirst p come no_distance (views before) now = subst (λ (n : ℕ). HaveFirst n come no_distance (views before) now) (next-at (length before) i p places there) walked.taken in
           let one : p + 1 ≡ suc p = omega arith in
-          let next : HaveFirst (suc p) come no_distance (views before) left = subst (λ (n : ℕ). HaveFirst n come no_distance (views before) left) one (taken_next namespace changes p (views before) now left here at) in
+          let next : HaveFirst (suc p) come no_distance (views before) left = subst (λ (n : ℕ). HaveFirst n come no_distance (views before) left) one (taken_next namespace all p (views before) now left here at) in
           let less : p < length before = all_at (λ q. q < length before) i p places places_below there in
-          subst (λ (n : ℕ). HaveWalked namespace changes (drop n places) before left) more (record {
+          subst (λ (n : ℕ). HaveWalked namespace all (drop n places) before left) more (record {
             taken =
-                skip (suc p) end (suc p) end 0 (namespace ∷ []) come no_distance (views before) left (told-first namespace changes) (omega arith) (omega arith) (behind-at (length before) 0 i p places ascend less there)
+                skip (suc p) end (suc p) end 0 (namespace ∷ []) come no_distance (views before) left (told-first namespace all) (omega arith) (omega arith) (behind-at (length before) 0 i p places ascend less there)
                 (subst (AllByRecursion (IsOutside (suc p) end)) are (between (length before) 0 i p places ascend there)) next;
             apart = apart_written p now left at.new at.left walked.apart;
-            kept = λ kept. let well = walked.kept kept in subst AreWellKept (sym at.left) (kept_at p now at.new well (at.well (kept_there p now at.old well at.there)));
             heights = λ high kept. subst (HaveHeights high) (sym at.left) (heights_written high p now at.old at.new at.there at.height (walked.heights high kept));
             count = ap length at.left ∙ length_written p now at.new ∙ walked.count;
           })
 
-    module _ (i : ℕ) (now : Entries Y) (stop : length places ≤ i) (walked : HaveWalked namespace changes (drop i places) before now) where
-      whole : HaveFirst (length (views before)) (told_at namespace changes) no_distance (views before) now
+    module _ (i : ℕ) (now : Entries Y) (stop : length places ≤ i) (walked : HaveWalked namespace all (drop i places) before now) where
+      whole : HaveFirst (length (views before)) (known_at namespace all) no_distance (views before) now
       whole =
-          subst (λ (n : ℕ). HaveFirst n (told_at namespace changes) no_distance (views before) now) (ap (next_of (length before)) (drop_all i places stop) ∙ sym (length_views before)) walked.taken
+          subst (λ (n : ℕ). HaveFirst n (known_at namespace all) no_distance (views before) now) (ap (next_of (length before)) (drop_all i places stop) ∙ sym (length_views before)) walked.taken
 
       pub walk_below : AllByRecursion (λ p. p < length now) places
       walk_below = subst (λ (n : ℕ). AllByRecursion (λ p. p < n) places) (sym walked.count) places_below
 
       pub walk_quiet : AreSilentBut places 0 now
       walk_quiet =
-          quiet places 0 (namespace ∷ []) (told_at namespace changes) no_distance (views before) now (told-first namespace changes) (λ p there. ap (is_place_among p) are ∙ there) whole
+          quiet places 0 (namespace ∷ []) (known_at namespace all) no_distance (views before) now (told-first namespace all) (λ p there. ap (is_place_among p) are ∙ there) whole
 
-      pub walk_ends : (after : Entries Y) → after ≡ map silenced now → IsHandedOn namespace changes before after
-      walk_ends after is = subst (IsHandedOn namespace changes before) (sym is) (record {
+      pub walk_ends : (after : Entries Y) → after ≡ map silenced now → IsHandedOn namespace all before after
+      walk_ends after is = subst (IsHandedOn namespace all before) (sym is) (record {
         taken =
-            subst (HaveTaken (told_at namespace changes) (views before)) (sym (views-silenced now))
-            (all_taken (told_at namespace changes) (length (views before)) (length (views before)) (views before) now refl (omega arith) (omega arith) whole);
+            subst (HaveTaken (known_at namespace all) (views before)) (sym (views-silenced now))
+            (all_taken (known_at namespace all) (length (views before)) (length (views before)) (views before) now refl (omega arith) (omega arith) whole);
         apart = subst AreNamedApart (sym (views-silenced now)) walked.apart;
-        kept = λ kept. subst (AllByRecursion (λ v. IsWellKept v.stages v.mark)) (sym (views-silenced now)) (walked.kept kept);
         heights = λ high kept. heights-silenced high now (walked.heights high kept);
         silent = silent-silenced now;
       })
 
 -- what holds of views in memory holds behind a change
-pub sound_behind : {Y : Type 0} (namespace : List ℕ) (changes : List Change) (before after : Entries Y) (listing : Listing) → AreSoundEntries before listing → IsHandedOn namespace changes before after → AreSoundEntries after listing
-sound_behind namespace changes before after listing sound on =
-    let come = told_at namespace changes in
+pub sound_behind : {Y : Type 0} (namespace : List ℕ) (all : List taking.Taken) (before after : Entries Y) (listing : Listing) → AreSoundEntries before listing → IsHandedOn namespace all before after → AreSoundEntries after listing
+sound_behind namespace all before after listing sound on =
+    let come = known_at namespace all in
     let forms = forms_after come (views before) (views after) on.taken in
     record {
       views = record {
         apart = on.apart;
-        kept = on.kept sound.views.kept;
         live = over_after come (views before) (views after) sound.views.live on.taken;
         founded = founded_after come (views before) (views after) sound.views.founded on.taken;
       };

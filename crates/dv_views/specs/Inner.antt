@@ -1,8 +1,10 @@
 -- Definitions and lemmas that need not be believed: invariants, codings, and words of bodies and proofs.
 pub mod ById
 pub mod Views
+pub mod Holding
 pub mod Changed
 pub mod Counted
+pub mod Applied
 pub mod Made
 pub mod Examples
 pub mod Fault
@@ -21,3 +23,5 @@ pub mod MarkView
 pub mod Inside
 pub mod Readers
 pub mod Handing
+pub mod Copies
+pub mod CopiesCode

@@ -1,20 +1,20 @@
 -- Views with the rows that they store, in creation order.
-use Rattle.std.specs.Prelude.{ℕ, not, List, map, Option}
+use Rattle.std.specs.Prelude.{ℕ, List, map}
 use Rattle.dv_change.specs.Changes.{Positioned}
 use Rattle.dv_pipe.specs.declared.stage.Stage.{Stage}
-use Rattle.dv_pipe.specs.Sources.{Row}
 use Rattle.dv_views.specs.Placed.{ListPlaces, lookups_of}
-use Rattle.dv_views.specs.declared.state.ViewState.TheVariants as states
+use Rattle.dv_views.specs.declared.stage_operator.StageOperator.{StageOperator}
 
 -- the inputs that a view has taken in: the rows of its source, and the rows of each list that its stages read, in their order
 pub record Taken : Type 0 where
   pub left : Positioned
   pub named : List Positioned
 
--- what a live view stores: its inputs, its rows, and the ticks of its changes
+-- what a live view stores: its stages, each with what it needs of the inputs that it has taken in, the view's rows at their positions, and
+-- the ticks of its changes
 pub record Kept : Type 0 where
-  pub taken : Taken
-  pub rows : List Row
+  pub operators : List StageOperator
+  pub rows : Positioned
   pub ticks : ℕ
 
 -- whether a view is live and stores its rows, or is stale and stores nothing, since memory ran out for it or for a view that it reads

@@ -17,7 +17,7 @@ ghost use Rattle.dv_views.specs.Inner.ById.{AreAtIds, AreById};
 
 use crate::places::place_of;
 use crate::stage_operator::StageOperator;
-use dv_change::{LiveRows, Pos};
+use dv_change::{Pos, ToldRows};
 use dv_order::{Key, key_of};
 use dv_value::{Bytes, Document, List, NoMemory, Value};
 use std::alloc::Global;
@@ -31,7 +31,7 @@ use std::ops::Bound;
 pub struct Standing<'a> {
     alloc: Global,
     base: &'a str,
-    live: &'a LiveRows<StageOperator>,
+    live: &'a ToldRows<StageOperator>,
 }
 
 impl<'a> Model for Standing<'a> {
@@ -52,7 +52,7 @@ impl<'a> Model for Standing<'a> {
 
 impl<'a> Standing<'a> {
     /// Rows that are kept by changes, and their base.
-    pub(crate) fn of(alloc: Global, base: &'a str, live: &'a LiveRows<StageOperator>) -> Self
+    pub(crate) fn of(alloc: Global, base: &'a str, live: &'a ToldRows<StageOperator>) -> Self
         requires { IsPositioned live.now.rows.entries }
         ensures { result ≡ (base.now, live.now.rows.entries) }
     {
@@ -83,7 +83,7 @@ impl<'a> Standing<'a> {
 #[derive(Drop)]
 pub struct RowsById<'a> {
     alloc: Global,
-    live: &'a LiveRows<StageOperator>,
+    live: &'a ToldRows<StageOperator>,
 }
 
 impl<'a> Model for RowsById<'a> {
@@ -109,6 +109,13 @@ impl<'a> RowsById<'a> {
         ensures ascending { IsAscending self.now }
     {
         self.live.len()
+    }
+
+    /// That the rows ascend by their `_id`s. Does nothing.
+    pub fn law_ascending(&self)
+        ensures { IsAscending self.now }
+    {
+        let _live = &self.live;
     }
 
     /// The rows whose `_id`s' keys are between two ends, in the order of their `_id`s. Fails with `NoMemory` when memory runs out.

@@ -2,7 +2,7 @@
 
 ghost use Rattle.std.specs.Prelude.{◌≡◌, ◌<◌, List, length, map};
 ghost use Rattle.std.specs.List.{AllByRecursion};
-ghost use Rattle.dv_change.specs.declared.change.Change.{Change};
+ghost use Rattle.dv_change.specs.declared.taking.Taken.{Taken};
 ghost use Rattle.dv_views.specs.Inner.Handing.{AreSilentBut, IsHandedOn, silenced};
 ghost use Rattle.dv_views.specs.Inner.Readers.{readers_of};
 ghost use Rattle.dv_views.specs.Inner.Seen.{AreSilent, entry_view};
@@ -10,7 +10,7 @@ ghost use Rattle.dv_views.specs.Inner.Views.{AreNamedApart, view_form};
 
 use crate::passing::{lose_at, take_at};
 use crate::view::View;
-use dv_change::Change;
+use dv_change::Taken;
 use indexmap::IndexMap;
 use std::alloc::Global;
 
@@ -20,15 +20,15 @@ pub(crate) fn take_each(
     views: &mut IndexMap<String, View>,
     places: &[usize],
     namespace: &str,
-    changes: &[Change],
+    all: &[Taken],
 )
     requires places { places.now ≡ readers_of namespace.now (map view_form (map entry_view views.old.entries)) }
     requires apart { AreNamedApart (map entry_view views.old.entries) }
     requires silent { AreSilent views.old.entries }
-    ensures { IsHandedOn namespace.now changes.now views.old.entries views.new.entries }
+    ensures { IsHandedOn namespace.now all.now views.old.entries views.new.entries }
 {
     'views: for place in places {
-        take_at(alloc, views, *place, namespace, changes);
+        take_at(alloc, views, *place, namespace, all);
     }
     fall_silent(views, places);
 }
@@ -43,7 +43,7 @@ pub(crate) fn lose_each(
     requires places { places.now ≡ readers_of namespace.now (map view_form (map entry_view views.old.entries)) }
     requires apart { AreNamedApart (map entry_view views.old.entries) }
     requires silent { AreSilent views.old.entries }
-    ensures { (changes : List Change) → IsHandedOn namespace.now changes views.old.entries views.new.entries }
+    ensures { (all : List Taken) → IsHandedOn namespace.now all views.old.entries views.new.entries }
 {
     'views: for place in places {
         lose_at(alloc, views, *place, namespace);

@@ -7,19 +7,20 @@ ghost use Rattle.dv_coll.specs.Collection.{HasId, IsAscending, found, id_key, in
 ghost use Rattle.dv_change.specs.declared.position.Part.TheVariants.{Up};
 ghost use Rattle.dv_change.specs.declared.change.Change.{Change};
 ghost use Rattle.dv_change.specs.declared.change.Change.TheVariants.{Put, Gone};
-ghost use Rattle.dv_change.specs.Changes.{forget};
+ghost use Rattle.dv_change.specs.Changes.{at, forget, with_change};
 ghost use Rattle.dv_change.specs.Inner.Changes.{HaveOneLength, IsPositioned};
 ghost use Rattle.dv_order.specs.Key.{KeyTree};
 ghost use Rattle.dv_pipe.specs.Sources.{Row};
 ghost use Rattle.dv_pipe.specs.Stages.{Lists, evaluated};
 ghost use Rattle.dv_pipe.specs.declared.stage.Stage.{Stage};
 ghost use Rattle.dv_views.specs.Changed.{documents_changed};
-ghost use Rattle.dv_views.specs.Inner.Changed.{AreMade, AreMadeInTurn};
+ghost use Rattle.dv_views.specs.Inner.Changed.{AreMade, AreMadeInTurn, IsMade};
+ghost use Rattle.dv_views.specs.Inner.Copies.{AreKeptRight, KeptViews};
 ghost use Rattle.dv_views.specs.Inner.Fault.{view_fault_number};
 ghost use Rattle.dv_views.specs.Inner.Examples.{over_lists, seven_views};
 ghost use Rattle.dv_views.specs.Flow.{nothing, shares};
 ghost use Rattle.dv_views.specs.Forms.{ViewForm, fault_of_new, height_over, heights, is_name_among, is_read_by, names_read, needed, outs_of, rows_over};
-ghost use Rattle.dv_views.specs.Placed.{ListPlaces, own_position};
+ghost use Rattle.dv_views.specs.Placed.{ListPlaces, own_position, positioned};
 ghost use Rattle.dv_views.specs.Inner.Views.{AreNamedApart, AreRight, Views, view_form, reads_name, rows_shown, views_without};
 ghost use Rattle.dv_views.specs.declared.fault.ViewFault.TheVariants.{Exists, LimitReached, NoMemory, ReadByView};
 
@@ -51,6 +52,16 @@ pub fn changes_follow_on()
     dv_order::laws::equal_keys_are_one();
 }
 
+/// What stands at the position of a key is the document that is found under it; and behind a change that a collection makes, its
+/// documents stand at their own positions.
+#[tactic(auto, using(crate::proofs::Made::found_at))]
+pub fn documents_stand_at_their_ids()
+    ensures found { (k : KeyTree) (ds : List Row) → at (Up k ∷ []) (positioned ds) ≡ found k ds }
+    ensures changed { (c : Change) (ds : List Row) → AllByRecursion HasId ds → IsMade c ds → with_change (positioned ds) c ≡ positioned (documents_changed (c ∷ []) ds) }
+{
+    dv_order::laws::equal_keys_are_one();
+}
+
 /// What stages make at positions are, without these, the rows of the pipeline from scratch, if each name that they read has the
 /// same rows with positions and without them. So what a live view keeps by changes is what it would have if it were recomputed.
 pub fn kept_rows_are_those_from_scratch()
@@ -71,6 +82,13 @@ pub fn what_is_not_read_does_not_matter()
     ensures { (views : Views) (lists others : Lists) → ((name : List ℕ) → reads_name views name ≡ true → lists name ≡ others name) → AreRight lists views → AreRight others views }
 {
     dv_pipe::laws::what_is_not_read_does_not_matter();
+}
+
+/// The same holds of views with the documents that are kept for them.
+pub fn what_is_not_read_is_not_kept()
+    ensures { (kept : KeptViews) (lists others : Lists) → ((name : List ℕ) → reads_name kept.views name ≡ true → lists name ≡ others name) → AreKeptRight lists kept → AreKeptRight others kept }
+{
+    what_is_not_read_does_not_matter();
 }
 
 /// Changes of what no view reads come to none, so they count no work.

@@ -1,28 +1,24 @@
 //! A change of what stands under a namespace, which views hand on in creation order.
 
-ghost use Rattle.std.specs.Prelude.{◌≡◌, ◌<◌, [], length, map, slice_get, is_some, Some, IfOk, IsTrue};
+ghost use Rattle.std.specs.Prelude.{◌≡◌, ◌<◌, ◌∷◌, [], length, map, slice_get, is_some, Some, IfOk, IsTrue};
 ghost use Rattle.std.specs.List.{AllByRecursion, list_any};
 ghost use Rattle.std.specs.Map.{values_of};
 ghost use Rattle.std.specs.Option.{option_map};
 ghost use Rattle.dv_views.specs.Inner.Body.{Body};
-ghost use Rattle.dv_views.specs.Flow as flow;
-ghost use Rattle.dv_views.specs.Flow.{arrivals, arriving_at_lists};
-ghost use Rattle.dv_views.specs.Forms.{names_read};
 ghost use Rattle.dv_views.specs.Inner.Ground.{IsLiveView};
-ghost use Rattle.dv_views.specs.Inner.Keeping.{IsSoundLive, Turns, lists_of_all};
+ghost use Rattle.dv_views.specs.Inner.Keeping.{IsSoundLive, kept_seen};
 ghost use Rattle.dv_views.specs.Inner.Older.{told_found, views_before};
 ghost use Rattle.dv_views.specs.Inner.Passing.{IsLostAt, IsTakenAt};
-ghost use Rattle.dv_views.specs.Placed as defined;
 ghost use Rattle.dv_views.specs.declared.passing.Left.TheVariants.{NoMemory};
 ghost use Rattle.dv_views.specs.Inner.Seen.{entry_view};
+ghost use Rattle.dv_views.specs.Inner.Turned.{Turns, comes_to, coming_to_lists, coming_under};
 ghost use Rattle.dv_views.specs.Inner.Views.{AreNamedApart, view_under};
 
 use crate::keeping::taken_in_told;
 use crate::older::older;
 use crate::stage_operator::StageOperator;
 use crate::view::View;
-use dv_change::{Change, Input, LiveRows};
-use dv_pipe::Pipeline;
+use dv_change::{Input, Taken, ToldRows};
 use dv_value::{NoMemory, Str};
 use indexmap::IndexMap;
 use std::alloc::{AllocError, Global};
@@ -51,31 +47,31 @@ pub(crate) struct Passing<'a> {
     pub(crate) views: &'a IndexMap<String, View>,
     pub(crate) place: usize,
     pub(crate) namespace: &'a str,
-    pub(crate) changes: &'a [Change],
+    pub(crate) all: &'a [Taken],
 }
 
 impl<'a> Passing<'a> {
     /// What is told under a name: nothing, where the change doesn't come there.
-    fn told(&self, name: &str) -> Option<&'a [Change]>
-        ensures { option_map (λ all. all.now) result ≡ told_found self.now.namespace.now self.now.changes.now self.now.place self.now.views.now.entries name.now }
+    fn told(&self, name: &str) -> Option<&'a [Taken]>
+        ensures { option_map (λ all. all.now) result ≡ told_found self.now.namespace.now self.now.all.now self.now.place self.now.views.now.entries name.now }
     {
         match older(self.views, self.place, name) {
             Some(view) => view.told(),
-            None if name == self.namespace => Some(self.changes),
+            None if name == self.namespace => Some(self.all),
             None => None,
         }
     }
 
     /// Whether the change comes to the name.
     fn comes_to(&self, name: &str) -> bool
-        ensures { result ≡ is_some (told_found self.now.namespace.now self.now.changes.now self.now.place self.now.views.now.entries name.now) }
+        ensures { result ≡ is_some (told_found self.now.namespace.now self.now.all.now self.now.place self.now.views.now.entries name.now) }
     {
         self.told(name).is_some()
     }
 
     /// Whether the change comes to one of these names.
     fn reaches(&self, names: &[Str]) -> bool
-        ensures { result ≡ list_any (λ name. is_some (told_found self.now.namespace.now self.now.changes.now self.now.place self.now.views.now.entries name)) names.now }
+        ensures { result ≡ list_any (λ name. is_some (told_found self.now.namespace.now self.now.all.now self.now.place self.now.views.now.entries name)) names.now }
     {
         'names: for name in names {
             if self.comes_to(name.as_str()) {
@@ -112,42 +108,42 @@ impl<'a> Passing<'a> {
     fn turned(
         &self,
         alloc: Global,
-        live: LiveRows<StageOperator>,
-        pipeline: &Pipeline,
+        live: ToldRows<StageOperator>,
         source: &str,
         lookups: &[Str],
-    ) -> Result<(LiveRows<StageOperator>, Vec<Change>), Left>
-        requires sound { IsSoundLive pipeline.now live }
-        requires lookups { lookups.now ≡ defined.lookups_of pipeline.now source.now }
-        ensures turns { IfOk result (λ r. Turns pipeline.now (arrivals pipeline.now source.now (told_found self.now.namespace.now self.now.changes.now self.now.place self.now.views.now.entries)) live [] r.0 r.1.items) }
-        ensures live { IfOk result (λ _. AllByRecursion (λ name. IsLiveView (view_under name (views_before self.now.place self.now.views.now.entries))) (names_read pipeline.now source.now)) }
+    ) -> Result<(ToldRows<StageOperator>, Vec<Taken>), Left>
+        requires { IsSoundLive live }
+        ensures sound { IfOk result (λ r. IsSoundLive r.0) }
+        ensures turns { let known = told_found self.now.namespace.now self.now.all.now self.now.place self.now.views.now.entries in
+            IfOk result (λ r. Turns (coming_under source.now lookups.now known) (kept_seen live) [] (kept_seen r.0) r.1.items) }
+        ensures live { IfOk result (λ _. AllByRecursion (λ name. IsLiveView (view_under name (views_before self.now.place self.now.views.now.entries))) (source.now ∷ lookups.now)) }
     {
         if !self.is_live(source) || !self.are_live(lookups) {
             return Err(Left::StaleBelow);
         }
         let mut told = Vec::new(alloc);
         let come = self.told(source);
-        let some = taken_in_told(live, pipeline, Input::Left, come, &mut told)?;
-        let rows = self.taken_by_lists(some, pipeline, lookups, &mut told)?;
+        let some = taken_in_told(live, Input::Left, come, &mut told)?;
+        let rows = self.taken_by_lists(some, lookups, &mut told)?;
         Ok((rows, told))
     }
 
     /// Takes in what comes to each list.
     fn taken_by_lists(
         &self,
-        live: LiveRows<StageOperator>,
-        pipeline: &Pipeline,
+        live: ToldRows<StageOperator>,
         lookups: &[Str],
-        told: &mut Vec<Change>,
-    ) -> Result<LiveRows<StageOperator>, NoMemory>
-        requires sound { IsSoundLive pipeline.now live }
-        requires count { length lookups.now ≡ lists_of_all pipeline.now }
-        ensures { IfOk result (λ after. Turns pipeline.now (arriving_at_lists 0 lookups.now (told_found self.now.namespace.now self.now.changes.now self.now.place self.now.views.now.entries)) live told.old.items after told.new.items) }
+        told: &mut Vec<Taken>,
+    ) -> Result<ToldRows<StageOperator>, NoMemory>
+        requires { IsSoundLive live }
+        ensures sound { IfOk result (λ after. IsSoundLive after) }
+        ensures turns { let known = told_found self.now.namespace.now self.now.all.now self.now.place self.now.views.now.entries in
+            IfOk result (λ after. Turns (coming_to_lists 0 lookups.now known) (kept_seen live) told.old.items (kept_seen after) told.new.items) }
     {
         let mut live = live;
         'lists: for (place, name) in lookups.iter().enumerate() {
             let come = self.told(name.as_str());
-            live = taken_in_told(live, pipeline, Input::Named(place), come, told)?;
+            live = taken_in_told(live, Input::Named(place), come, told)?;
         }
         Ok(live)
     }
@@ -160,13 +156,13 @@ pub(crate) fn take_at(
     views: &mut IndexMap<String, View>,
     place: usize,
     namespace: &str,
-    changes: &[Change],
+    all: &[Taken],
 )
     requires place { place < length views.old.entries }
     requires apart { AreNamedApart (map entry_view views.old.entries) }
-    ensures { IsTakenAt namespace.now changes.now place views.old.entries views.new.entries }
+    ensures { IsTakenAt namespace.now all.now place views.old.entries views.new.entries }
 {
-    if !is_reached(views, place, namespace, changes) {
+    if !is_reached(views, place, namespace, all) {
         views[place].leave();
         return;
     }
@@ -177,10 +173,10 @@ pub(crate) fn take_at(
         views,
         place,
         namespace,
-        changes,
+        all,
     };
     let view = &views[place];
-    let turned = passing.turned(alloc, live, view.pipeline(), view.source(), view.lookups());
+    let turned = passing.turned(alloc, live, view.source(), view.lookups());
     views[place].settle(turned);
 }
 
@@ -204,20 +200,15 @@ pub(crate) fn lose_at(
 }
 
 /// Whether the change comes to what the view at a place reads.
-fn is_reached(
-    views: &IndexMap<String, View>,
-    place: usize,
-    namespace: &str,
-    changes: &[Change],
-) -> bool
+fn is_reached(views: &IndexMap<String, View>, place: usize, namespace: &str, all: &[Taken]) -> bool
     requires { place < length views.now.entries }
-    ensures { (view : Body) → slice_get (values_of views.now.entries) place ≡ Some view → result ≡ flow.is_reached view.stages view.source (told_found namespace.now changes.now place views.now.entries) }
+    ensures { (view : Body) → slice_get (values_of views.now.entries) place ≡ Some view → result ≡ comes_to view.stages view.source (told_found namespace.now all.now place views.now.entries) }
 {
     let passing = Passing {
         views,
         place,
         namespace,
-        changes,
+        all,
     };
     let view = &views[place];
     passing.comes_to(view.source()) || passing.reaches(view.lookups())

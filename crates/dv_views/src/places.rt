@@ -1,53 +1,61 @@
 //! Changes of a collection's documents, each at its own position.
 
-ghost use Rattle.std.specs.Prelude.{◌≡◌, ◌∷◌, [], IfOk};
-ghost use Rattle.dv_change.specs.declared.change.Change.TheVariants.{Put, Gone};
+ghost use Rattle.std.specs.Prelude.{◌≡◌, ◌∷◌, [], None, Some, IfOk};
+ghost use Rattle.std.specs.Option.{option_map};
 ghost use Rattle.dv_change.specs.declared.position.Part.TheVariants.{Up};
-ghost use Rattle.dv_coll.specs.Collection.{HasId, id_key};
+ghost use Rattle.dv_coll.specs.Collection.{HasId};
 ghost use Rattle.dv_views.specs.Placed.{own_position};
 
-use dv_change::{Change, Part, Pos};
-use dv_order::{Key, key_of};
+use dv_change::{Part, Pos, Taken};
+use dv_coll::key_of_id;
+use dv_order::Key;
 use dv_value::{Document, NoMemory};
 use std::alloc::Global;
 
-/// The document, which is shared and begins with its `_id`, put at its own position. Fails with `NoMemory` when memory runs out.
-pub fn document_put(alloc: Global, document: &Document) -> Result<Change, NoMemory>
+/// The document, which is shared and begins with its `_id`, put at its own position, where `before` stood, if anything did. Fails
+/// with `NoMemory` when memory runs out.
+pub fn document_put(
+    alloc: Global,
+    before: Option<&Document>,
+    document: &Document,
+) -> Result<Taken, NoMemory>
     requires { HasId document.now }
-    ensures { IfOk result (λ change. change ≡ Put (own_position document.now) document.now) }
+    ensures { IfOk result (λ taken. taken ≡ record { pos = own_position document.now; old = option_map (λ d. d.now) before.entry; new = Some document.now }) }
 {
-    Ok(Change::Put {
-        pos: place_of(alloc, key_of_id(document)?)?,
-        row: document.try_clone()?,
+    Ok(Taken {
+        pos: position_of(alloc, document)?,
+        old: shared(before)?,
+        new: Some(document.try_clone()?),
     })
 }
 
-/// The document under the key gone. Fails with `NoMemory` when memory runs out.
-pub fn document_gone(alloc: Global, key: Key) -> Result<Change, NoMemory>
-    ensures { IfOk result (λ change. change ≡ Gone (Up key ∷ [])) }
+/// The document under the key gone, where `before` stood, if anything did. Fails with `NoMemory` when memory runs out.
+pub fn document_gone(alloc: Global, key: Key, before: Option<&Document>) -> Result<Taken, NoMemory>
+    ensures { IfOk result (λ taken. taken ≡ record { pos = Up key ∷ []; old = option_map (λ d. d.now) before.entry; new = None }) }
 {
-    Ok(Change::Gone {
+    Ok(Taken {
         pos: place_of(alloc, key)?,
+        old: shared(before)?,
+        new: None,
     })
 }
 
-/// The document, which begins with its `_id`, gone. Fails where memory is wanting.
-pub(crate) fn gone_of(alloc: Global, document: &Document) -> Result<Change, NoMemory>
-    requires { HasId document.now }
-    ensures { IfOk result (λ change. change ≡ Gone (own_position document.now)) }
+/// The document, where there is one, of its own, whose memory is shared.
+fn shared(document: Option<&Document>) -> Result<Option<Document>, NoMemory>
+    ensures { IfOk result (λ copy. copy ≡ option_map (λ d. d.now) document.entry) }
 {
-    document_gone(alloc, key_of_id(document)?)
+    match document {
+        Some(document) => Ok(Some(document.try_clone()?)),
+        None => Ok(None),
+    }
 }
 
-/// The key of the `_id` with which the document begins. Fails with `NoMemory` when memory runs out.
-pub fn key_of_id(document: &Document) -> Result<Key, NoMemory>
+/// The own position of the document, which begins with its `_id`.
+pub(crate) fn position_of(alloc: Global, document: &Document) -> Result<Pos, NoMemory>
     requires { HasId document.now }
-    ensures { IfOk result (λ key. key ≡ id_key document.now) }
+    ensures { IfOk result (λ pos. pos ≡ own_position document.now) }
 {
-    let Some((_, id)) = document.entry(0) else {
-        unreachable!()
-    };
-    key_of(id)
+    place_of(alloc, key_of_id(document)?)
 }
 
 /// The position under the key.

@@ -1,202 +1,113 @@
-//! The views by their names.
+//! Views whose registry knows what stands in the namespaces that they read.
 
-ghost use Rattle.std.specs.Prelude.{◌≡◌, ◌≢◌, ◌||◌, ◌<◌, [], false, true, length, map, slice_get, take, None, IfOk, OnOk, OnErr};
-ghost use Rattle.std.specs.List.{AllByRecursion, list_any};
+ghost use Rattle.std.specs.Prelude.{◌≡◌, ◌≢◌, [], false, length, map, slice_get, None, OnOk, OnErr};
+ghost use Rattle.std.specs.List.{AllByRecursion};
 ghost use Rattle.std.specs.Option.{option_copied, option_map};
 ghost use Rattle.dv_pipe.specs.Sources.{lists_of};
-ghost use Rattle.dv_pipe.specs.Stages.{Lists, is_read};
-ghost use Rattle.dv_views.specs.Changed.{with_changed};
-ghost use Rattle.dv_views.specs.Inner.Changed.{AreMade};
-ghost use Rattle.dv_views.specs.Inner.Counted.{AreCounted};
-ghost use Rattle.dv_views.specs.Flow.{shares, told_at};
+ghost use Rattle.dv_pipe.specs.Stages.{Lists};
+ghost use Rattle.dv_views.specs.Inner.Copies.{AreCopies, AreKeptRight, CountKeptWork, HaveTakenChange, StayKeptRight, StillHolds, needed_for};
 ghost use Rattle.dv_views.specs.Forms as forms;
-ghost use Rattle.dv_views.specs.Forms.{is_name_among, names_read};
-ghost use Rattle.dv_views.specs.Inner.Made.{AreAlike, IsAdded, IsCreated, IsNoStale, IsRefreshedAt};
-ghost use Rattle.dv_views.specs.Inner.Seen.{IsSoundRegistry, view_seen};
-ghost use Rattle.dv_views.specs.Inner.Turned.{HaveTaken};
-ghost use Rattle.dv_views.specs.Inner.Views.{AreInOrder, AreNamedApart, ArePartlyRefreshed, AreRefreshed, AreRight, IsRefusedFor, view_form, has_view, is_stale, reads_name, mark_rows, rows_shown, state_of_mark, mark_ticks, view_under, views_without};
+ghost use Rattle.dv_views.specs.Inner.Made.{IsCreated};
+ghost use Rattle.dv_views.specs.Inner.Views.{AreInOrder, AreNamedApart, ArePartlyRefreshed, AreRefreshed, AreRight, IsRefusedFor, has_view, mark_ticks, reads_name, rows_shown, state_of_mark, view_form, view_under, views_without};
 
-mod by_id;
-mod gone;
-
+use crate::copies::Copies;
 use crate::fault::ViewFault;
-use crate::handing::take_each;
 use crate::laws;
-use crate::lookups::{is_listed, lookups_of, names_read, push_names_read};
-use crate::making::{Ground, made};
-use crate::readers::Readers;
-use crate::rows::Rows;
+use crate::lookups::names_read;
+use crate::rows::ViewRows;
 use crate::state::ViewState;
-use crate::view::View;
+use crate::told_registry::ToldRegistry;
 use dv_change::Change;
 use dv_pipe::{Pipeline, Sources};
 use dv_value::{NoMemory, Str};
-use indexmap::IndexMap;
 use std::alloc::Global;
 use std::marker::Model;
 use std::slice::from_ref;
 
-/// How many views there are at most.
-const MOST_VIEWS: usize = 1000;
-
-/// How high a view stands at most: one over collections alone stands at 1, and another one higher than all that it reads.
-const MOST_HEIGHT: usize = 8;
-
-/// Views in creation order, each under a name of its own. A view is found by its name in constant time, and so are the views to
-/// which a change of a namespace comes.
+/// Views in creation order, for whoever doesn't know which document stood where a change is. It keeps the documents of each namespace
+/// that views read and that is no view: they are shared, and each takes an entry of a tree. Whoever does know it, as one who keeps
+/// the documents, takes a `ToldRegistry`, which needs no such entries.
 #[derive(Debug, Drop)]
 pub struct Registry {
     alloc: Global,
-    views: IndexMap<String, View>,
-    readers: Readers,
+    views: ToldRegistry,
+    copies: Copies,
 }
 
 impl Model for Registry {
-    ghost use Rattle.std.specs.Prelude.{map};
-    ghost use Rattle.dv_views.specs.Inner.Code.{coded_views};
-    ghost use Rattle.dv_views.specs.Inner.Views.{Views};
+    ghost use Rattle.dv_views.specs.Inner.CopiesCode.{coded_kept_views};
+    ghost use Rattle.dv_views.specs.Inner.Copies.{KeptViews};
 
-    ghost Value = { Views };
+    ghost Value = { KeptViews };
 
-    ghost coded = { coded_views };
+    ghost coded = { coded_kept_views };
 
-    ghost use Rattle.dv_views.specs.Inner.Readers.{listing_seen};
-    ghost use Rattle.dv_views.specs.Inner.Seen.{AreSoundEntries, entry_view};
-
-    ghost view = { λ r. map entry_view r.views.entries };
-
-    ghost invariant = { λ r. AreSoundEntries r.views.entries (listing_seen r.readers.lists.entries) };
+    ghost view = { λ r. record { views = r.views; copies = r.copies } };
 }
 
 impl Registry {
     /// No view. Memory for views will be allocated by `alloc`.
     pub fn new(alloc: Global) -> Self
-        ensures { result ≡ [] }
+        ensures views { result.views ≡ [] }
+        ensures copies { result.copies ≡ [] }
     {
         Registry {
             alloc,
-            views: IndexMap::new(alloc),
-            readers: Readers::new(alloc),
+            views: ToldRegistry::new(alloc),
+            copies: Copies::new(alloc),
         }
+    }
+
+    /// The views, of which all can be asked that a `ToldRegistry` answers.
+    pub fn views(&self) -> &ToldRegistry
+        ensures { result.now ≡ self.now.views }
+    {
+        &self.views
     }
 
     /// How many views there are.
     pub fn len(&self) -> usize
-        ensures count { result ≡ length self.now }
-        ensures named_apart { AreNamedApart self.now }
+        ensures count { result ≡ length self.now.views }
+        ensures named_apart { AreNamedApart self.now.views }
     {
         self.views.len()
     }
 
-    /// Whether a view has the name. Takes no memory.
-    pub fn has(&self, name: &str) -> bool
-        ensures { result ≡ has_view name.now self.now }
-    {
-        self.views.contains_key(name)
-    }
-
     /// The name of the view at a place in creation order, counted from 0, if there is one. Takes no memory.
     pub fn name(&self, place: usize) -> Option<&str>
-        ensures { option_copied result ≡ option_map (λ v. v.name) (slice_get self.now place) }
+        ensures { option_copied result ≡ option_map (λ v. v.name) (slice_get self.now.views place) }
     {
-        let (name, _) = self.views.get_index(place)?;
-        Some(name.as_str())
+        self.views.name(place)
     }
 
     /// Whether the view of this name has its rows. None if there is no such view. Takes no memory.
     pub fn state(&self, name: &str) -> Option<ViewState>
-        ensures { result ≡ option_map (λ v. state_of_mark v.mark) (view_under name.now self.now) }
+        ensures { result ≡ option_map (λ v. state_of_mark v.mark) (view_under name.now self.now.views) }
     {
-        let view = self.view(name)?;
-        Some(view.state())
-    }
-
-    /// Whether some view is stale. Takes no memory.
-    #[tactic(auto, using(crate::proofs::Entries::stale_seen))]
-    pub fn has_stale(&self) -> bool
-        ensures { result ≡ list_any (λ v. is_stale v.mark) self.now }
-    {
-        'views: for view in self.views.values() {
-            if view.is_stale() {
-                return true;
-            }
-        }
-        false
+        self.views.state(name)
     }
 
     /// The rows that the view of this name keeps, in order. None if there is no such view, or a stale one. Takes no memory.
-    pub fn rows(&self, name: &str) -> Option<Rows<'_>>
-        ensures { result ≡ rows_shown name.now self.now }
+    pub fn rows(&self, name: &str) -> Option<ViewRows<'_>>
+        ensures { result ≡ rows_shown name.now self.now.views }
     {
-        let view = self.view(name)?;
-        view.rows()
-    }
-
-    /// How many rows the view of this name keeps: none if it is stale. None if there is no such view. Takes no memory.
-    pub fn row_count(&self, name: &str) -> Option<usize>
-        ensures { result ≡ option_map (λ v. mark_rows v.mark) (view_under name.now self.now) }
-    {
-        let view = self.view(name)?;
-        Some(view.row_count())
+        self.views.rows(name)
     }
 
     /// The count of the work that changes of what it reads took since the view of this name was made: for each stage, 1 for each
     /// change that it took in, and 1 for each that it returned. It stays at 9,223,372,036,854,775,807, and is 0 if the view is
     /// stale. None if there is no such view. Takes no memory.
     pub fn ticks(&self, name: &str) -> Option<u64>
-        ensures { result ≡ option_map (λ v. mark_ticks v.mark) (view_under name.now self.now) }
+        ensures { result ≡ option_map (λ v. mark_ticks v.mark) (view_under name.now self.now.views) }
     {
-        let view = self.view(name)?;
-        Some(view.ticks())
-    }
-
-    /// The view of this name, where there is one.
-    fn view(&self, name: &str) -> Option<&View>
-        ensures { option_map (λ view. view_seen name.now view.now) result ≡ view_under name.now self.now }
-    {
-        self.views.get(name)
+        self.views.ticks(name)
     }
 
     /// Whether some view reads the namespace. Takes no memory.
     pub fn is_read(&self, namespace: &str) -> bool
-        ensures { result ≡ reads_name self.now namespace.now }
+        ensures { result ≡ reads_name self.now.views namespace.now }
     {
-        !self.readers.under(namespace).is_empty()
-    }
-
-    /// The names that are needed for these: these, and after them what each view that is needed reads. Fails with `NoMemory` when
-    /// memory runs out.
-    pub fn needed(&self, names: Vec<Str>) -> Result<Vec<Str>, NoMemory>
-        ensures needed { IfOk result (λ all. all.items ≡ forms.needed (map view_form self.now) names.items) }
-        ensures closed { IfOk result (λ all. forms.IsClosed all.items (map view_form self.now)) }
-    {
-        let mut needed = names;
-        let mut place = self.views.len();
-        'views: while place > 0 {
-            place -= 1;
-            if let Some((name, view)) = self.views.get_index(place) {
-                if is_listed(&needed, name.as_str()) {
-                    push_names_read(&mut needed, view)?;
-                }
-            }
-        }
-        Ok(needed)
-    }
-
-    /// Why there can be no such view, if there is a reason other than memory: the first that holds. Takes no memory.
-    fn fault_of_new(&self, name: &str, source: &str, pipeline: &Pipeline) -> Option<ViewFault>
-        ensures { result ≡ forms.fault_of_new (map view_form self.now) name.now source.now pipeline.now }
-    {
-        if self.has(name) {
-            return Some(ViewFault::Exists);
-        }
-        if self.is_read(name) || pipeline.reads(source, name) {
-            return Some(ViewFault::ReadByView);
-        }
-        if self.len() < MOST_VIEWS && self.height_over(source, pipeline) <= MOST_HEIGHT {
-            return None;
-        }
-        Some(ViewFault::LimitReached)
+        self.views.is_read(namespace)
     }
 
     /// Adds a view after the others, with the rows that its pipeline returns over what it reads: views, of which the stale ones
@@ -210,167 +121,112 @@ impl Registry {
         pipeline: Pipeline,
         sources: &Sources<'_>,
     ) -> Result<(), ViewFault>
-        requires { AllByRecursion (λ n. AreInOrder (lists_of sources.now n)) (forms.needed (map view_form self.old) (names_read pipeline source.now)) }
-        ensures fault { IsRefusedFor (forms.fault_of_new (map view_form self.old) name.now source.now pipeline) result }
-        ensures refused { forms.fault_of_new (map view_form self.old) name.now source.now pipeline ≢ None → self.new ≡ self.old }
-        ensures ok { OnOk result (IsCreated name.now source.now pipeline self.old self.new) }
-        ensures err { OnErr result (ArePartlyRefreshed (forms.needed (map view_form self.old) (names_read pipeline source.now)) self.old self.new) }
-        ensures right { (lists : Lists) → AreAlike (forms.needed (map view_form self.old) (names_read pipeline source.now)) (lists_of sources.now) lists → AreRight lists self.old → AreRight lists self.new }
+        requires { AllByRecursion (λ n. AreInOrder (lists_of sources.now n)) (needed_for self.old.views pipeline source.now) }
+        ensures fault { IsRefusedFor (forms.fault_of_new (map view_form self.old.views) name.now source.now pipeline) result }
+        ensures refused { forms.fault_of_new (map view_form self.old.views) name.now source.now pipeline ≢ None → self.new ≡ self.old }
+        ensures ok { OnOk result (IsCreated name.now source.now pipeline self.old.views self.new.views) }
+        ensures err { OnErr result (ArePartlyRefreshed (needed_for self.old.views pipeline source.now) self.old.views self.new.views) }
+        ensures right { StillHolds AreKeptRight (needed_for self.old.views pipeline source.now) (lists_of sources.now) self.old self.new }
     {
-        if let Some(fault) = self.fault_of_new(name, source, &pipeline) {
+        if let Some(fault) = self.views.fault_of_new(name, source, &pipeline) {
             return Err(fault);
         }
-        let names = names_read(self.alloc, source, &pipeline)?;
-        let needed = self.needed(names)?;
-        self.refresh(&needed, sources)?;
-        Ok(self.add(name, source, pipeline, sources)?)
+        let created = self.keep_and_create(name, source, pipeline, sources);
+        self.copies.keep_read(&self.views);
+        created
     }
 
-    /// Adds a view under a new name behind the others, none of which that it reads is stale. Fails where memory is wanting;
-    /// then nothing is changed.
-    fn add(
+    /// Adds a view for which there is no fault but want of memory, where what it needs is kept first.
+    fn keep_and_create(
         &mut self,
         name: &str,
         source: &str,
         pipeline: Pipeline,
         sources: &Sources<'_>,
-    ) -> Result<(), NoMemory>
-        requires new { has_view name.now self.old ≡ false }
-        requires unread { (forms.is_read_by (map view_form self.old) name.now || is_read pipeline source.now name.now) ≡ false }
-        requires read { AllByRecursion (λ n. AreInOrder (lists_of sources.now n)) (names_read pipeline source.now) }
-        requires live { AllByRecursion (λ n. IsNoStale (view_under n self.old)) (names_read pipeline source.now) }
-        ensures ok { OnOk result (IsAdded name.now source.now pipeline self.old self.new) }
-        ensures err { OnErr result (self.new ≡ self.old) }
-        ensures right { (lists : Lists) → AreAlike (names_read pipeline source.now) (lists_of sources.now) lists → AreRight lists self.old → AreRight lists self.new }
+    ) -> Result<(), ViewFault>
+        requires read { AllByRecursion (λ n. AreInOrder (lists_of sources.now n)) (needed_for self.old.views pipeline source.now) }
+        requires new { forms.fault_of_new (map view_form self.old.views) name.now source.now pipeline ≡ None }
+        ensures fault { IsRefusedFor None result }
+        ensures ok { OnOk result (IsCreated name.now source.now pipeline self.old.views self.new.views) }
+        ensures err { OnErr result (ArePartlyRefreshed (needed_for self.old.views pipeline source.now) self.old.views self.new.views) }
+        ensures right { StillHolds AreRight (needed_for self.old.views pipeline source.now) (lists_of sources.now) self.old.views self.new.views }
+        ensures copies { StillHolds AreCopies (needed_for self.old.views pipeline source.now) (lists_of sources.now) self.old.copies self.new.copies }
     {
-        laws::kept_rows_are_those_from_scratch();
-        dv_pipe::laws::what_is_not_read_does_not_matter();
-        let height = self.height_over(source, &pipeline);
-        let lookups = lookups_of(self.alloc, source, pipeline.stages())?;
-        let ground = Ground {
-            views: &self.views,
-            place: self.views.len(),
-            sources,
-        };
-        let rows = made(self.alloc, &ground, &pipeline, source, &lookups)?;
-        let source = Str::of(String::from_str(self.alloc, source)?);
-        let view = View::new(source, pipeline, lookups, height, rows);
-        let readers = self.readers.with(self.alloc, &self.views, &view)?;
-        let name = String::from_str(self.alloc, name)?;
-        self.views.insert(name, view)?;
-        self.readers = readers;
-        Ok(())
+        let names = names_read(self.alloc, source, &pipeline)?;
+        let needed = self.views.needed(names)?;
+        self.copies
+            .keep_all(self.alloc, &needed, &self.views, sources)?;
+        self.views.create(name, source, pipeline, sources)
     }
 
     /// Takes out the view of this name, which none reads, and returns whether there was one. The others keep their order. Takes no
     /// memory.
     pub fn remove(&mut self, name: &str) -> bool
-        requires { reads_name self.old name.now ≡ false }
-        ensures there { result ≡ has_view name.now self.old }
-        ensures views { self.new ≡ views_without name.now self.old }
+        requires { reads_name self.old.views name.now ≡ false }
+        ensures there { result ≡ has_view name.now self.old.views }
+        ensures views { self.new.views ≡ views_without name.now self.old.views }
+        ensures right { (lists : Lists) → AreKeptRight lists self.old → AreKeptRight lists self.new }
     {
-        let Some((place, _, _)) = self.views.shift_remove_full(name) else {
-            return false;
-        };
-        self.readers.take_out(place);
-        true
+        laws::a_removed_view_leaves_views_right();
+        let there = self.views.remove(name);
+        self.copies.keep_read(&self.views);
+        there
     }
 
     /// Passes changes that were made to the documents under the namespace to the views that depend on it. Each change goes to each
     /// view in creation order before the next one. In a view it goes to the source first and then to each list that a stage looks
     /// into. What changes of a view's rows goes to the views that read it, one change after the other. A view counts the work that
     /// this takes. One that runs out of memory drops what it keeps and is stale, which takes none; so is each that reads a stale
-    /// one.
+    /// one. If memory runs out for the namespace's own documents, each view that the change comes to is stale.
     pub fn apply(&mut self, namespace: &str, changes: &[Change])
-        ensures forms { map view_form self.new ≡ map view_form self.old }
-        ensures right { (lists : Lists) → AreMade changes.now (lists namespace.now) → AreRight lists self.old → AreRight (with_changed namespace.now changes.now lists) self.new }
-        ensures counted { (lists : Lists) → AreMade changes.now (lists namespace.now) → AreRight lists self.old → AreCounted (shares namespace.now changes.now lists (map view_form self.old)) self.old self.new }
+        ensures forms { map view_form self.new.views ≡ map view_form self.old.views }
+        ensures right { StayKeptRight namespace.now changes.now self.old self.new }
+        ensures counted { CountKeptWork namespace.now changes.now self.old self.new }
     {
         laws::kept_rows_are_those_from_scratch();
         dv_pipe::laws::what_is_not_read_does_not_matter();
         dv_order::laws::equal_keys_are_one();
         'changes: for change in changes {
-            self.take(namespace, from_ref(change));
+            self.take(namespace, change);
         }
     }
 
     /// Hands a change on to each view to which it comes, in creation order.
-    fn take(&mut self, namespace: &str, change: &[Change])
-        ensures taken { HaveTaken (told_at namespace.now change.now) self.old self.new }
-        ensures sound { IsSoundRegistry self.new }
+    fn take(&mut self, namespace: &str, change: &Change)
+        ensures { HaveTakenChange namespace.now change.now self.old self.new }
     {
-        let places = self.readers.under(namespace);
-        take_each(self.alloc, &mut self.views, places, namespace, change);
+        match self.copies.take(namespace, change) {
+            Some(taken) => self.views.take(namespace, from_ref(&taken)),
+            None => self.views.lose(namespace),
+        }
     }
 
     /// Recomputes the stale views of these names, in creation order, over older views and `sources`, each in the order of its
     /// `_id`s. The names have to be such as `needed` returns: with each view those that it reads. Fails with `NoMemory` when memory
     /// runs out; then views that were recomputed before stay so.
     pub fn refresh(&mut self, names: &[Str], sources: &Sources<'_>) -> Result<(), NoMemory>
-        requires closed { forms.IsClosed names.now (map view_form self.old) }
+        requires closed { forms.IsClosed names.now (map view_form self.old.views) }
         requires read { AllByRecursion (λ n. AreInOrder (lists_of sources.now n)) names.now }
-        ensures ok { OnOk result (AreRefreshed names.now self.old self.new) }
-        ensures err { OnErr result (ArePartlyRefreshed names.now self.old self.new) }
-        ensures right { (lists : Lists) → AreAlike names.now (lists_of sources.now) lists → AreRight lists self.old → AreRight lists self.new }
+        ensures ok { OnOk result (AreRefreshed names.now self.old.views self.new.views) }
+        ensures err { OnErr result (ArePartlyRefreshed names.now self.old.views self.new.views) }
+        ensures right { StillHolds AreKeptRight names.now (lists_of sources.now) self.old self.new }
     {
-        'views: for place in 0..self.views.len() {
-            self.refresh_at(place, names, sources)?;
-        }
-        Ok(())
+        let refreshed = self.keep_and_refresh(names, sources);
+        self.copies.keep_read(&self.views);
+        refreshed
     }
 
-    /// Makes the view at a place anew, where it is stale and its name is one of these. Fails where memory is wanting; then
-    /// nothing is changed.
-    fn refresh_at(
-        &mut self,
-        place: usize,
-        names: &[Str],
-        sources: &Sources<'_>,
-    ) -> Result<(), NoMemory>
-        requires place { place < length self.old }
-        requires closed { forms.IsClosed names.now (map view_form self.old) }
+    /// The same, where what the names need is kept first.
+    fn keep_and_refresh(&mut self, names: &[Str], sources: &Sources<'_>) -> Result<(), NoMemory>
+        requires closed { forms.IsClosed names.now (map view_form self.old.views) }
         requires read { AllByRecursion (λ n. AreInOrder (lists_of sources.now n)) names.now }
-        requires fresh { AllByRecursion (λ v. is_name_among v.name names.now ≡ true → is_stale v.mark ≡ false) (take place self.old) }
-        ensures ok { OnOk result (IsRefreshedAt place names.now self.old self.new) }
-        ensures err { OnErr result (self.new ≡ self.old) }
-        ensures right { (lists : Lists) → AreAlike names.now (lists_of sources.now) lists → AreRight lists self.old → AreRight lists self.new }
+        ensures ok { OnOk result (AreRefreshed names.now self.old.views self.new.views) }
+        ensures err { OnErr result (ArePartlyRefreshed names.now self.old.views self.new.views) }
+        ensures right { StillHolds AreRight names.now (lists_of sources.now) self.old.views self.new.views }
+        ensures copies { StillHolds AreCopies names.now (lists_of sources.now) self.old.copies self.new.copies }
     {
-        laws::kept_rows_are_those_from_scratch();
-        dv_pipe::laws::what_is_not_read_does_not_matter();
-        let Some((name, view)) = self.views.get_index(place) else {
-            unreachable!()
-        };
-        if !view.is_stale() || !is_listed(names, name.as_str()) {
-            return Ok(());
-        }
-        let ground = Ground {
-            views: &self.views,
-            place,
-            sources,
-        };
-        let rows = made(
-            self.alloc,
-            &ground,
-            view.pipeline(),
-            view.source(),
-            view.lookups(),
-        )?;
-        let view = &mut self.views[place];
-        view.keep(rows);
-        Ok(())
-    }
-
-    /// How high a view of the pipeline over `source` would stand: one more than the highest view that it reads. Takes no
-    /// memory.
-    fn height_over(&self, source: &str, pipeline: &Pipeline) -> usize
-        ensures { result ≡ forms.height_over (forms.heights (map view_form self.now)) pipeline.now source.now }
-    {
-        let mut highest = 0;
-        'views: for (name, view) in &self.views {
-            if pipeline.reads(source, name.as_str()) {
-                highest = highest.max(view.height());
-            }
-        }
-        highest + 1
+        self.copies
+            .keep_all(self.alloc, names, &self.views, sources)?;
+        self.views.refresh(names, sources)
     }
 }

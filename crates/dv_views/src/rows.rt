@@ -5,18 +5,18 @@ ghost use Rattle.std.specs.Iterator.{YieldsFirstRef, item_count};
 ghost use Rattle.dv_change.specs.Changes.{forget};
 
 use crate::stage_operator::StageOperator;
-use dv_change::{LiveRows, Pos};
+use dv_change::{Pos, ToldRows};
 use dv_value::Document;
 use std::collections::btree_map::Values;
 use std::marker::Model;
 
 /// Rows of a view that are still to come, in order.
 #[derive(Debug, Drop)]
-pub struct Rows<'a> {
+pub struct ViewRows<'a> {
     rows: Values<'a, Pos, Document>,
 }
 
-impl<'a> Model for Rows<'a> {
+impl<'a> Model for ViewRows<'a> {
     ghost use Rattle.std.specs.Prelude.{List};
     ghost use Rattle.dv_pipe.specs.Sources.{Row};
     ghost use Rattle.dv_views.specs.Inner.Code.{coded_view_rows};
@@ -28,16 +28,16 @@ impl<'a> Model for Rows<'a> {
     ghost view = { λ r. r.rows };
 }
 
-impl<'a> Rows<'a> {
+impl<'a> ViewRows<'a> {
     /// The rows that are kept by changes.
-    pub(crate) fn of_kept(live: &'a LiveRows<StageOperator>) -> Self
+    pub(crate) fn of_kept(live: &'a ToldRows<StageOperator>) -> Self
         ensures { result ≡ forget live.now.rows.entries }
     {
-        Rows { rows: live.rows() }
+        ViewRows { rows: live.rows() }
     }
 }
 
-impl<'a> Iterator for Rows<'a> {
+impl<'a> Iterator for ViewRows<'a> {
     type Item = &'a Document;
 
     ghost next_gives = { YieldsFirstRef (λ r. r) };

@@ -8,10 +8,10 @@ ghost use Rattle.dv_views.specs.Placed as defined;
 ghost use Rattle.dv_views.specs.Views.{live, stale};
 ghost use Rattle.dv_views.specs.Inner.Views.{is_stale, kept_rows, mark_rows, state_of_mark, mark_ticks};
 
-use crate::rows::Rows;
+use crate::rows::ViewRows;
 use crate::stage_operator::StageOperator;
 use crate::state::ViewState;
-use dv_change::{Change, LiveRows};
+use dv_change::{Taken, ToldRows};
 use dv_pipe::Pipeline;
 use dv_value::Str;
 use std::fmt;
@@ -29,14 +29,14 @@ pub(crate) struct View {
     height: usize,
     mark: Mark,
     /// Its own changes, where the change comes to it.
-    told: Option<Vec<Change>>,
+    told: Option<Vec<Taken>>,
 }
 
 /// What a view keeps.
 #[derive(Drop)]
 pub(crate) enum Mark {
     /// Its rows, kept by changes.
-    Live(LiveRows<StageOperator>),
+    Live(ToldRows<StageOperator>),
     /// Nothing, since its rows have to be made anew.
     Stale,
 }
@@ -72,10 +72,10 @@ impl View {
         pipeline: Pipeline,
         lookups: Vec<Str>,
         height: usize,
-        rows: LiveRows<StageOperator>,
+        rows: ToldRows<StageOperator>,
     ) -> Self
         requires lookups { lookups.items ≡ defined.lookups_of pipeline source }
-        requires sound { IsSoundLive pipeline rows }
+        requires sound { IsSoundLive rows }
         ensures { result ≡ record { source = source; stages = pipeline; height = height; mark = live (kept_seen rows); told = None } }
     {
         View {
@@ -141,11 +141,11 @@ impl View {
     }
 
     /// The rows that the view keeps.
-    pub(crate) fn rows(&self) -> Option<Rows<'_>>
+    pub(crate) fn rows(&self) -> Option<ViewRows<'_>>
         ensures { result ≡ kept_rows self.now.mark }
     {
         match &self.mark {
-            Mark::Live(live) => Some(Rows::of_kept(live)),
+            Mark::Live(live) => Some(ViewRows::of_kept(live)),
             Mark::Stale => None,
         }
     }
@@ -171,9 +171,9 @@ impl View {
     }
 
     /// Its rows, where they are kept by changes.
-    pub(crate) fn live(&self) -> Option<&LiveRows<StageOperator>>
+    pub(crate) fn live(&self) -> Option<&ToldRows<StageOperator>>
         ensures kept { IfSome result (λ rows. self.now.mark ≡ live (kept_seen rows.now)) }
-        ensures sound { IfSome result (λ rows. IsSoundLive self.now.stages rows.now) }
+        ensures sound { IfSome result (λ rows. IsSoundLive rows.now) }
         ensures none { is_none result ≡ is_stale self.now.mark }
     {
         match &self.mark {
@@ -183,7 +183,7 @@ impl View {
     }
 
     /// What it tells of the change that views hand on; none where the change doesn't come to it.
-    pub(crate) fn told(&self) -> Option<&[Change]>
+    pub(crate) fn told(&self) -> Option<&[Taken]>
         ensures { option_map (λ all. all.now) result ≡ self.now.told }
     {
         match &self.told {
@@ -201,11 +201,11 @@ impl View {
 
     /// Takes out the rows that are kept by changes, where they are, for a change that comes to the view: it is stale then, and
     /// tells of no change.
-    pub(crate) fn take_out(&mut self, nothing: Vec<Change>) -> Option<LiveRows<StageOperator>>
+    pub(crate) fn take_out(&mut self, nothing: Vec<Taken>) -> Option<ToldRows<StageOperator>>
         requires { nothing.items ≡ [] }
         ensures left { self.new ≡ record self.old { mark = stale; told = Some [] } }
         ensures kept { IfSome result (λ rows. self.old.mark ≡ live (kept_seen rows)) }
-        ensures sound { IfSome result (λ rows. IsSoundLive self.old.stages rows) }
+        ensures sound { IfSome result (λ rows. IsSoundLive rows) }
     {
         self.told = Some(nothing);
         match replace(&mut self.mark, Mark::Stale) {
@@ -217,9 +217,9 @@ impl View {
     /// Puts back the rows behind a change, and what is told of it, where all went well.
     pub(crate) fn settle<E: Drop>(
         &mut self,
-        turned: Result<(LiveRows<StageOperator>, Vec<Change>), E>,
+        turned: Result<(ToldRows<StageOperator>, Vec<Taken>), E>,
     )
-        requires { IfOk turned (λ r. IsSoundLive self.old.stages r.0) }
+        requires { IfOk turned (λ r. IsSoundLive r.0) }
         ensures live { IfOk turned (λ r. self.new ≡ record self.old { mark = live (kept_seen r.0); told = Some r.1.items }) }
         ensures left { IfErr turned (λ _. self.new ≡ self.old) }
     {
@@ -230,8 +230,8 @@ impl View {
     }
 
     /// Keeps these rows from now on.
-    pub(crate) fn keep(&mut self, rows: LiveRows<StageOperator>)
-        requires { IsSoundLive self.old.stages rows }
+    pub(crate) fn keep(&mut self, rows: ToldRows<StageOperator>)
+        requires { IsSoundLive rows }
         ensures { self.new ≡ record self.old { mark = live (kept_seen rows) } }
     {
         self.mark = Mark::Live(rows);

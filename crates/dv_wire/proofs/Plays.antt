@@ -11,7 +11,7 @@ use Rattle.dv_wire.specs.Schedule.{Run, World, FeedsAll, bytes_of, conversation_
 use Rattle.dv_wire.specs.Service.{IsSession}
 use Rattle.dv_wire.specs.Sound.{IsNumbered}
 use Rattle.dv_wire.proofs.Worlds.{conversation_of-with, opened_there}
-use Rattle.dv_wire.specs.Playing.{Happens, Plays, ComesInTwo}
+use Rattle.dv_wire.specs.Playing.{CutPiece, Happens, Plays, PlaysInTurn, ComesInTwo, events_of_session, said_of_session}
 use Rattle.dv_wire.proofs.Fronts.{GoOn}
 use Rattle.dv_wire.proofs.Cuts.{feeds_joined, feeds_all}
 
@@ -30,7 +30,7 @@ plays_joined old mid new (event ∷ first) second one two (said_first, others, b
     rw is (said_first, others ++ two, between, refl, here, plays_joined between mid new first second others two rest behind)
 
 pub plays_parted : (old new : World) (first second : List Event) (all : List Said) → Plays old (first ++ second) all new
-    → (one : List Said) × (two : List Said) × (mid : World) × (all ≡ one ++ two) × Plays old first one mid × Plays mid second two new
+    → PlaysInTurn old first second all new
 plays_parted old new [] second all plays = ([], all, old, refl, (refl, refl), plays)
 plays_parted old new (event ∷ first) second all (said_first, others, between, is, here, rest) =
     let (one, two, mid, both, before, behind) = plays_parted between new first second others rest in
@@ -43,9 +43,22 @@ plays_more old mid new events all event last plays happens = plays_joined old mi
 -- ---- a piece as two
 
 module _ (go_on : GoOn) (session : SessionId) (piece more : List ℕ) (after : List Event) (told : Fed) (behind : List Said) where
+  abbrev cut_at : List Event → List Said → List ℕ → CutPiece
+  cut_at before answers bytes = record {
+    before = before;
+    session = session;
+    piece = piece;
+    more = more;
+    after = after;
+    answers = answers;
+    told = told;
+    bytes = bytes;
+    behind = behind;
+  }
+
   pub in_two : (old new : World) (before : List Event) (answers : List Said) (bytes : List ℕ) → length before ≡ length answers
       → Plays old (before ++ events.Piece session (piece ++ more) ∷ after) (answers ++ said.Fed told bytes ∷ behind) new
-      → ComesInTwo old before session piece more after answers told bytes behind new
+      → ComesInTwo old (cut_at before answers bytes) new
   in_two old new [] [] bytes same (first, others, mid, is, here, rest) =
       let whole : said.Fed told bytes ≡ first = cc in
       let all : behind ≡ others = cc in
@@ -73,7 +86,7 @@ module _ (go_on : GoOn) (session : SessionId) (piece more : List ℕ) (after : L
       (one, two, told_first, both, (answer, _, mid, refl, subst (λ (s : Said). Happens old event s mid) (sym head) here, plays))
 
   pub as_one : (old new : World) (before : List Event) (answers : List Said) (bytes : List ℕ) → length before ≡ length answers
-      → ComesInTwo old before session piece more after answers told bytes behind new
+      → ComesInTwo old (cut_at before answers bytes) new
       → Plays old (before ++ events.Piece session (piece ++ more) ∷ after) (answers ++ said.Fed told bytes ∷ behind) new
   as_one old new [] [] bytes same (one, two, told_first, both, (first, others, mid, is, here, (second, others', mid', is', here', rest))) =
       let first_is : said.Fed told_first one ≡ first = cc in
@@ -95,8 +108,7 @@ module _ (go_on : GoOn) (session : SessionId) (piece more : List ℕ) (after : L
 -- ---- a whole session
 
 pub session_plays : (old new : World) (bytes : List ℕ) (run : Run) → IsNumbered old → (whole : IsSession old bytes run new)
-    → Plays old (events.Open ∷ events.Piece whole.session bytes ∷ events.End whole.session ∷ [])
-    (said.Opened (Ok whole.session) ∷ said.Fed (fed_of run.conversation) (bytes_of run) ∷ said.Ended (unfinished_in (Some run.conversation)) ∷ []) new
+    → Plays old (events_of_session whole.session bytes) (said_of_session whole.session run) new
 session_plays old new bytes run numbered whole =
     let n = whole.session.number in
     let there = (opened_there old whole.begun whole.session numbered whole.opened).1 in

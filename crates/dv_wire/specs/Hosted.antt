@@ -1,6 +1,6 @@
 -- The sessions of a hub as those of many connections at once: what happens to them is a schedule.
 use Rattle.std.specs.Prelude.{◌≡◌, ℕ, List, [], ◌∷◌, Option, Some, None, Ok, Err}
-use Rattle.dv_host.specs.Schedule.{Step, opened, fed, ended}
+use Rattle.dv_host.specs.Schedule.{HappensBy, PlaysBy, Step, opened, fed, ended, answers as answers_of}
 use Rattle.dv_host.specs.declared.sessions.Fed as host
 use Rattle.dv_host.specs.declared.sessions.Fed.TheVariants as host_told
 use Rattle.dv_message.specs.Fault.{close_number}
@@ -10,6 +10,9 @@ use Rattle.dv_wire.specs.declared.fault.HubFault.{HubFault}
 use Rattle.dv_wire.specs.declared.hub.Fed.{Fed}
 use Rattle.dv_wire.specs.declared.hub.Fed.TheVariants as told
 use Rattle.dv_wire.specs.declared.hub.SessionId.{SessionId}
+use Rattle.dv_wire.specs.declared.events.Said.{Said}
+use Rattle.dv_wire.specs.Order.{answers}
+use Rattle.dv_wire.specs.Playing.{Plays}
 use Rattle.dv_wire.specs.Schedule.{World, Opens, Feeds, end}
 
 -- the session with this number
@@ -45,3 +48,12 @@ event_of (ended session) = events.End (id session)
 abbrev pub events_of : List Step → List Event
 events_of [] = []
 events_of (step ∷ steps) = event_of step ∷ events_of steps
+
+-- these steps happen to the sessions of a hub, one after the other
+abbrev pub PlaysSteps : World → List Step → World → Type 0
+PlaysSteps = PlaysBy (HappensBy OpensAs FeedsAs EndsAs)
+
+-- the steps are a schedule of events that leads to the new world, and gives the same replies to each session
+abbrev pub AreSchedule : World → List Step → World → Type 0
+AreSchedule old steps new =
+    (all : List Said) × Plays old (events_of steps) all new × ((session : ℕ) → answers session (events_of steps) all ≡ answers_of session steps)

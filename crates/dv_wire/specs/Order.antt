@@ -1,5 +1,5 @@
 -- The order in which the messages of a schedule take effect, and a schedule in which memory never runs out.
-use Rattle.std.specs.Prelude.{ℕ, suc, Bool, ◌&&◌, List, [], ◌∷◌, ◌++◌, length, map, Option, Some, None, Ok, Err, nat_lt, ◌==◌, if◌then◌else◌, ⊤}
+use Rattle.std.specs.Prelude.{◌≡◌, ℕ, suc, Bool, ◌&&◌, List, [], ◌∷◌, ◌++◌, length, map, Option, Some, None, Ok, Err, nat_lt, ◌==◌, if◌then◌else◌, ⊤}
 use Rattle.std.specs.List.{AllByRecursion}
 use Rattle.dv_command.specs.declared.command.Command.{Command}
 use Rattle.dv_core.specs.State.{State}
@@ -48,6 +48,10 @@ order next sessions (events.Open ∷ later) = opens ∷ (if is_room next session
 order next sessions (events.Piece session piece ∷ later) =
     moments_heard session.number sessions (heard piece (conversation_of session.number sessions)) (λ ss. order next ss later)
 order next sessions (events.End session ∷ later) = ends session.number ∷ order next (sessions_but session.number sessions) later
+
+-- the moments of a schedule in order, from this world on
+abbrev pub order_of : World → List Event → List Moment
+order_of world all = order world.next world.sessions all
 
 -- the command of a message has this property; other moments have none
 abbrev pub OfCommand : (Command → Type 0) → Moment → Type 0
@@ -126,3 +130,27 @@ abbrev pub answers : ℕ → List Event → List Said → List ℕ
 answers session [] all = []
 answers session (event ∷ later) [] = []
 answers session (event ∷ later) (first ∷ others) = replies_in session event first ++ answers session later others
+
+-- ---- a schedule, and the one in which memory never runs out
+
+-- this is reported and left by the schedule in which memory never runs out
+abbrev pub IsPlain : World → List Event → List Said → World → Type 0
+IsPlain old all told new = (told ≡ (plain_play old all).said) × (new ≡ (plain_play old all).world)
+
+-- both schedules leave the same state and give the same replies to each session, if memory never runs out
+abbrev pub ComeToSame : World → List Event → List Event → Type 0
+ComeToSame world one two =
+    ((plain_play world one).world.state ≡ (plain_play world two).world.state)
+    × ((session : ℕ) → answers session one (plain_play world one).said ≡ answers session two (plain_play world two).said)
+
+-- the state after a schedule, if its moments are taken one after the other
+abbrev pub state_in_order : World → List Event → State
+state_in_order world all = state_left world.state (order_of world all)
+
+-- the replies to each session are those of the moments that are taken one after the other
+abbrev pub RepliesInOrder : World → List Event → List Said → Type 0
+RepliesInOrder world all told = (session : ℕ) → answers session all told ≡ replies_behind session world.state (order_of world all)
+
+-- the state and the replies to each session are those of the moments that are taken one after the other
+abbrev pub IsInOrder : World → List Event → List Said → State → Type 0
+IsInOrder world all told state = (state ≡ state_in_order world all) × RepliesInOrder world all told

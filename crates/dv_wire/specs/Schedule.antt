@@ -3,6 +3,7 @@ use Rattle.std.specs.Prelude.{◌≡◌, ℕ, suc, ◌≤◌, ◌<◌, ◌^◌, 
 use Rattle.std.specs.List.{concat}
 use Rattle.dv_value.specs.Tree.{Field}
 use Rattle.dv_value.specs.Spelling.{spelling}
+use Rattle.dv_message.specs.declared.fault.CloseFault.{CloseFault}
 use Rattle.dv_message.specs.declared.fault.CloseFault.TheVariants.{NoMemory}
 use Rattle.dv_wire.specs.declared.fault.HubFault.{HubFault}
 use Rattle.dv_wire.specs.declared.fault.HubFault.TheVariants as hub_faults
@@ -15,8 +16,9 @@ use Rattle.dv_wire.specs.declared.hub.Fed.TheVariants as fed
 use Rattle.dv_message.specs.Sections.{body, section_spelling}
 use Rattle.dv_message.specs.Message.{Message, front_length, message_spelling, Conversation, reading, closed, Split, split}
 use Rattle.dv_message.specs.Commands.{command_of}
-use Rattle.dv_core.specs.State.{State}
-use Rattle.dv_core.specs.Step.{Answer, MemoryStep, counted_step, end_session}
+use Rattle.dv_catalog.specs.Marks.{Marks}
+use Rattle.dv_core.specs.State.{State, standing}
+use Rattle.dv_core.specs.Step.{Answer, MemoryStep, counted_step, end_session, step}
 
 -- ---- the messages of a session, one after the other
 
@@ -77,6 +79,14 @@ CarriesOutBy Step session old (message ∷ messages) conversation run =
 abbrev pub CarriesOutMessages : ℕ → State → List Message → Conversation → Run → Type 0
 CarriesOutMessages = CarriesOutBy MemoryStep
 
+-- a message of a session is carried out, and the session goes on with these bytes of an unfinished message
+abbrev pub GoesOn : ℕ → State → Message → List ℕ → Run → Type 0
+GoesOn session old message kept run = CarriesOutMessages session old (message ∷ []) (reading kept) run × (run.conversation ≡ reading kept)
+
+-- the run in which the step of a message is done and nothing is sent for it, with these marks of the views
+abbrev pub done_unanswered : ℕ → State → Message → List ℕ → Marks → Run
+done_unanswered session old message kept marks = unanswered (standing marks (step old session (command_of message)).state) (reading kept)
+
 -- the run of a message with this answer, followed by the run of the other messages
 abbrev pub plain_behind : Message → Answer → (State → Run) → Run
 plain_behind message answer others = in_front (reply_bytes message answer.reply ∷ []) (others answer.state)
@@ -90,6 +100,10 @@ plain_messages session state (message ∷ messages) conversation =
 -- what the stream of a session leads to if memory never runs out
 abbrev pub plain_run : ℕ → State → Split → Run
 plain_run session state stream = plain_messages session state stream.messages stream.conversation
+
+-- what the bytes of a session lead to if memory never runs out
+abbrev pub plain_bytes : ℕ → State → List ℕ → Run
+plain_bytes session state bytes = plain_run session state (split bytes)
 
 -- what a session may do with a stream
 pub data TakesBy (Step : SessionSteps) (session : ℕ) (old : State) (stream : Split) (run : Run) : Type 0 where
@@ -127,6 +141,22 @@ world_of state = record { state = state; next = 0; sessions = [] }
 abbrev pub conversation_of : ℕ → List (ℕ × Conversation) → Option Conversation
 conversation_of session [] = None
 conversation_of session (s ∷ ss) = if s.0 == session then Some s.1 else conversation_of session ss
+
+-- no session has this number
+abbrev pub IsUnknown : ℕ → World → Type 0
+IsUnknown session world = conversation_of session world.sessions ≡ None
+
+-- the session with this number keeps these bytes of an unfinished message
+abbrev pub IsReading : ℕ → List ℕ → World → Type 0
+IsReading session kept world = conversation_of session world.sessions ≡ Some (reading kept)
+
+-- the session with this number was closed by this fault
+abbrev pub IsClosed : ℕ → CloseFault → World → Type 0
+IsClosed session fault world = conversation_of session world.sessions ≡ Some (closed fault)
+
+-- the session with this number has the same conversation in both worlds, or isn't there in either
+abbrev pub HasSameConversation : ℕ → World → World → Type 0
+HasSameConversation session old new = conversation_of session new.sessions ≡ conversation_of session old.sessions
 
 -- the sessions with this conversation for one of them
 abbrev pub with_conversation : ℕ → Conversation → List (ℕ × Conversation) → List (ℕ × Conversation)
@@ -186,6 +216,14 @@ FeedsBy Step old session piece bytes told new = (answers : List (List ℕ)) × (
 abbrev pub Feeds : World → ℕ → List ℕ → List ℕ → Fed → World → Type 0
 Feeds = FeedsBy MemoryStep
 
+-- no bytes are sent, and only this is reported
+abbrev pub SaysOnly : Fed → List ℕ → Fed → Type 0
+SaysOnly told bytes answer = (bytes ≡ []) × (answer ≡ told)
+
+-- whatever piece of a session's bytes arrives, this holds of the bytes of all replies, of what is reported, and of the world after it
+abbrev pub EachPiece : World → ℕ → (List ℕ → Fed → World → Type 0) → Type 0
+EachPiece old session IsSo = (piece bytes : List ℕ) (answer : Fed) (new : World) → Feeds old session piece bytes answer new → IsSo bytes answer new
+
 -- pieces of a session's bytes arrive, one directly after the other: the bytes of all replies, and whether the session is still open at
 -- the end
 abbrev pub FeedsAllBy : SessionSteps → World → ℕ → List ℕ → List (List ℕ) → List ℕ → Fed → World → Type 0
@@ -203,6 +241,10 @@ FeedsAll = FeedsAllBy MemoryStep
 abbrev pub stream_of : List ℕ → List (List ℕ) → List ℕ
 stream_of piece [] = piece
 stream_of piece (next ∷ pieces) = piece ++ stream_of next pieces
+
+-- pieces of a session's bytes arrive, and what is answered and left is as this run says
+abbrev pub FeedsRun : World → ℕ → List ℕ → List (List ℕ) → Run → Type 0
+FeedsRun world session piece pieces run = FeedsAll world session piece pieces (bytes_of run) (fed_of run.conversation) (world_behind session run world)
 
 -- these bytes are appended to what was there
 abbrev pub Appends : List ℕ → List ℕ → (List ℕ → Type 0) → Type 0

@@ -1,6 +1,6 @@
 -- How it is reported that memory ran out: in a reply, in the bytes of replies, and in what is reported of an event.
 use Rattle.std.specs.Prelude.{◌≡◌, ℕ, ◌⊎◌, List, [], ◌∷◌, ◌++◌, map, Err}
-use Rattle.std.specs.List.{concat}
+use Rattle.std.specs.List.{AllByRecursion, concat}
 use Rattle.dv_value.specs.Spelling.{spelling}
 use Rattle.dv_value.specs.Tree.{Tree, Field}
 use Rattle.dv_command.specs.Replies.{cut_error, document_of, refusal_reply, update_reply, write_reply}
@@ -39,3 +39,7 @@ abbrev pub SaysWant : Said → Type 0
 SaysWant (said.Opened result) = result ≡ Err hub_faults.NoMemory
 SaysWant (said.Fed told bytes) = (told ≡ fed.Closed close_faults.NoMemory) ⊎ HoldsWant bytes
 SaysWant (said.Ended unfinished) = ⊥
+
+-- nothing that is reported says that memory ran out
+abbrev pub NoneSaysWant : List Said → Type 0
+NoneSaysWant told = AllByRecursion (λ s. SaysWant s → ⊥) told

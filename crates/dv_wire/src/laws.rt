@@ -1,14 +1,12 @@
 //! What holds of streams and of sessions, however their bytes come.
 
-ghost use Rattle.std.specs.Prelude.{◌≡◌, ◌≢◌, ◌↔◌, ℕ, suc, true, List, [], ◌∷◌, ◌++◌, Some, None, Result, Ok, Err, length};
-ghost use Rattle.std.specs.List.{AllByRecursion};
+ghost use Rattle.std.specs.Prelude.{◌≡◌, ◌≢◌, ◌↔◌, ℕ, suc, true, List, [], ◌++◌, Result, Ok, Err, length};
 ghost use Rattle.dv_value.specs.Spelling.{IsBytes};
 ghost use Rattle.dv_core.specs.Sound.{IsSound};
-ghost use Rattle.dv_core.specs.State.{State, standing};
-ghost use Rattle.dv_core.specs.Step.{step};
+ghost use Rattle.dv_core.specs.State.{State};
 ghost use Rattle.dv_wire.specs.Inner.Examples as examples;
-ghost use Rattle.dv_host.specs.Schedule.{Step, HappensBy, PlaysBy as PlaysBySteps, answers as answers_of};
-ghost use Rattle.dv_wire.specs.Hosted.{OpensAs, FeedsAs, EndsAs, events_of};
+ghost use Rattle.dv_host.specs.Schedule.{Step};
+ghost use Rattle.dv_wire.specs.Hosted.{AreSchedule, PlaysSteps};
 ghost use Rattle.dv_wire.specs.Sound.{IsNumbered, IsSoundWorld};
 ghost use Rattle.dv_message.specs.declared.fault.CloseFault.{CloseFault};
 ghost use Rattle.dv_wire.specs.declared.fault.HubFault.{HubFault};
@@ -16,17 +14,14 @@ ghost use Rattle.dv_wire.specs.declared.hub.Fed.{Fed};
 ghost use Rattle.dv_wire.specs.declared.hub.Fed.TheVariants as fed;
 ghost use Rattle.dv_wire.specs.declared.hub.SessionId.{SessionId};
 ghost use Rattle.dv_wire.specs.declared.events.Event.{Event};
-ghost use Rattle.dv_wire.specs.declared.events.Event.TheVariants as events;
 ghost use Rattle.dv_wire.specs.declared.events.Said.{Said};
-ghost use Rattle.dv_wire.specs.declared.events.Said.TheVariants as said;
 ghost use Rattle.dv_message.specs.Message as wire;
-ghost use Rattle.dv_wire.specs.Order.{OfCommands, answers, order, plain_play, replies_behind, state_left};
-ghost use Rattle.dv_wire.specs.Playing.{ComesInTwo, Plays, PlaysBy};
-ghost use Rattle.dv_message.specs.Commands.{command_of};
-ghost use Rattle.dv_wire.specs.Schedule.{Run, CarriesOutMessages, bytes_of, unanswered, World, world_of, conversation_of, Opens, Feeds, FeedsAll, end, fed_of, plain_run, stream_of, unfinished_in, world_behind};
+ghost use Rattle.dv_wire.specs.Order.{ComeToSame, IsInOrder, IsPlain, answers, order_of, plain_play, replies_behind, state_in_order};
+ghost use Rattle.dv_wire.specs.Playing.{ComesInTwo, ComesWhole, CutPiece, Plays, PlaysBy, PlaysInTurn, events_of_session, said_of_session};
+ghost use Rattle.dv_wire.specs.Schedule.{EachPiece, Feeds, FeedsAll, FeedsRun, GoesOn, HasSameConversation, IsClosed, IsReading, IsUnknown, Opens, Run, SaysOnly, World, done_unanswered, end, plain_bytes, stream_of, world_of};
 ghost use Rattle.dv_wire.specs.Service.{IsSession};
-ghost use Rattle.dv_wire.specs.Standing.{AreAllLive, AsksNoStats, LiveStep, world_standing};
-ghost use Rattle.dv_wire.specs.Wants.{SaysWant};
+ghost use Rattle.dv_wire.specs.Standing.{AreAllLive, IsInOrderButMarks, IsPlainButMarks, LiveStep, NoneAsksStats};
+ghost use Rattle.dv_wire.specs.Wants.{NoneSaysWant};
 
 pub use dv_message::laws::{
     bytes_bring_bytes, headers_by_example, messages_are_no_more_than_bytes, messages_are_spelled,
@@ -46,9 +41,7 @@ pub fn cuts_do_not_matter()
 /// left: the whole piece may answer what its two parts may answer one after the other, and what is said of the second part may be
 /// said of the whole.
 pub fn a_piece_may_come_in_two()
-    ensures { (old new : World) (before after : List Event) (session : SessionId) (piece more : List ℕ) (answers behind : List Said) (told : Fed) (bytes : List ℕ)
-        → length before ≡ length answers → Plays old (before ++ events.Piece session (piece ++ more) ∷ after) (answers ++ said.Fed told bytes ∷ behind) new
-        ↔ ComesInTwo old before session piece more after answers told bytes behind new }
+    ensures { (old new : World) (cut : CutPiece) → length cut.before ≡ length cut.answers → ComesWhole old cut new ↔ ComesInTwo old cut new }
 {
     splitting_goes_on();
 }
@@ -57,23 +50,20 @@ pub fn a_piece_may_come_in_two()
 /// one, and nothing else. So the calls that a program makes one after the other are one play of all their events.
 pub fn schedules_may_be_joined()
     ensures { (old new : World) (first second : List Event) (all : List Said)
-        → Plays old (first ++ second) all new
-        ↔ ((one : List Said) × (two : List Said) × (mid : World) × (all ≡ one ++ two) × Plays old first one mid × Plays mid second two new) }
+        → Plays old (first ++ second) all new ↔ PlaysInTurn old first second all new }
 {}
 
 /// What is done to a hub's sessions for many connections at once, step by step, is a schedule of events, which answers the same
 /// to each session. So what holds of schedules holds of it.
 pub fn steps_are_a_schedule()
-    ensures { (old new : World) (steps : List Step) → PlaysBySteps (HappensBy OpensAs FeedsAs EndsAs) old steps new
-        → (all : List Said) × Plays old (events_of steps) all new × ((session : ℕ) → answers session (events_of steps) all ≡ answers_of session steps) }
+    ensures { (old new : World) (steps : List Step) → PlaysSteps old steps new → AreSchedule old steps new }
 {}
 
 /// A whole session is a schedule: it is opened, its bytes come, and it ends. What is said of its bytes and of its end is
 /// what its messages come to.
 pub fn a_whole_session_is_a_schedule()
     ensures { (old new : World) (bytes : List ℕ) (run : Run) → IsNumbered old → (whole : IsSession old bytes run new)
-        → Plays old (events.Open ∷ events.Piece whole.session bytes ∷ events.End whole.session ∷ [])
-        (said.Opened (Ok whole.session) ∷ said.Fed (fed_of run.conversation) (bytes_of run) ∷ said.Ended (unfinished_in (Some run.conversation)) ∷ []) new }
+        → Plays old (events_of_session whole.session bytes) (said_of_session whole.session run) new }
 {}
 
 /// If memory never runs out, only the order counts in which sessions are opened and end and their messages become whole: the state
@@ -81,12 +71,10 @@ pub fn a_whole_session_is_a_schedule()
 /// the other, and ends the cursors of each session that ends. So two schedules of one order answer the same to each session and
 /// leave the same state, however their bytes are cut and interleaved. Such a run is one of those that are allowed.
 pub fn only_the_order_counts()
-    ensures state { (world : World) (all : List Event) → (plain_play world all).world.state ≡ state_left world.state (order world.next world.sessions all) }
+    ensures state { (world : World) (all : List Event) → (plain_play world all).world.state ≡ state_in_order world all }
     ensures answers { (session : ℕ) (world : World) (all : List Event)
-        → answers session all (plain_play world all).said ≡ replies_behind session world.state (order world.next world.sessions all) }
-    ensures equal { (world : World) (one two : List Event) → order world.next world.sessions one ≡ order world.next world.sessions two
-        → ((plain_play world one).world.state ≡ (plain_play world two).world.state)
-        × ((session : ℕ) → answers session one (plain_play world one).said ≡ answers session two (plain_play world two).said) }
+        → answers session all (plain_play world all).said ≡ replies_behind session world.state (order_of world all) }
+    ensures equal { (world : World) (one two : List Event) → order_of world one ≡ order_of world two → ComeToSame world one two }
     ensures allowed { (world : World) (all : List Event) → Plays world all (plain_play world all).said (plain_play world all).world }
 {
     dv_core::laws::the_counted_step_is_allowed();
@@ -97,11 +85,10 @@ pub fn only_the_order_counts()
 /// says, and nothing else, and the world that is left is the plain run's. So the state, and what is answered to each session, are
 /// those of the machine that takes one message after the other. The plain run itself is such a play, if views are live before it.
 pub fn a_play_without_want_of_memory_is_the_plain_one()
-    ensures plain { (old new : World) (all : List Event) (told : List Said) → PlaysBy LiveStep old all told new → AllByRecursion (λ s. SaysWant s → ⊥) told
-        → (told ≡ (plain_play old all).said) × (new ≡ (plain_play old all).world) }
-    ensures order { (old new : World) (all : List Event) (told : List Said) → PlaysBy LiveStep old all told new → AllByRecursion (λ s. SaysWant s → ⊥) told
-        → (new.state ≡ state_left old.state (order old.next old.sessions all))
-        × ((session : ℕ) → answers session all told ≡ replies_behind session old.state (order old.next old.sessions all)) }
+    ensures plain { (old new : World) (all : List Event) (told : List Said) → PlaysBy LiveStep old all told new → NoneSaysWant told
+        → IsPlain old all told new }
+    ensures order { (old new : World) (all : List Event) (told : List Said) → PlaysBy LiveStep old all told new → NoneSaysWant told
+        → IsInOrder old all told new.state }
     ensures such { (world : World) (all : List Event) → AreAllLive world.state.marks
         → PlaysBy LiveStep world all (plain_play world all).said (plain_play world all).world }
 {
@@ -112,21 +99,17 @@ pub fn a_play_without_want_of_memory_is_the_plain_one()
 /// if nothing that is said reports that memory ran out, and no message asks viewStats, then all is said that the plain run says,
 /// and nothing else, and the world that is left is the plain run's, except that views may be in other states.
 pub fn how_views_stand_matters_to_view_stats_alone()
-    ensures plain { (old new : World) (all : List Event) (told : List Said) → Plays old all told new → AllByRecursion (λ s. SaysWant s → ⊥) told
-        → OfCommands AsksNoStats (order old.next old.sessions all)
-        → (told ≡ (plain_play old all).said) × (new ≡ world_standing new.state.marks (plain_play old all).world) }
-    ensures order { (old new : World) (all : List Event) (told : List Said) → Plays old all told new → AllByRecursion (λ s. SaysWant s → ⊥) told
-        → OfCommands AsksNoStats (order old.next old.sessions all)
-        → (new.state ≡ standing new.state.marks (state_left old.state (order old.next old.sessions all)))
-        × ((session : ℕ) → answers session all told ≡ replies_behind session old.state (order old.next old.sessions all)) }
+    ensures plain { (old new : World) (all : List Event) (told : List Said) → Plays old all told new → NoneSaysWant told → NoneAsksStats old all
+        → IsPlainButMarks old all told new }
+    ensures order { (old new : World) (all : List Event) (told : List Said) → Plays old all told new → NoneSaysWant told → NoneAsksStats old all
+        → IsInOrderButMarks old all told new.state }
 {}
 
 /// The plain run is allowed: whatever the pieces are, an open session may answer what the steps of its messages answer, one after
 /// the other, without those that moreToCome leaves out, and its state may then be as its stream says.
 pub fn the_plain_run_is_allowed()
-    ensures { (world : World) (session : ℕ) (kept piece : List ℕ) (pieces : List (List ℕ)) → conversation_of session world.sessions ≡ Some (wire.reading kept)
-        → let run = plain_run session world.state (wire.split (kept ++ stream_of piece pieces)) in
-        FeedsAll world session piece pieces (bytes_of run) (fed_of run.conversation) (world_behind session run world) }
+    ensures { (world : World) (session : ℕ) (kept piece : List ℕ) (pieces : List (List ℕ)) → IsReading session kept world
+        → FeedsRun world session piece pieces (plain_bytes session world.state (kept ++ stream_of piece pieces)) }
 {
     splitting_goes_on();
     dv_core::laws::the_counted_step_is_allowed();
@@ -136,8 +119,7 @@ pub fn the_plain_run_is_allowed()
 /// and nothing is answered. The states of views after it are left open here, as memory may have run out for one.
 pub fn what_is_untold_is_done()
     ensures { (session : ℕ) (old : State) (message : wire.Message) (kept : List ℕ) (run : Run) → message.more_to_come ≡ true
-        → CarriesOutMessages session old (message ∷ []) (wire.reading kept) run → run.conversation ≡ wire.reading kept
-        → run ≡ unanswered (standing run.state.marks (step old session (command_of message)).state) (wire.reading kept) }
+        → GoesOn session old message kept run → run ≡ done_unanswered session old message kept run.state.marks }
 {}
 
 /// No number is used again: sessions ascend by their numbers, which are below the next one. So it is before the first session is
@@ -147,25 +129,23 @@ pub fn numbers_are_never_used_again()
     ensures opened { (old new : World) (session : SessionId) → IsNumbered old → Opens old (Ok session) new
         → IsNumbered new × (session.number ≡ old.next) × (new.next ≡ suc old.next) }
     ensures refused { (old new : World) (fault : HubFault) → Opens old (Err fault) new → new ≡ old }
-    ensures fed { (old new : World) (session : ℕ) (piece bytes : List ℕ) (answer : Fed) → IsNumbered old
-        → Feeds old session piece bytes answer new → IsNumbered new × (new.next ≡ old.next) }
+    ensures fed { (old : World) (session : ℕ) → IsNumbered old → EachPiece old session (λ bytes answer new. IsNumbered new × (new.next ≡ old.next)) }
     ensures ended { (old : World) (session : ℕ) → IsNumbered old → IsNumbered (end session old) × ((end session old).next ≡ old.next) }
 {}
 
 /// A session is there from when it is opened, without any bytes, until it ends.
 pub fn sessions_come_and_go()
     ensures opened { (old new : World) (session : SessionId) → IsNumbered old → Opens old (Ok session) new
-        → (conversation_of session.number old.sessions ≡ None) × (conversation_of session.number new.sessions ≡ Some (wire.reading [])) }
-    ensures ended { (old : World) (session : ℕ) → IsNumbered old → conversation_of session (end session old).sessions ≡ None }
+        → IsUnknown session.number old × IsReading session.number [] new }
+    ensures ended { (old : World) (session : ℕ) → IsNumbered old → IsUnknown session (end session old) }
 {}
 
 /// What happens to a session leaves the others as they are.
 pub fn sessions_keep_to_themselves()
     ensures opened { (old new : World) (session : SessionId) (other : ℕ) → Opens old (Ok session) new → session.number ≢ other
-        → conversation_of other new.sessions ≡ conversation_of other old.sessions }
-    ensures fed { (old new : World) (session other : ℕ) (piece bytes : List ℕ) (answer : Fed) → Feeds old session piece bytes answer new → session ≢ other
-        → conversation_of other new.sessions ≡ conversation_of other old.sessions }
-    ensures ended { (old : World) (session other : ℕ) → session ≢ other → conversation_of other (end session old).sessions ≡ conversation_of other old.sessions }
+        → HasSameConversation other old new }
+    ensures fed { (old : World) (session other : ℕ) → session ≢ other → EachPiece old session (λ bytes answer new. HasSameConversation other old new) }
+    ensures ended { (old : World) (session other : ℕ) → session ≢ other → HasSameConversation other old (end session old) }
 {}
 
 /// Documents change only when an open session takes its bytes: not when one is opened or ends, which leaves all except its cursors,
@@ -173,11 +153,10 @@ pub fn sessions_keep_to_themselves()
 pub fn only_open_sessions_change_documents()
     ensures opened { (old new : World) (result : Result SessionId HubFault) → Opens old result new → new.state ≡ old.state }
     ensures ended { (old : World) (session : ℕ) → (end session old).state.catalog ≡ old.state.catalog }
-    ensures closed { (old new : World) (session : ℕ) (piece bytes : List ℕ) (answer : Fed) (fault : CloseFault)
-        → conversation_of session old.sessions ≡ Some (wire.closed fault) → Feeds old session piece bytes answer new
-        → (bytes ≡ []) × (answer ≡ fed.Closed fault) × (new.state ≡ old.state) × (conversation_of session new.sessions ≡ Some (wire.closed fault)) }
-    ensures unknown { (old new : World) (session : ℕ) (piece bytes : List ℕ) (answer : Fed) → conversation_of session old.sessions ≡ None
-        → Feeds old session piece bytes answer new → (bytes ≡ []) × (answer ≡ fed.Unknown) × (new ≡ old) }
+    ensures closed { (old : World) (session : ℕ) (fault : CloseFault) → IsClosed session fault old → EachPiece old session (λ bytes answer new.
+        SaysOnly (fed.Closed fault) bytes answer × (new.state ≡ old.state) × IsClosed session fault new) }
+    ensures unknown { (old : World) (session : ℕ) → IsUnknown session old
+        → EachPiece old session (λ bytes answer new. SaysOnly fed.Unknown bytes answer × (new ≡ old)) }
 {}
 
 /// Worlds stay sound: so it is before the first session is opened, if the store is sound, and so after each event, as what

@@ -12,7 +12,7 @@ mod session;
 
 pub use dv_core::Store;
 pub use dv_message::CloseFault;
-pub use dv_streams::{ByteIn, ByteOut, Failed, give_all};
+pub use dv_streams::{ByteIn, ByteOut, Failed};
 pub use events::{Event, Said};
 pub use fault::{HubFault, RunFault};
 pub use hub::{Fed, Hub, SessionId};

@@ -1,5 +1,5 @@
 -- Parts of reading, as the reader takes them one by one.
-use Rattle.std.specs.Prelude.{◌≡◌, ℕ, suc, ◌+◌, ◌-◌, Bool, List, [], ◌∷◌, length, Option, Some, None, Result, Ok, Err, nat_lt, slice_get, if◌then◌else◌, decimal}
+use Rattle.std.specs.Prelude.{◌≡◌, ℕ, suc, ◌+◌, ◌-◌, Bool, false, List, [], ◌∷◌, length, Option, Some, None, Result, Ok, Err, nat_lt, slice_get, if◌then◌else◌, decimal}
 use Rattle.std.specs.Str.{is_utf8}
 use Rattle.dv_value.specs.declared.kind.Kind.{Kind}
 use Rattle.dv_value.specs.declared.fault.BsonFault.{BsonFault}
@@ -7,7 +7,7 @@ use Rattle.dv_value.specs.declared.fault.BsonFault.TheVariants.{Truncated, BadLe
 use Rattle.dv_bson.specs.declared.fault.ReadError.{ReadError}
 use Rattle.dv_bson.specs.declared.fault.ReadError.TheVariants as errors
 use Rattle.dv_value.specs.Tree.{Tree, Field}
-use Rattle.dv_bson.specs.Reading.{Fails, Gives, count_at, kind_at, cut_at_zero, name_at, value_at, Frame, frame_of, Inside}
+use Rattle.dv_bson.specs.Reading.{Fails, Gives, body_at, count_at, fields_at, kind_at, cut_at_zero, name_at, value_at, Frame, frame_of, Inside}
 use Rattle.dv_value.specs.Results.{◌>>=◌}
 
 -- a type, and the bytes behind its byte
@@ -39,10 +39,18 @@ field_at inside in_array at seen bytes = do
   name ← name_at in_array seen kind.1
   value_at inside kind.0 (at + (length bytes - length name.1)) name.1 >>= with_name name.0
 
+-- a document's next field, behind these, with at most this many levels inside it, and the bytes behind it
+abbrev pub field_in : ℕ → ℕ → List Field → List ℕ → Result (Field × List ℕ) BsonFault
+field_in levels at seen bytes = field_at (body_at levels) false at seen bytes
+
 -- the elements of an array with the names that it gives them, from i on
 abbrev pub numbered : ℕ → List Tree → List Field
 numbered i [] = []
 numbered i (v ∷ vs) = (decimal i, v) ∷ numbered (suc i) vs
+
+-- a document's fields from a place on, behind those that are read, with at most this many levels inside it
+abbrev pub fields_from : ℕ → ℕ → List Field → List ℕ → ℕ → Result (List Field) BsonFault
+fields_from levels at fields bytes last = fields_at (body_at levels) (length bytes) false at fields bytes last
 
 -- What a function returned is a part of what reading gives, and its fault is reading's first one, unless memory is wanting.
 abbrev pub GivesPart : {X Y Z : Type 0} → (X → Z) → (Y → Z) → Result X ReadError → Result Y BsonFault → Type 0

@@ -6,13 +6,13 @@ use Rattle.dv_refusal.specs.declared.refusal.Refusal.TheVariants.{NamespaceNotFo
 use Rattle.dv_value.specs.Results.{◌>>=◌}
 use Rattle.dv_keyed.specs.Index.{IndexForm}
 use Rattle.dv_catalog.specs.declared.explained.Explained.{Explained}
-use Rattle.dv_catalog.specs.declared.explained.Way.{Way}
-use Rattle.dv_catalog.specs.declared.explained.Way.TheVariants.{View, Index, All}
+use Rattle.dv_catalog.specs.declared.explained.Access.{Access}
+use Rattle.dv_catalog.specs.declared.explained.Access.TheVariants.{View, Index, All}
 use Rattle.dv_catalog.specs.declared.indexing.IndexCounts.{IndexCounts}
 use Rattle.dv_catalog.specs.IndexMaking as making
 use Rattle.dv_catalog.specs.State.{Collection, Namespaces, collection_of, indexes_of, is_collection, with_indexes}
 
-abbrev pub way_seen : Way → making.Way
+abbrev pub way_seen : Access → making.Way
 way_seen View = making.over_view
 way_seen (Index name) = making.by_index (string_bytes name)
 way_seen All = making.over_all

@@ -1,10 +1,10 @@
 -- What stands in memory for rows.
 use Rattle.std.specs.Prelude.{List, []}
 use Rattle.dv_value.specs.Tree.{Field}
-use Rattle.dv_catalog.specs.declared.rows.Origin.{Origin}
-use Rattle.dv_catalog.specs.declared.rows.Origin.TheVariants.{Nothing, Collection, View, Between}
+use Rattle.dv_catalog.specs.declared.rows.RowsOrigin.{RowsOrigin}
+use Rattle.dv_catalog.specs.declared.rows.RowsOrigin.TheVariants.{Nothing, Collection, View, Between}
 
-abbrev pub rows : Origin → List (List Field)
+abbrev pub rows : RowsOrigin → List (List Field)
 rows Nothing = []
 rows (Collection documents) = documents
 rows (View others) = others

@@ -22,7 +22,7 @@ module _ (P : List Field → Type 0) where
   all_drop (suc n) [] all = tt
   all_drop (suc n) (d ∷ ds) all = all_drop n ds all.1
 
-  all_take : (n : ℕ) (ds : List (List Field)) → AllByRecursion P ds → AllByRecursion P (take n ds)
+  pub all_take : (n : ℕ) (ds : List (List Field)) → AllByRecursion P ds → AllByRecursion P (take n ds)
   all_take zero [] all = tt
   all_take zero (d ∷ ds) all = tt
   all_take (suc n) [] all = tt
@@ -47,7 +47,7 @@ module _ (P : List Field → Type 0) where
   all_ordered before so_far [] placed_all all = placed_all
   all_ordered before so_far (x ∷ xs) placed_all all = all_ordered before (placed before x so_far) xs (all_placed before x so_far all.0 placed_all) all.1
 
-  all_stable : (parts : List Part) (ds : List (List Field)) → AllByRecursion P ds → AllByRecursion P (stable parts ds)
+  pub all_stable : (parts : List Part) (ds : List (List Field)) → AllByRecursion P ds → AllByRecursion P (stable parts ds)
   unfolding stable
   all_stable parts ds all = all_ordered (stands_before parts) [] ds tt all
 

@@ -1,10 +1,38 @@
 -- Of `Told`, what only bodies and proofs need.
-use Rattle.std.specs.Prelude.{◌≡◌, ◌⊎◌, ℕ, false, List, [], map}
-use Rattle.dv_change.specs.declared.change.Change as flow
+use Rattle.std.specs.Prelude.{◌≡◌, ◌⊎◌, ℕ, false, List, [], ◌∷◌, map, Option, None, Some}
+use Rattle.dv_value.specs.Tree.{Field}
+use Rattle.dv_change.specs.declared.position.Part.TheVariants.{Up}
+use Rattle.dv_change.specs.declared.taking.Taken as taking
+use Rattle.dv_change.specs.Inner.Told.{changes_told}
+use Rattle.dv_coll.specs.Collection.{found}
+use Rattle.dv_order.specs.Key.{KeyTree}
+use Rattle.dv_views.specs.Inner.Changed.{AreToldOf}
 use Rattle.dv_views.specs.Inner.Views as views
+use Rattle.dv_views.specs.Placed.{own_position, positioned}
+use Rattle.dv_catalog.specs.declared.effect.Updated.{Updated}
 use Rattle.dv_catalog.specs.Changes.{Change}
+use Rattle.dv_catalog.specs.Inner.EffectView.{after_of}
+use Rattle.dv_catalog.specs.State.{Collection}
 use Rattle.dv_catalog.specs.Told.{told}
 
--- changes of a namespace, told to views; or nothing is told, where no view reads the namespace
-abbrev pub AreTold : List ℕ → views.Views → List Change → List flow.Change → Type 0
-AreTold namespace registry changes tell = (tell ≡ map told changes) ⊎ ((tell ≡ []) × (views.reads_name registry namespace ≡ false))
+-- changes of documents, each told to views with the document that stood there
+pub record AreToldSo (documents : List (List Field)) (changes : List Change) (all : List taking.Taken) : Type 0 where
+  pub changes_are : changes_told all ≡ map told changes
+  pub olds : AreToldOf (positioned documents) all
+
+-- so are those of a namespace; or nothing is told, where no view reads it
+abbrev pub AreTold : List ℕ → views.Views → List (List Field) → List Change → List taking.Taken → Type 0
+AreTold namespace registry documents changes all = AreToldSo documents changes all ⊎ ((all ≡ []) × (views.reads_name registry namespace ≡ false))
+
+-- the documents of a collection, where there is one
+abbrev pub documents_in : Option Collection → List (List Field)
+documents_in None = []
+documents_in (Some c) = c.documents
+
+-- what comes in place of documents that are updated, each with what it was
+abbrev pub updates_told : List ℕ → List Updated → List taking.Taken
+updates_told name each = map (λ u. record { pos = own_position (after_of name u); old = Some u.before; new = Some (after_of name u) }) each
+
+-- the documents under keys go, each as it is
+abbrev pub gones_told : List (List Field) → List KeyTree → List taking.Taken
+gones_told documents keys = map (λ k. record { pos = Up k ∷ []; old = found k documents; new = None }) keys

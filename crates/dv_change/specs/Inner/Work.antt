@@ -1,11 +1,16 @@
 -- Of `Work`, what only bodies and proofs need.
 use Rattle.std.specs.Prelude.{ℕ, ◌+◌, ◌-◌, List, [], ◌∷◌, length, if◌then◌else◌, nat_lt, ◌<◌, ⊤}
+use Rattle.std.specs.List.{flat_map}
 use Rattle.dv_change.specs.declared.change.Change.{Change}
 use Rattle.dv_change.specs.declared.input.Input.{Input}
 use Rattle.dv_change.specs.declared.input.Input.TheVariants.{Left, Named}
 use Rattle.dv_change.specs.Changes.{Positioned}
 use Rattle.dv_change.specs.Inputs.{input_changed_at}
 use Rattle.dv_change.specs.Work.{Form, handed}
+
+-- the lists that stages look into, those of one stage behind those of the stages before it
+abbrev pub lists_of : List Form → List Positioned
+lists_of forms = flat_map (λ form. form.named) forms
 
 -- how many lists the stages look into
 abbrev pub named_in : List Form → ℕ

@@ -3,8 +3,8 @@ use Rattle.std.specs.Prelude.{Bool, true, false, List, [], ◌∷◌, ⊤}
 use Rattle.dv_value.specs.Tree.{Field}
 use Rattle.dv_value.specs.declared.value.Value.{Value}
 use Rattle.dv_value.specs.declared.value.Value.TheVariants.{Doc, Int32, Int64}
-use Rattle.dv_command.specs.declared.documents.Source.{Source}
-use Rattle.dv_command.specs.declared.documents.Source.TheVariants.{Array, Beside}
+use Rattle.dv_command.specs.declared.documents.DocumentPlace.{DocumentPlace}
+use Rattle.dv_command.specs.declared.documents.DocumentPlace.TheVariants.{Array, Beside}
 
 abbrev pub is_document : Value → Bool
 is_document (Doc d) = true
@@ -21,12 +21,12 @@ documents_seen (Doc d ∷ vs) = d ∷ documents_seen vs
 documents_seen (v ∷ vs) = documents_seen vs
 
 -- those of an array, or those of a list beside a body
-abbrev pub source_seen : Source → List (List Field)
+abbrev pub source_seen : DocumentPlace → List (List Field)
 source_seen (Array values) = documents_seen values.now
 source_seen (Beside documents) = documents.now
 
 -- an array has no other values
-abbrev pub IsOfDocuments : Source → Type 0
+abbrev pub IsOfDocuments : DocumentPlace → Type 0
 IsOfDocuments (Array values) = AreDocuments values.now
 IsOfDocuments (Beside documents) = ⊤
 

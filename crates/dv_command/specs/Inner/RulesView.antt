@@ -1,13 +1,13 @@
 -- What stands in memory for kinds, places and rules of fields.
 use Rattle.std.specs.Prelude.{ℕ, List}
 use Rattle.dv_command.specs.Kinds as kinds
-use Rattle.dv_command.specs.declared.rules.Kind as code
-use Rattle.dv_command.specs.declared.rules.Kind.TheVariants.{Anything, Text, Boolean, Document, Documents, Array, Integer, Integers, Natural, HowMany, Update as AnUpdate, OnlyFalse, EmptyDocument, Single, Cursor}
-use Rattle.dv_command.specs.declared.rules.Place as places
-use Rattle.dv_command.specs.declared.rules.Place.TheVariants.{Command, Entry}
+use Rattle.dv_command.specs.declared.rules.FieldKind as code
+use Rattle.dv_command.specs.declared.rules.FieldKind.TheVariants.{Anything, Text, Boolean, Document, Documents, Array, Integer, Integers, Natural, HowMany, Update as AnUpdate, OnlyFalse, EmptyDocument, Single, Cursor}
+use Rattle.dv_command.specs.declared.rules.FieldPlace as places
+use Rattle.dv_command.specs.declared.rules.FieldPlace.TheVariants.{Command, Entry}
 use Rattle.dv_command.specs.declared.rules.Rule.{Rule}
 
-abbrev pub kind_seen : code.Kind → kinds.Kind
+abbrev pub kind_seen : code.FieldKind → kinds.Kind
 kind_seen Anything = kinds.anything
 kind_seen Text = kinds.text
 kind_seen Boolean = kinds.boolean
@@ -24,7 +24,7 @@ kind_seen EmptyDocument = kinds.empty_document
 kind_seen Single = kinds.single
 kind_seen Cursor = kinds.cursor
 
-abbrev pub place_seen : places.Place → kinds.FieldPlace
+abbrev pub place_seen : places.FieldPlace → kinds.FieldPlace
 place_seen Command = kinds.command
 place_seen Entry = kinds.entry
 

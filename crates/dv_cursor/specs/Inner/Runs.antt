@@ -1,27 +1,31 @@
 -- Batches one after the other, and cursors over whole runs.
-use Rattle.std.specs.Prelude.{ℕ, ◌≤◌, ◌⊎◌, ◌++◌, List, [], ◌∷◌, Option, Some, None, length, ◌==◌, ◌&&◌, Bool}
+use Rattle.std.specs.Prelude.{ℕ, ◌≤◌, ◌⊎◌, ◌++◌, List, [], ◌∷◌, Option, Some, None, length, ◌==◌, ◌&&◌, Bool, if◌then◌else◌}
+use Rattle.std.specs.FinMap as finite
 use Rattle.dv_value.specs.Tree.{Field}
 use Rattle.dv_cursor.specs.Batch.{batch, batch_limit, rows_behind, total_size}
-use Rattle.dv_cursor.specs.Cursors.{Cursors, free_id, added, advanced, closed, without_session}
+use Rattle.dv_cursor.specs.Cursors.{Cursor, Cursors, free_id, added, advanced, closed, without_session}
+
+abbrev pub Rows : Type 0
+Rows = List (List Field)
 
 -- fewer than `count` rows or as many, and within the limit of bytes where there is more than one
-abbrev pub IsWithinBatch : ℕ → List (List Field) → Type 0
+abbrev pub IsWithinBatch : ℕ → Rows → Type 0
 IsWithinBatch count rows = (length rows ≤ count) × ((length rows ≤ 1) ⊎ (total_size rows ≤ batch_limit))
 
 -- the rows of batches of at most so many rows, one batch after the other
-abbrev pub batches_joined : List ℕ → List (List Field) → List (List Field)
+abbrev pub batches_joined : List ℕ → Rows → Rows
 batches_joined [] rows = []
 batches_joined (count ∷ counts) rows = batch count rows ++ batches_joined counts (rows_behind count rows)
 
 -- the rows that are left behind them
-abbrev pub behind_all : List ℕ → List (List Field) → List (List Field)
+abbrev pub behind_all : List ℕ → Rows → Rows
 behind_all [] rows = rows
 behind_all (count ∷ counts) rows = behind_all counts (rows_behind count rows)
 
 -- what may happen to cursors
 pub data Event : Type 0 where
   -- one is added for a session and a namespace, over these rows, where there is room
-  add : ℕ → List ℕ → List (List Field) → Event
+  add : ℕ → List ℕ → Rows → Event
   -- so many rows are taken from the one of a session under an id
   advance : ℕ → ℕ → ℕ → Event
   -- the one of a session under an id is taken out
@@ -30,7 +34,7 @@ pub data Event : Type 0 where
   end : ℕ → Event
 
 -- the cursors with one more, under this id, where there is one
-abbrev pub added_under : Option ℕ → ℕ → List ℕ → List (List Field) → Cursors → Cursors
+abbrev pub added_under : Option ℕ → ℕ → List ℕ → Rows → Cursors → Cursors
 added_under None session namespace rows cursors = cursors
 added_under (Some id) session namespace rows cursors = added session namespace rows cursors
 
@@ -57,3 +61,15 @@ ids_given (event ∷ events) cursors = with_cursor_id (id_given event cursors) (
 -- whether these are the session and the id of a cursor
 abbrev pub is_cursor_place : ℕ → ℕ → ℕ → ℕ → Bool
 is_cursor_place other number session id = (other == session) && (number == id)
+
+-- the cursor of a session under an id, if there is one
+abbrev pub cursor_at : ℕ → ℕ → Cursors → Option Cursor
+cursor_at session id cursors = finite.get cursors.kept (session, id)
+
+-- the same where the one of a session under a number was changed to this one
+abbrev pub changed_at : ℕ → ℕ → Option Cursor → ℕ → ℕ → Cursors → Option Cursor
+changed_at other number changed session id cursors = if is_cursor_place other number session id then changed else cursor_at session id cursors
+
+-- a new cursor over these rows
+abbrev pub opened : List ℕ → Rows → Option Cursor
+opened namespace rows = Some (record { namespace = namespace; rows = rows })

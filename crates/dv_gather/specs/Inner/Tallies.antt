@@ -1,5 +1,5 @@
 -- Groups so far, each a key and totals, and what a row changes in them: words of bodies.
-use Rattle.std.specs.Prelude.{ℕ, suc, List, [], ◌∷◌, map, Some, None, codes}
+use Rattle.std.specs.Prelude.{◌≡◌, ℕ, suc, List, [], ◌∷◌, map, Some, None, codes}
 use Rattle.std.specs.Option.{unwrap_or}
 use Rattle.std.specs.Map.{lookup}
 use Rattle.std.specs.BTreeMap.{insert_entry, is_at}
@@ -66,16 +66,29 @@ abbrev pub with_rows_put : Grouping → List Row → List (KeyTree × Tallied) �
 with_rows_put g [] es = es
 with_rows_put g (d ∷ ds) es = with_rows_put g ds (with_row_put g d es)
 
--- fields, and behind them those that come of totals
-abbrev pub with_finished : List Accumulation → List Total → List Field → List Field
-with_finished [] ts fs = fs
-with_finished (a ∷ fields) [] fs = fs
-with_finished (a ∷ fields) (t ∷ ts) fs = with_finished fields ts (with_field_behind a.name (Some (finished t)) fs)
+-- fields, and behind them these values, each under the name of a field of groups
+abbrev pub with_named : List Accumulation → List Tree → List Field → List Field
+with_named [] vs fs = fs
+with_named (a ∷ fields) [] fs = fs
+with_named (a ∷ fields) (v ∷ vs) fs = with_named fields vs (with_field_behind a.name (Some v) fs)
+
+-- the row of these values: a key, and one for each field
+abbrev pub row_of : List Accumulation → List Tree → Row
+row_of fields [] = []
+row_of fields (k ∷ vs) = with_named fields vs ((codes "_id", k) ∷ [])
+
+-- whether this is the row of some values
+abbrev pub IsRowOf : List Accumulation → Row → Type 0
+IsRowOf fields d = (vs : List Tree) × (d ≡ row_of fields vs)
 
 abbrev pub key_or_null : List Tree → Tree
 key_or_null [] = null
 key_or_null (k ∷ ks) = k
 
+-- the key of a group, and what comes of its totals
+abbrev pub row_values : Tallied → List Tree
+row_values t = key_or_null t.0 ∷ map finished t.1
+
 -- the row of a group
 abbrev pub finished_row : List Accumulation → Tallied → Row
-finished_row fields t = with_finished fields t.1 ((codes "_id", key_or_null t.0) ∷ [])
+finished_row fields t = row_of fields (row_values t)

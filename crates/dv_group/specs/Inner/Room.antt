@@ -9,8 +9,8 @@ use Rattle.dv_gather.specs.declared.accumulator.Accumulator.{Accumulator}
 use Rattle.dv_gather.specs.declared.accumulator.Accumulator.TheVariants.{Sum, Min, Max, Push}
 use Rattle.dv_gather.specs.Grouping.{Accumulation}
 use Rattle.dv_group.specs.declared.bundle.Bundle.{Bundle}
-use Rattle.dv_group.specs.declared.running.Way.{Way}
-use Rattle.dv_group.specs.declared.running.Way.TheVariants.{Comes, Goes}
+use Rattle.dv_group.specs.declared.running.Motion.{Motion}
+use Rattle.dv_group.specs.declared.running.Motion.TheVariants.{Comes, Goes}
 use Rattle.dv_group.specs.Inner.Running.{Running, adds, pushed, ranked, running_of, summed, field_value, widens, without_row}
 use Rattle.dv_group.specs.Inner.RunningView.{running_seen}
 
@@ -35,11 +35,11 @@ IsCounted a d (ranked rows) = ⊤
 IsCounted a d (pushed vs) = ⊤
 
 -- there is room for what comes, or for what is left
-abbrev pub HasRoomFor : Way → Accumulation → PosTree → Row → Running → Type 0
+abbrev pub HasRoomFor : Motion → Accumulation → PosTree → Row → Running → Type 0
 HasRoomFor Comes a p d t = IsWithinRows most_rows t
 HasRoomFor Goes a p d t = IsWithinRows most_rows (without_row a p d t) × IsCounted a d t
 
-abbrev pub HaveRoom : Way → List Accumulation → PosTree → Row → List Running → Type 0
+abbrev pub HaveRoom : Motion → List Accumulation → PosTree → Row → List Running → Type 0
 HaveRoom way [] p d ts = ⊤
 HaveRoom way (a ∷ fields) p d [] = ⊤
 HaveRoom way (a ∷ fields) p d (t ∷ ts) = HasRoomFor way a p d t × HaveRoom way fields p d ts

@@ -17,8 +17,8 @@ use Rattle.dv_gather.specs.declared.accumulator.Accumulator.TheVariants.{Sum, Mi
 use Rattle.dv_gather.specs.Extremes.{is_null}
 use Rattle.dv_gather.specs.Grouping.{Accumulation}
 use Rattle.dv_gather.specs.Sums.{addend, is_int64, spelled}
-use Rattle.dv_group.specs.declared.running.Way.{Way}
-use Rattle.dv_group.specs.declared.running.Way.TheVariants.{Comes, Goes}
+use Rattle.dv_group.specs.declared.running.Motion.{Motion}
+use Rattle.dv_group.specs.declared.running.Motion.TheVariants.{Comes, Goes}
 
 -- values, each at the position of its row
 abbrev pub Values : Type 0
@@ -70,7 +70,7 @@ abbrev pub without_ranked : Accumulator → Option Tree → PosTree → Position
 without_ranked accumulator None p rows = rows
 without_ranked accumulator (Some v) p rows = cond (is_null v) rows (gone (rank accumulator v ∷ p) rows)
 
-abbrev pub reranked : Way → Accumulation → PosTree → Row → Positioned → Positioned
+abbrev pub reranked : Motion → Accumulation → PosTree → Row → Positioned → Positioned
 reranked Comes a p d rows = with_ranked a.accumulator (field_value a d) p d rows
 reranked Goes a p d rows = without_ranked a.accumulator (field_value a d) p rows
 
@@ -99,7 +99,7 @@ abbrev pub with_pushed : PosTree → Option Tree → Values → Values
 with_pushed p None vs = vs
 with_pushed p (Some v) vs = put p v vs
 
-abbrev pub repushed : Way → Accumulation → PosTree → Row → Values → Values
+abbrev pub repushed : Motion → Accumulation → PosTree → Row → Values → Values
 repushed Comes a p d vs = with_pushed p (field_value a d) vs
 repushed Goes a p d vs = gone p vs
 
@@ -130,18 +130,18 @@ without_row a p d (summed n wides) = summed (n -ℤ adds (field_value a d)) (wid
 without_row a p d (ranked rows) = ranked (without_ranked a.accumulator (field_value a d) p rows)
 without_row a p d (pushed vs) = pushed (gone p vs)
 
-abbrev pub moved_by : Way → Accumulation → PosTree → Row → Running → Running
+abbrev pub moved_by : Motion → Accumulation → PosTree → Row → Running → Running
 moved_by Comes a p d t = with_running_row a p d t
 moved_by Goes a p d t = without_row a p d t
 
 -- at a place, where there is one
-abbrev pub moved_at : Way → PosTree → Row → ℕ → Accumulation → List Running → List Running
+abbrev pub moved_at : Motion → PosTree → Row → ℕ → Accumulation → List Running → List Running
 moved_at way p d i a [] = []
 moved_at way p d zero a (t ∷ ts) = moved_by way a p d t ∷ ts
 moved_at way p d (suc i) a (t ∷ ts) = t ∷ moved_at way p d i a ts
 
 -- for each field, from a place on
-abbrev pub moved_from : Way → PosTree → Row → ℕ → List Accumulation → List Running → List Running
+abbrev pub moved_from : Motion → PosTree → Row → ℕ → List Accumulation → List Running → List Running
 moved_from way p d i [] ts = ts
 moved_from way p d i (a ∷ fields) ts = moved_from way p d (suc i) fields (moved_at way p d i a ts)
 

@@ -1,8 +1,9 @@
 -- What becomes of one document, and that the indexes of a collection have the keys of its documents.
-use Rattle.std.specs.Prelude.{◌≡◌, ℕ, zero, suc, true, List, [], ◌∷◌, Option, None, Some, IsSome, ⊤}
+use Rattle.std.specs.Prelude.{◌≡◌, ℕ, zero, suc, true, List, [], ◌∷◌, Option, None, Some, IsSome, ⊤, if◌then◌else◌}
 use Rattle.std.specs.List.{AllByRecursion}
+use Rattle.std.specs.Ordering.{is_eq}
 use Rattle.dv_value.specs.Tree.{Field}
-use Rattle.dv_order.specs.Key.{KeyTree}
+use Rattle.dv_order.specs.Key.{KeyTree, key_order}
 use Rattle.dv_coll.specs.Collection.{HasId, id_key, found, inserted, removed, replaced}
 use Rattle.dv_keyed.specs.Index.{id_form}
 use Rattle.dv_keyed.specs.Inner.Index.{IndexTree}
@@ -27,6 +28,10 @@ abbrev pub documents_after : Change → List (List Field) → List (List Field)
 documents_after (Insert d) ds = inserted d ds
 documents_after (Replace d) ds = replaced d ds
 documents_after (Remove k) ds = removed k.now ds
+
+-- under its `_id` there is what it leaves there, and under each other one what was there
+abbrev pub ChangesOne : Change → List (List Field) → List (List Field) → Type 0
+ChangesOne c old new = (i : KeyTree) → found i new ≡ (if is_eq (key_order i (changed_id c)) then document_after c else found i old)
 
 -- a document that comes begins with an `_id`
 abbrev pub HasIdFirst : Change → Type 0

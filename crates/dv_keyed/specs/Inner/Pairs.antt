@@ -1,9 +1,10 @@
 -- Indexes as finite sets of pairs: a key, and the key of the `_id` of a document that has it.
-use Rattle.std.specs.Prelude.{◌≡◌, Bool, true, false, List, map, not, ◌&&◌}
+use Rattle.std.specs.Prelude.{◌≡◌, Bool, true, false, List, map, not, ◌&&◌, ◌||◌}
 use Rattle.std.specs.List.{filter, flat_map, list_any}
 use Rattle.std.specs.Ordering.{is_eq}
+use denote.Ref.{Bor}
 use Rattle.dv_order.specs.Key.{KeyTree, key_order}
-use Rattle.dv_keyed.specs.Inner.Keys.{has_key}
+use Rattle.dv_keyed.specs.Inner.Keys.{has_key, refers_to}
 
 abbrev pub Pair : Type 0
 Pair = KeyTree × KeyTree
@@ -43,3 +44,19 @@ IsOnlyKey k id ps = (l : KeyTree) → has_pair l id ps ≡ true → is_eq (key_o
 -- every `_id` that has several keys is among these
 abbrev pub AreNoted : List KeyTree → List Pair → Type 0
 AreNoted several ps = (id : KeyTree) → has_key id several ≡ false → (k : KeyTree) → has_pair k id ps ≡ true → IsOnlyKey k id ps
+
+-- beside the pairs that there were, those of an `_id` are there whose keys pass a test
+abbrev pub AddsPairs : (KeyTree → Bool) → KeyTree → List Pair → List Pair → Type 0
+AddsPairs test id old new = (k i : KeyTree) → has_pair k i new ≡ (has_pair k i old || (test k && is_eq (key_order i id)))
+
+-- the pairs are the same, but for those of an `_id` whose keys pass a test
+abbrev pub AreSameBut : (KeyTree → Bool) → KeyTree → List Pair → List Pair → Type 0
+AreSameBut test id old new = (k i : KeyTree) → (has_pair k i new && not (test k && is_eq (key_order i id))) ≡ (has_pair k i old && not (test k && is_eq (key_order i id)))
+
+-- the references lead to each `_id` that has a key that passes
+abbrev pub HaveAll : (KeyTree → Bool) → List Pair → List (Bor KeyTree) → Type 0
+HaveAll test ps ids = (k i : KeyTree) → test k ≡ true → has_pair k i ps ≡ true → refers_to ids i ≡ true
+
+-- the same, but that an `_id` may be left out whose only key doesn't pass another test
+abbrev pub HaveTried : (KeyTree → Bool) → (KeyTree → Bool) → List Pair → List (Bor KeyTree) → Type 0
+HaveTried test alone ps ids = (k i : KeyTree) → test k ≡ true → has_pair k i ps ≡ true → (IsOnlyKey k i ps → alone k ≡ true) → refers_to ids i ≡ true

@@ -10,8 +10,8 @@ use Rattle.dv_keyed.specs.declared.plan.Bounds.{Bounds}
 use Rattle.dv_keyed.specs.declared.plan.Bounds.TheVariants as bounds
 use Rattle.dv_keyed.specs.declared.plan.Plan.{Plan}
 use Rattle.dv_keyed.specs.declared.plan.Plan.TheVariants as plans
-use Rattle.dv_keyed.specs.declared.plan.Kind.{Kind}
-use Rattle.dv_keyed.specs.declared.plan.Kind.TheVariants as kinds
+use Rattle.dv_keyed.specs.declared.plan.ConditionKind.{ConditionKind}
+use Rattle.dv_keyed.specs.declared.plan.ConditionKind.TheVariants as kinds
 
 abbrev pub bounds_seen : Bounds → Condition
 bounds_seen (bounds.Equal v) = equal (tree v.now)
@@ -22,7 +22,7 @@ abbrev pub plan_seen : Plan → Option (ℕ × Condition)
 plan_seen plans.Scan = None
 plan_seen (plans.Index place b) = Some (place, bounds_seen b)
 
-abbrev pub has_kind : Kind → Condition → Bool
+abbrev pub has_kind : ConditionKind → Condition → Bool
 has_kind kinds.Point = is_point
 has_kind kinds.Bound = is_bound
 

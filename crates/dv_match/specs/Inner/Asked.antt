@@ -3,16 +3,16 @@ use Rattle.std.specs.Prelude.{List, [], ◌∷◌, Some}
 use Rattle.dv_value.specs.View.{tree}
 use Rattle.dv_candidates.specs.Candidates.{Candidate, whole, leaves, with_elements}
 use Rattle.dv_candidates.specs.View.{seen}
-use Rattle.dv_match.specs.declared.place.Place.{Place}
-use Rattle.dv_match.specs.declared.place.Place.TheVariants.{Path, Sole, Element}
+use Rattle.dv_match.specs.declared.place.Subject.{Subject}
+use Rattle.dv_match.specs.declared.place.Subject.TheVariants.{Path, Sole, Element}
 
-abbrev pub wholes : Place → List Candidate
+abbrev pub wholes : Subject → List Candidate
 wholes (Path d p) = whole d.now p.now
 wholes (Sole c) = seen c ∷ []
 wholes (Element v) = Some (tree v.now) ∷ []
 
 -- with the elements of arrays, but of an element that is one by itself
-abbrev pub parts : Place → List Candidate
+abbrev pub parts : Subject → List Candidate
 parts (Path d p) = leaves d.now p.now
 parts (Sole c) = with_elements (seen c)
 parts (Element v) = Some (tree v.now) ∷ []

@@ -7,14 +7,14 @@ use Rattle.dv_order.specs.Key.{KeyTree, no_element, value}
 use Rattle.dv_order.specs.Source.{small_value}
 use Rattle.dv_order.specs.declared.shown.Shown as showns
 use Rattle.dv_order.specs.declared.shown.Shown.TheVariants as shown
-use Rattle.dv_order.specs.declared.source.Source as sources
-use Rattle.dv_order.specs.declared.source.Source.TheVariants.{Small, Short, Middle, Long, Document}
+use Rattle.dv_order.specs.declared.source.KeySource as sources
+use Rattle.dv_order.specs.declared.source.KeySource.TheVariants.{Small, Short, Middle, Long, Document}
 
 -- the first bytes are a text
 abbrev pub IsTextIn : ℕ → List ℕ → Type 0
 IsTextIn len bytes = (len ≤ length bytes) × IsUtf8 (take len bytes)
 
-abbrev pub IsSound : sources.Source → Type 0
+abbrev pub IsSound : sources.KeySource → Type 0
 IsSound (Short len bytes) = IsTextIn len bytes
 IsSound (Middle len bytes) = IsTextIn len bytes.value
 IsSound (Long len bytes) = IsTextIn len bytes.value

@@ -9,8 +9,8 @@ use Rattle.dv_gather.specs.Grouping.{grouped}
 use Rattle.dv_gather.specs.Lookups.{joined_row}
 use Rattle.dv_pipe.specs.declared.run.End.{End}
 use Rattle.dv_pipe.specs.declared.run.End.TheVariants as ends
-use Rattle.dv_pipe.specs.declared.run.Part as parts
-use Rattle.dv_pipe.specs.declared.run.Part.TheVariants as by
+use Rattle.dv_pipe.specs.declared.run.RunPart as parts
+use Rattle.dv_pipe.specs.declared.run.RunPart.TheVariants as by
 use Rattle.dv_pipe.specs.declared.run.Run.{Run}
 use Rattle.dv_pipe.specs.declared.stage.Stage.{Stage}
 use Rattle.dv_pipe.specs.declared.stage.Stage.TheVariants.{Limit}
@@ -47,7 +47,7 @@ ended (ends.Sort parts most) ds = front most (stable parts.now ds)
 ended (ends.Group g) ds = grouped g.now ds
 
 -- what a stage makes of rows
-abbrev pub rows_of_part : parts.Part → List Row → List Row
+abbrev pub rows_of_part : parts.RunPart → List Row → List Row
 rows_of_part (by.Step s) ds = flat_map (rows_of_step s) ds
 rows_of_part (by.End e) ds = ended e ds
 

@@ -3,8 +3,7 @@ use Rattle.std.proofs.Common.{◌≡◌, ◌∙◌, ap, sym, refl, List, [], ◌
 use Rattle.std.proofs.lemmas.Option.{slice_get_read}
 use Rattle.dv_row.specs.declared.fault.PipelineFault.{PipelineFault}
 use Rattle.dv_row.specs.declared.fault.PipelineFault.TheVariants.{NoMemory}
-use Rattle.dv_row.specs.Parsing.{Gives}
-use Rattle.dv_value.specs.Results.{◌>>=◌, each}
+use Rattle.dv_value.specs.Results.{◌>>=◌, Gives, each}
 
 pub drop-here : {X : Type 0} (xs : List X) (i : ℕ) (x : X) → slice_get xs i ≡ Some x → drop i xs ≡ x ∷ drop (suc i) xs
 drop-here [] i x e = absurd cc
@@ -72,6 +71,6 @@ each-map f view [] = refl
 each-map f view (w ∷ ws) = ap (λ r. f (view w) >>= λ y. r >>= λ ys. Ok (y ∷ ys)) (each-map f view ws)
 
 -- a fault of a part is that of the whole
-pub gives-fault : {X Y Y' : Type 0} (view : X → Y) (r : Result X PipelineFault) (e : PipelineFault) (parsed : Result Y' PipelineFault) (whole : Result Y PipelineFault) → r ≡ Err e → (e ≡ NoMemory) ⊎ (parsed ≡ Err e) → (parsed ≡ Err e → whole ≡ Err e) → Gives view r whole
+pub gives-fault : {X Y Y' : Type 0} (view : X → Y) (r : Result X PipelineFault) (e : PipelineFault) (parsed : Result Y' PipelineFault) (whole : Result Y PipelineFault) → r ≡ Err e → (e ≡ NoMemory) ⊎ (parsed ≡ Err e) → (parsed ≡ Err e → whole ≡ Err e) → Gives NoMemory view r whole
 gives-fault view r e parsed whole is (inl m) f = rw is (inl m)
 gives-fault view r e parsed whole is (inr p) f = rw is (inr (f p))

@@ -1,6 +1,6 @@
 -- Worked examples of stages of one row, as they are written.
-use Rattle.std.specs.Prelude.{List, Result, Ok}
-use Rattle.dv_value.specs.Tree.{Field}
+use Rattle.std.specs.Prelude.{List, Result, Ok, codes}
+use Rattle.dv_value.specs.Tree.{Field, Tree}
 use Rattle.dv_row.specs.declared.fault.PipelineFault.{PipelineFault}
 use Rattle.dv_value.specs.Results.{◌>>=◌}
 use Rattle.dv_value.specs.Short.{doc}
@@ -11,3 +11,13 @@ use Rattle.dv_row.specs.Row.{Row}
 -- what a $project shows of a row
 abbrev pub shown : List Field → Row → Result Row PipelineFault
 shown members row = project_in (doc members) >>= λ p. Ok (projected p row)
+
+-- fields with the names that the examples use
+abbrev pub named_id : Tree → Field
+named_id v = (codes "_id", v)
+
+abbrev pub named_a : Tree → Field
+named_a v = (codes "a", v)
+
+abbrev pub named_b : Tree → Field
+named_b v = (codes "b", v)

@@ -1,10 +1,10 @@
 //! Documents: how they are made, looked at and changed.
 
-ghost use Rattle.std.specs.Prelude.{◌≡◌, ◌<◌, ◌↔◌, ◌⊎◌, if◌then◌else◌, Some, None, [], ◌∷◌, ◌++◌, true, false, length, IsTrue, OnOk, OnErr, IfOk, IfErr, IfSome, IsErrOf, slice_get};
+ghost use Rattle.std.specs.Prelude.{◌≡◌, ◌<◌, ◌≤◌, ◌↔◌, ◌⊎◌, if◌then◌else◌, Some, None, [], ◌∷◌, ◌++◌, true, false, length, map, IsTrue, OnOk, OnErr, IfOk, IfErr, IfSome, IsErrOf, slice_get};
 ghost use Rattle.std.specs.Option.{option_map};
 ghost use Rattle.dv_value.specs.FieldChange.{with_value_pushed};
 ghost use Rattle.dv_value.specs.Measure.{IsMeasure};
-ghost use Rattle.dv_value.specs.Names.{AreNamed, value_under, with_value_under, without, has_name, has_zero};
+ghost use Rattle.dv_value.specs.Names.{AreNamed, value_under, with_value_under, with_values, without, has_name, has_zero};
 ghost use Rattle.dv_value.specs.View.{tree};
 
 use crate::NoMemory;
@@ -38,6 +38,18 @@ impl Document {
         Ok(Document { alloc, content })
     }
 
+    /// The document of these values under the names of the other's first fields, which they share. Fails with `NoMemory` when memory
+    /// runs out.
+    pub fn like(document: &Document, values: Vec<Value>) -> Result<Self, NoMemory>
+        requires { length values.items ≤ length document.now }
+        ensures { IfOk result (λ like. like ≡ with_values document.now (map tree values.items)) }
+    {
+        let alloc = *values.allocator();
+        let fields = Measured::of(Fields::like(document, values)?, None);
+        let content = Content::Own(Rc::new(alloc, fields)?);
+        Ok(Document { alloc, content })
+    }
+
     /// The document with these fields, whose encoding is so long. The fields' unused room is freed. Fails with `NoMemory` when
     /// memory runs out.
     pub fn of(alloc: Global, mut fields: Fields, size: u32) -> Result<Self, NoMemory>
@@ -63,6 +75,13 @@ impl Document {
             Content::Over(overlay) => overlay.count(),
             Content::Empty => 0,
         }
+    }
+
+    /// That no name holds a zero byte, and no two fields have one name. Does nothing.
+    pub fn law_named(&self)
+        ensures { AreNamed self.now }
+    {
+        let _count = self.len();
     }
 
     /// Whether there is no field.

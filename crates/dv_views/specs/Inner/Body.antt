@@ -1,6 +1,6 @@
 -- What a view is in memory, and what it stands for.
 use Rattle.std.specs.Prelude.{ℕ, List, Option}
-use Rattle.dv_change.specs.declared.change.Change.{Change}
+use Rattle.dv_change.specs.declared.taking.Taken as taking
 use Rattle.dv_pipe.specs.declared.stage.Stage.{Stage}
 use Rattle.dv_views.specs.Views.{ViewMark}
 
@@ -10,4 +10,4 @@ pub record Body : Type 0 where
   pub stages : List Stage
   pub height : ℕ
   pub mark : ViewMark
-  pub told : Option (List Change)
+  pub told : Option (List taking.Taken)

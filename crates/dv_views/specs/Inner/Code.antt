@@ -6,13 +6,13 @@ use Rattle.dv_pipe.specs.Sources.{Row}
 use Rattle.dv_pipe.specs.contracts.pipeline.Pipeline as pipelines
 use Rattle.dv_pipe.specs.declared.stage.Stage.{Stage}
 use Rattle.dv_change.specs.contracts.position.Pos as positions
-use Rattle.dv_change.specs.declared.change.Change.{Change}
-use Rattle.dv_change.specs.declared.change.Change.TheVariants.{Gone, Put}
+use Rattle.dv_change.specs.declared.taking.Taken as taking
 use Rattle.dv_change.specs.Changes.{Positioned}
-use Rattle.dv_change.specs.Inner.Changes.{position_changed, row_in}
 use Rattle.dv_change.specs.Positions.{PosTree}
+use Rattle.dv_views.specs.contracts.stage_operator.StageOperator as operators
+use Rattle.dv_views.specs.declared.stage_operator.StageOperator.{StageOperator}
 use Rattle.dv_views.specs.Inner.Body.{Body}
-use Rattle.dv_views.specs.Views.{Kept, ViewMark, Taken, View, live, stale}
+use Rattle.dv_views.specs.Views.{Kept, ViewMark, View, live, stale}
 use Rattle.dv_views.specs.Inner.Views.{Views}
 
 abbrev pub coded_name : Coded (List ℕ)
@@ -25,11 +25,9 @@ coded_view_rows = coded_list (coded_list (coded× coded_name coded_tree))
 abbrev pub coded_positioned : Coded Positioned
 coded_positioned = coded_list (coded× positions.the_row.coded (coded_list (coded× coded_name coded_tree)))
 
-abbrev pub coded_taken : Coded Taken
-coded_taken = code_by (Positioned × List Positioned) (coded× coded_positioned (coded_list coded_positioned)) (λ t. (t.left, t.named)) (λ p. record { left = p.0; named = p.1 }) (λ _. refl)
-
 abbrev pub coded_kept : Coded Kept
-coded_kept = code_by (Taken × (List Row × ℕ)) (coded× coded_taken (coded× coded_view_rows coded_ℕ)) (λ k. (k.taken, (k.rows, k.ticks))) (λ p. record { taken = p.0; rows = p.1.0; ticks = p.1.1 }) (λ _. refl)
+coded_kept =
+    code_by (List StageOperator × (Positioned × ℕ)) (coded× (coded_list operators.the_row.coded) (coded× coded_positioned coded_ℕ)) (λ k. (k.operators, (k.rows, k.ticks))) (λ p. record { operators = p.0; rows = p.1.0; ticks = p.1.1 }) (λ _. refl)
 
 -- what is kept, if anything is
 abbrev pub mark_of : Option Kept → ViewMark
@@ -47,20 +45,16 @@ mark-back stale = refl
 abbrev pub coded_view_mark : Coded ViewMark
 coded_view_mark = code_by (Option Kept) (coded_option coded_kept) mark_parts mark_of mark-back
 
-abbrev change_of : PosTree × Option Row → Change
-change_of (pos, None) = Gone pos
-change_of (pos, Some row) = Put pos row
+abbrev coded_row : Coded Row
+coded_row = coded_list (coded× coded_name coded_tree)
 
-pub change-back : (c : Change) → change_of (position_changed c, row_in c) ≡ c
-change-back (Put pos row) = refl
-change-back (Gone pos) = refl
-
-abbrev pub coded_change : Coded Change
-coded_change = code_by (PosTree × Option Row) (coded× positions.the_row.coded (coded_option (coded_list (coded× coded_name coded_tree)))) (λ c. (position_changed c, row_in c)) change_of change-back
+abbrev pub coded_told : Coded taking.Taken
+coded_told =
+    code_by (PosTree × (Option Row × Option Row)) (coded× positions.the_row.coded (coded× (coded_option coded_row) (coded_option coded_row))) (λ t. (t.pos, (t.old, t.new))) (λ p. record { pos = p.0; old = p.1.0; new = p.1.1 }) (λ _. refl)
 
 abbrev pub coded_body : Coded Body
 coded_body =
-    code_by (List ℕ × (List Stage × (ℕ × (ViewMark × Option (List Change))))) (coded× coded_name (coded× pipelines.the_row.coded (coded× coded_ℕ (coded× coded_view_mark (coded_option (coded_list coded_change))))))
+    code_by (List ℕ × (List Stage × (ℕ × (ViewMark × Option (List taking.Taken))))) (coded× coded_name (coded× pipelines.the_row.coded (coded× coded_ℕ (coded× coded_view_mark (coded_option (coded_list coded_told))))))
     (λ b. (b.source, (b.stages, (b.height, (b.mark, b.told))))) (λ p. record { source = p.0; stages = p.1.0; height = p.1.1.0; mark = p.1.1.1.0; told = p.1.1.1.1 }) (λ _. refl)
 
 abbrev pub coded_kept_view : Coded View

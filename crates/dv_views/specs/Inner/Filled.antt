@@ -1,27 +1,39 @@
--- Rows put into inputs, one after the other: words of bodies.
-use Rattle.std.specs.Prelude.{ℕ, suc, List, [], ◌∷◌, fold, map}
+-- Rows that come where none were: words of bodies.
+use Rattle.std.specs.Prelude.{◌≡◌, ◌++◌, ℕ, List, [], ◌∷◌, length, map, None, Some}
+use Rattle.std.specs.List.{AllByRecursion}
 use Rattle.dv_change.specs.declared.change.Change.{Change}
 use Rattle.dv_change.specs.declared.change.Change.TheVariants.{Put}
-use Rattle.dv_change.specs.declared.input.Input.{Input}
-use Rattle.dv_change.specs.declared.input.Input.TheVariants.{Named}
-use Rattle.dv_change.specs.Changes.{Positioned}
-use Rattle.dv_views.specs.Flow.{taken_after}
+use Rattle.dv_change.specs.declared.taking.Taken as taking
+use Rattle.dv_change.specs.Changes.{Positioned, with_changes}
+use Rattle.dv_change.specs.Inner.Changes.{IsExactChange, IsPositioned}
+use Rattle.dv_change.specs.Inner.Told.{told_along}
+use Rattle.dv_pipe.specs.declared.stage.Stage.{Stage}
+use Rattle.dv_views.specs.Inner.Holding.{HasMade}
+use Rattle.dv_views.specs.Inner.Operating.{empty_lists}
 use Rattle.dv_views.specs.Placed.{ListPlaces}
-use Rattle.dv_views.specs.Views.{Taken}
+use Rattle.dv_views.specs.Views.{Kept}
 
 -- rows, each put at its position
 abbrev pub puts_of : Positioned → List Change
 puts_of rows = map (λ e. Put e.0 e.1) rows
 
--- behind changes of an input, one after the other
-abbrev pub taken_behind : Input → Taken → List Change → Taken
-taken_behind input t changes = fold (λ t c. taken_after input c t) t changes
+-- the same as it is told, where nothing stood there
+abbrev pub firsts_of : Positioned → List taking.Taken
+firsts_of rows = map (λ e. record { pos = e.0; old = None; new = Some e.1 }) rows
 
--- the rows, put into an input one after the other, each at its position
-abbrev pub rows_filled : Input → Taken → Positioned → Taken
-rows_filled input t rows = taken_behind input t (puts_of rows)
+-- what is kept has taken in these first rows of the source, where none of it was taken in
+abbrev pub FillsLeft : List taking.Taken → Kept → Kept → Type 0
+FillsLeft all before after =
+    (stages : List Stage) (named : List Positioned) (puts : List Change) → HasMade stages before (record { left = []; named = named }) → AllByRecursion IsExactChange puts → all ≡ told_along [] puts
+    → HasMade stages after (record { left = with_changes [] puts; named = named })
 
--- what stands under each name, where the lists are counted from a number
-abbrev pub lists_in_turn : ℕ → List (List ℕ) → ListPlaces → Taken → Taken
-lists_in_turn i [] places t = t
-lists_in_turn i (name ∷ names) places t = lists_in_turn (suc i) names places (rows_filled (Named i) t (places name))
+-- what is kept has taken in these first rows of a list, behind so many others, of which none was taken in
+abbrev pub FillsList : ℕ → List taking.Taken → Kept → Kept → Type 0
+FillsList place firsts before after =
+    (stages : List Stage) (front back : List Positioned) (list : Positioned) → place ≡ length front → IsPositioned list → firsts ≡ firsts_of list → HasMade stages before (record { left = []; named = front ++ [] ∷ back })
+    → HasMade stages after (record { left = []; named = front ++ list ∷ back })
+
+-- what is kept has taken in what stands under each of these names, where nothing was taken in
+abbrev pub FillsLists : ListPlaces → List (List ℕ) → Kept → Kept → Type 0
+FillsLists places names before after =
+    (stages : List Stage) → HasMade stages before (record { left = []; named = empty_lists (length names) }) → HasMade stages after (record { left = []; named = map places names })

@@ -6,20 +6,19 @@ use Rattle.dv_change.specs.Inner.Changes.{IsPositioned}
 use Rattle.dv_pipe.specs.declared.stage.Stage.{Stage}
 use Rattle.dv_pipe.specs.Sources.{Row}
 use Rattle.dv_pipe.specs.Stages.{Lists}
-use Rattle.dv_views.specs.Flow.{outs_made}
 use Rattle.dv_views.specs.Forms.{names_read}
 use Rattle.dv_views.specs.Placed.{ListPlaces, positioned}
-use Rattle.dv_views.specs.Inner.Turned.{turned_rows}
+use Rattle.dv_views.specs.Inner.Holding.{HasMade}
 use Rattle.dv_views.specs.Views.{ViewMark, View, live, stale, taken_from}
 use Rattle.dv_views.specs.Inner.Views.{Views, view_under}
 
-abbrev pub outs_of_mark : List Stage → ViewMark → Positioned
-outs_of_mark stages (live kept) = outs_made stages kept.taken
-outs_of_mark stages stale = []
+abbrev pub outs_of_mark : ViewMark → Positioned
+outs_of_mark (live kept) = kept.rows
+outs_of_mark stale = []
 
 abbrev pub outs_of_view : Option View → List Row → Positioned
 outs_of_view None documents = positioned documents
-outs_of_view (Some v) documents = outs_of_mark v.stages v.mark
+outs_of_view (Some v) documents = outs_of_mark v.mark
 
 abbrev pub outs_below : Views → Lists → ListPlaces
 outs_below older lists name = outs_of_view (view_under name older) (lists name)
@@ -40,6 +39,5 @@ IsPlacedUnder older lists name = IsLiveView (view_under name older) × IsPositio
 -- what is kept over older views and lists: a live mark has taken in what stands there at positions, and all views that it reads are live
 abbrev pub IsBuilt : List Stage → List ℕ → Views → Lists → ViewMark → Type 0
 IsBuilt stages source older lists (live kept) =
-    (kept.taken ≡ taken_from stages source (outs_below older lists)) × (kept.rows ≡ turned_rows stages kept.taken) × IsPositioned kept.taken.left × (kept.ticks ≡ 0)
-    × AllByRecursion (λ name. IsLiveView (view_under name older)) (names_read stages source)
+    HasMade stages kept (taken_from stages source (outs_below older lists)) × (kept.ticks ≡ 0) × AllByRecursion (λ name. IsLiveView (view_under name older)) (names_read stages source)
 IsBuilt stages source older lists stale = ⊥

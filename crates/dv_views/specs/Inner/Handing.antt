@@ -1,13 +1,12 @@
 -- What a change that is handed on makes of all views in memory: words of bodies.
 use Rattle.std.specs.Prelude.{◌≡◌, ℕ, suc, ◌==◌, Bool, false, List, [], ◌∷◌, None, ⊤}
-use Rattle.std.specs.List.{AllByRecursion, list_any}
+use Rattle.std.specs.List.{list_any}
 use Rattle.std.specs.declared.string.String.{String}
-use Rattle.dv_change.specs.declared.change.Change.{Change}
-use Rattle.dv_views.specs.Flow.{told_at}
+use Rattle.dv_change.specs.declared.taking.Taken as taking
 use Rattle.dv_views.specs.Inner.Body.{Body}
 use Rattle.dv_views.specs.Inner.Older.{Entries, views}
-use Rattle.dv_views.specs.Inner.Seen.{AreSilent, HaveHeights, IsWellKept}
-use Rattle.dv_views.specs.Inner.Turned.{HaveTaken}
+use Rattle.dv_views.specs.Inner.Seen.{AreSilent, HaveHeights}
+use Rattle.dv_views.specs.Inner.Turned.{HaveTaken, known_at}
 use Rattle.dv_views.specs.Inner.Views.{AreNamedApart}
 
 abbrev pub is_place_among : ℕ → List ℕ → Bool
@@ -22,9 +21,8 @@ abbrev pub silenced : {Y : Type 0} → String Y × Body → String Y × Body
 silenced e = (e.0, record e.1 { told = None })
 
 -- entries behind a change
-pub record IsHandedOn {Y : Type 0} (namespace : List ℕ) (changes : List Change) (before after : Entries Y) : Type 0 where
-  pub taken : HaveTaken (told_at namespace changes) (views before) (views after)
+pub record IsHandedOn {Y : Type 0} (namespace : List ℕ) (all : List taking.Taken) (before after : Entries Y) : Type 0 where
+  pub taken : HaveTaken (known_at namespace all) (views before) (views after)
   pub apart : AreNamedApart (views after)
-  pub kept : AllByRecursion (λ v. IsWellKept v.stages v.mark) (views before) → AllByRecursion (λ v. IsWellKept v.stages v.mark) (views after)
   pub heights : (high : List ℕ → ℕ) → HaveHeights high before → HaveHeights high after
   pub silent : AreSilent after

@@ -4,10 +4,10 @@ use Rattle.std.specs.Option.{option_map}
 use Rattle.std.specs.declared.string.String.{String}
 use Rattle.std.specs.String.{string_bytes}
 use Rattle.std.specs.Str.{bytes_eq}
-use Rattle.dv_change.specs.declared.change.Change.{Change}
+use Rattle.dv_change.specs.declared.taking.Taken as taking
 use Rattle.dv_views.specs.Inner.Body.{Body}
-use Rattle.dv_views.specs.Flow.{Told, told_at, flow_with_told}
 use Rattle.dv_views.specs.Inner.Seen.{entry_view}
+use Rattle.dv_views.specs.Inner.Turned.{Known, known_at, with_known}
 use Rattle.dv_views.specs.Inner.Views.{Views}
 
 abbrev pub Entries : Type 0 → Type 0
@@ -30,23 +30,23 @@ abbrev pub views_before : {Y : Type 0} → ℕ → Entries Y → Views
 views_before place es = views (take place es)
 
 -- what views tell of a change, beside what is told already
-abbrev pub told_over : {Y : Type 0} → Told → Entries Y → Told
-told_over told [] = told
-told_over told (e ∷ es) = told_over (flow_with_told (string_bytes e.0) e.1.told told) es
+abbrev pub told_over : {Y : Type 0} → Known → Entries Y → Known
+told_over known [] = known
+told_over known (e ∷ es) = told_over (with_known (string_bytes e.0) e.1.told known) es
 
 -- what is told under each name to the view at a place
-abbrev pub told_before : {Y : Type 0} → List ℕ → List Change → ℕ → Entries Y → Told
-told_before namespace changes place es = told_over (told_at namespace changes) (take place es)
+abbrev pub told_before : {Y : Type 0} → List ℕ → List taking.Taken → ℕ → Entries Y → Known
+told_before namespace all place es = told_over (known_at namespace all) (take place es)
 
 -- what the first view of a name tells
-abbrev pub told_named : {Y : Type 0} → List ℕ → Entries Y → Option (Option (List Change))
+abbrev pub told_named : {Y : Type 0} → List ℕ → Entries Y → Option (Option (List taking.Taken))
 told_named name [] = None
 told_named name (e ∷ es) = if is_called name e.0 then Some e.1.told else told_named name es
 
-abbrev pub told_else : Option (Option (List Change)) → Option (List Change) → Option (List Change)
+abbrev pub told_else : Option (Option (List taking.Taken)) → Option (List taking.Taken) → Option (List taking.Taken)
 told_else None other = other
-told_else (Some told) other = told
+told_else (Some all) other = all
 
 -- what is told under a name to the view at a place, as it is looked up
-abbrev pub told_found : {Y : Type 0} → List ℕ → List Change → ℕ → Entries Y → Told
-told_found namespace changes place es name = told_else (told_named name (take place es)) (told_at namespace changes name)
+abbrev pub told_found : {Y : Type 0} → List ℕ → List taking.Taken → ℕ → Entries Y → Known
+told_found namespace all place es name = told_else (told_named name (take place es)) (known_at namespace all name)

@@ -1,15 +1,13 @@
 -- What views in memory stand for, and what holds of them.
-use Rattle.std.specs.Prelude.{◌≡◌, ℕ, List, None, map, ⊤}
+use Rattle.std.specs.Prelude.{◌≡◌, ℕ, List, None, map}
 use Rattle.std.specs.List.{AllByRecursion}
 use Rattle.std.specs.declared.string.String.{String}
 use Rattle.std.specs.String.{string_bytes}
-use Rattle.dv_change.specs.Inner.Changes.{IsPositioned}
-use Rattle.dv_pipe.specs.declared.stage.Stage.{Stage}
 use Rattle.dv_views.specs.Inner.Body.{Body}
 use Rattle.dv_views.specs.Inner.Readers.{AreReaders, Listing}
-use Rattle.dv_views.specs.Inner.Turned.{Telling, turned_rows}
+use Rattle.dv_views.specs.Inner.Turned.{Telling}
 use Rattle.dv_views.specs.Forms.{AreFounded, heights}
-use Rattle.dv_views.specs.Views.{ViewMark, View, live, stale}
+use Rattle.dv_views.specs.Views.{View}
 use Rattle.dv_views.specs.Inner.Views.{AreNamedApart, AreOverLive, Views, view_form, no_distance}
 
 -- the view of an entry
@@ -22,15 +20,9 @@ entry_view e = view_seen (string_bytes e.0) e.1
 abbrev pub telling : {Y : Type 0} → String Y × Body → Telling
 telling e = record { view = entry_view e; told = e.1.told }
 
--- the rows that are kept are those that the stages make of what was taken in, and that stands at exact positions, in their order
-abbrev pub IsWellKept : List Stage → ViewMark → Type 0
-IsWellKept stages (live kept) = (kept.rows ≡ turned_rows stages kept.taken) × IsPositioned kept.taken.left
-IsWellKept stages stale = ⊤
-
--- views, each under a name of its own, that keep what their stages make; what each reads is older, and no farther from being live
+-- views, each under a name of its own; what each reads is older, and no farther from being live
 pub record IsSoundRegistry (views : Views) : Type 0 where
   pub apart : AreNamedApart views
-  pub kept : AllByRecursion (λ v. IsWellKept v.stages v.mark) views
   pub live : AreOverLive no_distance views
   pub founded : AreFounded (map view_form views)
 

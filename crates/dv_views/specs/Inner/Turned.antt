@@ -1,62 +1,125 @@
 -- What a view in memory makes of a change that views hand on: words of bodies.
-use Rattle.std.specs.Prelude.{◌≡◌, ◌⊎◌, ℕ, true, false, List, [], ◌∷◌, fold, map, Option, Some, is_some, ⊤}
-use Rattle.dv_change.specs.declared.change.Change.{Change}
-use Rattle.dv_change.specs.Changes.{forget, with_changes}
+use Rattle.std.specs.Prelude.{◌≡◌, ◌⊎◌, ℕ, suc, Bool, true, false, List, [], ◌∷◌, ◌++◌, fold, map, Option, Some, None, is_some, if◌then◌else◌, ⊤}
+use Rattle.std.specs.List.{AllByRecursion, list_any}
+use Rattle.std.specs.Str.{bytes_eq}
+use Rattle.dv_change.specs.declared.input.Input.{Input}
+use Rattle.dv_change.specs.declared.input.Input.TheVariants.{Left, Named}
+use Rattle.dv_change.specs.declared.taking.Taken as taking
+use Rattle.dv_change.specs.Changes.{with_changes}
+use Rattle.dv_change.specs.Inner.Told.{input_rows, told_along, with_old}
+use Rattle.dv_change.specs.Inputs.{HasInput}
 use Rattle.dv_change.specs.Raised.{raised}
 use Rattle.dv_pipe.specs.declared.stage.Stage.{Stage}
-use Rattle.dv_pipe.specs.Sources.{Row}
-use Rattle.dv_views.specs.Flow.{Arrival, Told, arrivals, handed_by, is_reached, outs_made, taken_after, told_at, flow_with_told, work_of}
+use Rattle.dv_views.specs.Flow.{Arrival, handed_by, taken_after, work_by}
 use Rattle.dv_views.specs.Forms.{is_name_among, names_read}
-use Rattle.dv_views.specs.Views.{Kept, ViewMark, Taken, View, live, stale}
+use Rattle.dv_views.specs.Inner.Holding.{HasMade}
 use Rattle.dv_views.specs.Inner.Views.{Views, view_form, is_stale, no_distance, with_distance}
+use Rattle.dv_views.specs.Placed.{lookups_of}
+use Rattle.dv_views.specs.Views.{Kept, ViewMark, Taken, View, live, stale}
 
-abbrev pub turned_rows : List Stage → Taken → List Row
-turned_rows stages t = forget (outs_made stages t)
+-- ---- what is told in memory
 
-abbrev pub kept_after : List Stage → Kept → Arrival → Kept
-kept_after stages kept a =
-    let taken = taken_after a.input a.change kept.taken in
-    record { taken = taken; rows = turned_rows stages taken; ticks = raised kept.ticks (work_of stages a.input a.change kept.taken) }
+-- the changes of each namespace, each with the row that stood at its position; none if the change doesn't reach it
+abbrev pub Known : Type 0
+Known = List ℕ → Option (List taking.Taken)
 
--- behind all that comes, one after the other
-abbrev pub kept_behind : List Stage → List Arrival → Kept → Kept
-kept_behind stages all kept = fold (kept_after stages) kept all
+-- those of one namespace alone
+abbrev pub known_at : List ℕ → List taking.Taken → Known
+known_at namespace all name = if bytes_eq namespace name then Some all else None
 
--- a view that a change comes to has taken in what comes, and tells what it handed on; or it is stale
-pub record HasTurned (stages : List Stage) (all : List Arrival) (before : Kept) (after : ViewMark) (now : Option (List Change)) : Type 0 where
-  pub kept : after ≡ live (kept_behind stages all before)
-  pub tells : now ≡ Some (handed_by stages all before.taken)
-  pub leads : with_changes (outs_made stages before.taken) (handed_by stages all before.taken) ≡ outs_made stages (kept_behind stages all before).taken
+-- with those of one more name
+abbrev pub with_known : List ℕ → Option (List taking.Taken) → Known → Known
+with_known name all known other = if bytes_eq other name then all else known other
 
-abbrev pub IsTurned : List Stage → List Arrival → ViewMark → ViewMark → Option (List Change) → Type 0
-IsTurned stages all before after told = (after ≡ stale) ⊎ ((kept : Kept) × (before ≡ live kept) × HasTurned stages all kept after told)
+-- whether the change comes to what a pipeline reads
+abbrev pub comes_to : List Stage → List ℕ → Known → Bool
+comes_to stages source known = list_any (λ name. is_some (known name)) (names_read stages source)
+
+-- a change that comes to one input of a view
+pub record Come : Type 0 where
+  pub input : Input
+  pub taken : taking.Taken
+
+abbrev pub coming : Input → Option (List taking.Taken) → List Come
+coming input None = []
+coming input (Some all) = map (λ taken. record { input = input; taken = taken }) all
+
+-- to the lists that are looked into, which are numbered from i
+abbrev pub coming_to_lists : ℕ → List (List ℕ) → Known → List Come
+coming_to_lists i [] known = []
+coming_to_lists i (name ∷ names) known = coming (Named i) (known name) ++ coming_to_lists (suc i) names known
+
+-- to a source, and to lists that are looked into
+abbrev pub coming_under : List ℕ → List (List ℕ) → Known → List Come
+coming_under source lookups known = coming Left (known source) ++ coming_to_lists 0 lookups known
+
+-- to all that a pipeline reads
+abbrev pub coming_to : List Stage → List ℕ → Known → List Come
+coming_to stages source known = coming_under source (lookups_of stages source) known
+
+-- ---- what a view makes of it
+
+-- the inputs behind changes, one after the other
+abbrev pub taken_by : Taken → List Arrival → Taken
+taken_by t all = fold (λ t a. taken_after a.input a.change t) t all
+
+-- the changes, each told with what stood there
+abbrev pub come_along : List Arrival → Taken → List Come
+come_along [] t = []
+come_along (a ∷ all) t = record { input = a.input; taken = with_old (input_rows a.input t.named t.left) a.change } ∷ come_along all (taken_after a.input a.change t)
+
+-- what is kept behind changes of these inputs, and what was told of its rows behind what was told before
+pub record HasTurned (stages : List Stage) (t : Taken) (all : List Arrival) (before : Kept) (first : List taking.Taken) (after : Kept) (now : List taking.Taken) : Type 0 where
+  pub made : HasMade stages after (taken_by t all)
+  pub tells : now ≡ first ++ told_along before.rows (handed_by stages all t)
+  pub ticks : after.ticks ≡ raised before.ticks (work_by stages all t)
+  pub leads : after.rows ≡ with_changes before.rows (handed_by stages all t)
+
+-- whatever was taken in, changes that come told with what stood there are taken in, one after the other
+abbrev pub Turns : List Come → Kept → List taking.Taken → Kept → List taking.Taken → Type 0
+Turns come before first after now =
+    (stages : List Stage) (t : Taken) (all : List Arrival) → HasMade stages before t → AllByRecursion (λ a. HasInput a.input t.named) all → come ≡ come_along all t → HasTurned stages t all before first after now
+
+-- a view that keeps its rows by what came, and tells what changes of them
+pub record KeepsOn (come : List Come) (before after : ViewMark) (now : Option (List taking.Taken)) : Type 0 where
+  pub old : Kept
+  pub new : Kept
+  pub all : List taking.Taken
+  pub was : before ≡ live old
+  pub is : after ≡ live new
+  pub tells : now ≡ Some all
+  pub turns : Turns come old [] new all
+
+-- a view that a change comes to does so, or is stale
+abbrev pub IsTurned : List Come → ViewMark → ViewMark → Option (List taking.Taken) → Type 0
+IsTurned come before after now = (after ≡ stale) ⊎ KeepsOn come before after now
 
 -- a view, and what it tells
 pub record Telling : Type 0 where
   pub view : View
-  pub told : Option (List Change)
+  pub told : Option (List taking.Taken)
 
 -- a view behind a change, where so much is told under names and what stands there is so far from being live
-pub record IsTakenBy (come : Told) (distances : List ℕ → ℕ) (before : View) (after : Telling) : Type 0 where
+pub record IsTakenBy (come : Known) (distances : List ℕ → ℕ) (before : View) (after : Telling) : Type 0 where
   pub form : view_form after.view ≡ view_form before
-  pub tells : is_some after.told ≡ is_reached before.stages before.source come
-  pub unread : is_reached before.stages before.source come ≡ false → after.view ≡ before
-  pub turned : is_reached before.stages before.source come ≡ true → IsTurned before.stages (arrivals before.stages before.source come) before.mark after.view.mark after.told
-  pub live : is_reached before.stages before.source come ≡ true → is_stale after.view.mark ≡ false → (name : List ℕ) → is_name_among name (names_read before.stages before.source) ≡ true → distances name ≡ 0
+  pub tells : is_some after.told ≡ comes_to before.stages before.source come
+  pub unread : comes_to before.stages before.source come ≡ false → after.view ≡ before
+  pub turned : comes_to before.stages before.source come ≡ true → IsTurned (coming_to before.stages before.source come) before.mark after.view.mark after.told
+  pub live : comes_to before.stages before.source come ≡ true → is_stale after.view.mark ≡ false → (name : List ℕ) → is_name_among name (names_read before.stages before.source) ≡ true → distances name ≡ 0
 
 -- views, one by one
-abbrev pub AreTakenBy : Told → (List ℕ → ℕ) → Views → List Telling → Type 0
-AreTakenBy told distances [] [] = ⊤
-AreTakenBy told distances [] (w ∷ after) = ⊥
-AreTakenBy told distances (v ∷ before) [] = ⊥
-AreTakenBy told distances (v ∷ before) (w ∷ after) = IsTakenBy told distances v w × AreTakenBy (flow_with_told v.name w.told told) (with_distance w.view distances) before after
+abbrev pub AreTakenBy : Known → (List ℕ → ℕ) → Views → List Telling → Type 0
+AreTakenBy known distances [] [] = ⊤
+AreTakenBy known distances [] (w ∷ after) = ⊥
+AreTakenBy known distances (v ∷ before) [] = ⊥
+AreTakenBy known distances (v ∷ before) (w ∷ after) = IsTakenBy known distances v w × AreTakenBy (with_known v.name w.told known) (with_distance w.view distances) before after
 
 -- views behind a change, whatever each told
-pub record HaveTaken (told : Told) (before after : Views) : Type 0 where
+pub record HaveTaken (known : Known) (before after : Views) : Type 0 where
   pub tellings : List Telling
   pub views : map (λ t. t.view) tellings ≡ after
-  pub taken : AreTakenBy told no_distance before tellings
+  pub taken : AreTakenBy known no_distance before tellings
 
 -- views behind a change of which the namespace alone is known
 abbrev pub HaveLost : List ℕ → Views → Views → Type 0
-HaveLost namespace before after = (changes : List Change) → HaveTaken (told_at namespace changes) before after
+HaveLost namespace before after = (all : List taking.Taken) → HaveTaken (known_at namespace all) before after

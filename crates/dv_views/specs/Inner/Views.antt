@@ -4,10 +4,13 @@ use Rattle.std.specs.List.{AllByRecursion, AllZip, IsDistinct, find, list_any}
 use Rattle.std.specs.Option.{option_and_then}
 use Rattle.std.specs.Str.{bytes_eq}
 use Rattle.std.specs.declared.result.Result.{Result}
+use Rattle.dv_change.specs.Changes.{forget}
 use Rattle.dv_coll.specs.Collection.{HasId, IsAscending}
 use Rattle.dv_pipe.specs.Sources.{Row}
 use Rattle.dv_pipe.specs.Stages.{Lists, evaluated, is_read}
+use Rattle.dv_pipe.specs.declared.stage.Stage.{Stage}
 use Rattle.dv_views.specs.Forms.{ViewForm, is_name_among, with_places, with_rows}
+use Rattle.dv_views.specs.Inner.Holding.{HasMade}
 use Rattle.dv_views.specs.Placed.{ListPlaces, list_places}
 use Rattle.dv_views.specs.declared.fault.ViewFault.{ViewFault}
 use Rattle.dv_views.specs.declared.state.ViewState.{ViewState}
@@ -22,14 +25,14 @@ Views = List View
 abbrev pub view_form : View → ViewForm
 view_form v = record { name = v.name; source = v.source; stages = v.stages }
 
--- what is kept, if anything is, are these rows, made of what was taken in
-abbrev pub AreKept : ViewMark → Taken → List Row → Type 0
-AreKept (live kept) taken rows = (kept.taken ≡ taken) × (kept.rows ≡ rows)
-AreKept stale taken rows = ⊤
+-- what is kept, if anything is, are these rows, which the stages make of what they have taken in
+abbrev pub AreKept : List Stage → ViewMark → Taken → List Row → Type 0
+AreKept stages (live kept) taken rows = HasMade stages kept taken × (forget kept.rows ≡ rows)
+AreKept stages stale taken rows = ⊤
 
 -- a live view has the rows of its pipeline from scratch, and has taken in what it reads as it stands
 abbrev pub IsRight : ListPlaces → Lists → View → Type 0
-IsRight places lists v = AreKept v.mark (taken_from v.stages v.source places) (evaluated v.stages v.source lists)
+IsRight places lists v = AreKept v.stages v.mark (taken_from v.stages v.source places) (evaluated v.stages v.source lists)
 
 -- each over what the older ones make of the lists
 abbrev pub AreRightOver : ListPlaces → Lists → Views → Type 0
@@ -58,7 +61,7 @@ views_without name views = filter (λ v. not (is_view_named name v)) views
 
 -- the rows that a mark shows
 abbrev pub kept_rows : ViewMark → Option (List Row)
-kept_rows (live kept) = Some kept.rows
+kept_rows (live kept) = Some (forget kept.rows)
 kept_rows stale = None
 
 -- the rows that the view of this name keeps
@@ -67,7 +70,7 @@ rows_shown name views = option_and_then (λ v. kept_rows v.mark) (view_under nam
 
 -- how many rows a mark shows; none where it is stale
 abbrev pub mark_rows : ViewMark → ℕ
-mark_rows (live kept) = length kept.rows
+mark_rows (live kept) = length (forget kept.rows)
 mark_rows stale = 0
 
 -- whether a mark has its rows

@@ -17,4 +17,4 @@ returns c =
     c.in_ok-copies.ensures
     ∙ ap (λ (rows : List (Bor (List Field))). rows_referred rows) c.deref.ensures.value
     ∙ c.in_ok-found.ensures
-    ∙ in-order c.args.sort.now c.in-Some.direction c.in-Some.ensures (filter test ds) (all_unsorted HasId form 0 0 ds (c.in_ok-has_array_id.ensures c.if-branch.false)) (law.passing test ds ds (law.all ds c.len.ensures.ascending)).1 c.args.most
+    ∙ in-order c.args.sort.now c.in-Some.direction c.in-Some.ensures (filter test ds) (all_unsorted HasId form 0 0 ds (c.in_ok-has_array_id.ensures c.if-branch.false)) (law.passing test ds ds (law.all ds c.law_ascending.ensures)).1 c.args.most

@@ -17,7 +17,7 @@ keys_of-requires c =
     let left : rows_referred c.pop.new.self.items ≡ take (length found - 1) found = all_but_last (λ r. r.now) items c.pop.new.self.items _ (grind (arith, common_steps)) c.pop.ensures.rest in
     rw c.deref.ensures.value
     (subst (AllByRecursion HasId) (sym left)
-    (some_identified (deletion_seen c.args.deletion.now) c.args.collection.now c.requires c.saturating_add.result (length found - 1) found c.in_ok-documents.ensures many c.len.ensures.identified))
+    (some_identified (deletion_seen c.args.deletion.now) c.args.collection.now c.requires c.saturating_add.result (length found - 1) found c.in_ok-documents.ensures many c.law_ascending.ensures.identified))
 
 pub returns-clause-first : goal.returns-clause-first
 returns-clause-first c =
@@ -38,5 +38,5 @@ returns-clause-placed c =
     let left : rows_referred c.pop.new.self.items ≡ take (length found - 1) found = all_but_last (λ r. r.now) items c.pop.new.self.items _ (grind (arith, common_steps)) c.pop.ensures.rest in
     IfOk-weaker c.keys_of.result _ _
     (λ keys keyed. some_placed (deletion_seen c.args.deletion.now) c.args.collection.now c.requires c.saturating_add.result (length found - 1) found c.in_ok-documents.ensures many keys.items
-    (keyed ∙ ap (map id_key) (left)) c.removed_document_is_not_found.ensures (before_ascending c.args.collection.now.documents c.len.ensures.ascending))
+    (keyed ∙ ap (map id_key) (left)) c.removed_document_is_not_found.ensures (before_ascending c.args.collection.now.documents c.law_ascending.ensures.ascending))
     (rw c.deref.ensures.value at c.keys_of.ensures)

@@ -13,4 +13,4 @@ pub returns : goal.returns
 returns c =
     c.keys.invariant
     ∙ ap (λ keys. key_by_key (map (λ (k : Bor KeyTree). k.now) keys) c.args.rows.now) (take_all c.keys.key-index c.args.keys.now c.keys-test.false)
-    ∙ c.documents_are_found_key_by_key.ensures (map (λ (k : Bor KeyTree). k.now) c.args.keys.now) c.args.rows.now c.requires c.len.ensures.ascending
+    ∙ c.documents_are_found_key_by_key.ensures (map (λ (k : Bor KeyTree). k.now) c.args.keys.now) c.args.rows.now c.requires c.law_ascending.ensures

@@ -13,7 +13,7 @@ returns-clause-placed c =
     let does : changed_by updating.update (rows_referred c.in_ok-documents.documents.items) ≡ Ok (map (after_of (sole_name updating.update)) c.in_ok-each.each.items) = rw c.deref.ensures.value at c.in_ok-each.ensures.afters in
     let told = does ∙ ap (λ n. Ok (map (after_of n) c.in_ok-each.each.items)) (sym c.in_ok-name.ensures.name) in
     updates_placed c.replaced_document_is_found.ensures c.the_id_stays.ensures updating c.args.collection.now.documents (rows_referred c.in_ok-documents.documents.items) (map (after_of c.in_ok-name.name) c.in_ok-each.each.items) c.in_ok-documents.ensures
-    c.len.ensures.identified told
+    c.law_ascending.ensures.identified told
 
 pub returns-clause-standing : goal.returns-clause-standing
 returns-clause-standing c =
@@ -22,4 +22,4 @@ returns-clause-standing c =
     let does : changed_by updating.update (rows_referred c.in_ok-documents.documents.items) ≡ Ok (map (after_of (sole_name updating.update)) c.in_ok-each.each.items) = rw c.deref.ensures.value at c.in_ok-each.ensures.afters in
     let told = does ∙ ap (λ n. Ok (map (after_of n) c.in_ok-each.each.items)) (sym c.in_ok-name.ensures.name) in
     updates_stand (record { all = laws.all; passing = laws.passing; first = laws.first }) c.the_id_stays.ensures updating c.args.collection.now.documents (rows_referred c.in_ok-documents.documents.items) c.in_ok-name.name c.in_ok-each.each.items c.in_ok-documents.ensures
-    c.len.ensures.ascending c.len.ensures.identified told (rw c.deref.ensures.value at c.in_ok-each.ensures.befores) c.in_ok-name.ensures.no_id c.in_ok-name.ensures.whole
+    c.law_ascending.ensures.ascending c.law_ascending.ensures.identified told (rw c.deref.ensures.value at c.in_ok-each.ensures.befores) c.in_ok-name.ensures.no_id c.in_ok-name.ensures.whole

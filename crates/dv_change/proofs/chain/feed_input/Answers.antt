@@ -17,7 +17,7 @@ returns-in_ok-push-in-Left-clause-outs g c =
 
 pub returns-in_ok-push-in-Left-clause-leads : goal.returns-in_ok-push-in-Left-clause-leads
 returns-in_ok-push-in-Left-clause-leads g c =
-    ok-one c.feed_all.result c.feed_all.ensures.forms (λ forms. leads-after g.T.Turn.left g.T.Turn.others g.T.Turn.makes g.T.Turn.sound g.met.T.Turn.positioned g.met.T.Turn.ordered c.args.turns.now c.feed_all.new.turns c.args.input c.args.change c.is_exact.ensures c.requires.linked
+    ok-one c.feed_all.result c.feed_all.ensures.forms (λ forms. leads-after g.T.Turn.left g.T.Turn.others g.T.Turn.makes g.T.Turn.sound g.met.T.Turn.positioned g.met.T.Turn.ordered c.args.turns.now c.feed_all.new.turns c.args.input c.args.change c.law_exact.ensures c.requires.linked
     (forms ∙ sym (ap (λ input. forms_after input c.args.change (forms_of g.T.Turn.left g.T.Turn.others g.T.Turn.makes g.T.Turn.sound c.args.turns.now)) c.in-Left.is)))
 
 pub returns-in-Named-clause-outs : goal.returns-in-Named-clause-outs
@@ -27,5 +27,5 @@ returns-in-Named-clause-outs g c =
 
 pub returns-in-Named-clause-leads : goal.returns-in-Named-clause-leads
 returns-in-Named-clause-leads g c =
-    ok-one c.feed_named.result c.feed_named.ensures.forms (λ forms. leads-after g.T.Turn.left g.T.Turn.others g.T.Turn.makes g.T.Turn.sound g.met.T.Turn.positioned g.met.T.Turn.ordered c.args.turns.now c.feed_named.new.turns c.args.input c.args.change c.is_exact.ensures c.requires.linked
+    ok-one c.feed_named.result c.feed_named.ensures.forms (λ forms. leads-after g.T.Turn.left g.T.Turn.others g.T.Turn.makes g.T.Turn.sound g.met.T.Turn.positioned g.met.T.Turn.ordered c.args.turns.now c.feed_named.new.turns c.args.input c.args.change c.law_exact.ensures c.requires.linked
     (forms ∙ sym (ap (λ input. forms_after input c.args.change (forms_of g.T.Turn.left g.T.Turn.others g.T.Turn.makes g.T.Turn.sound c.args.turns.now)) c.in-Named.is)))

@@ -14,5 +14,5 @@ pub returns : goal.returns
 returns c =
     let made = c.in_ok-packed.ensures in
     let rows = c.args.rows.entries in
-    same_rows c.in_ok-packed.packed.entries rows (record { ascending = made.1; exact = c.are_exact.ensures }) c.requires
+    same_rows c.in_ok-packed.packed.entries rows (record { ascending = made.1; exact = c.law_exact_rows.ensures }) c.requires
     (λ q exact. made.0 q ∙ update_all_none (eq_by_cmp_equiv pos_order_total) (eq_by_cmp pos_order) (λ x y. refl) rows q (IsDistinct-from_sorted pos_order (keys_of rows) c.requires.ascending))

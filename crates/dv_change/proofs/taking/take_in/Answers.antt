@@ -7,9 +7,9 @@ use Rattle.dv_change.proofs.taking.take_in.Goals as goal
 pub returns-in_ok-old-in-Put-clause-positioned : goal.returns-in_ok-old-in-Put-clause-positioned
 returns-in_ok-old-in-Put-clause-positioned c =
     let e : c.insert.new.self.entries ≡ with_change c.args.rows.now.entries c.args.change = search rules in
-    rw e (positioned-changed c.args.rows.now.entries c.args.change c.requires c.is_exact.ensures)
+    rw e (positioned-changed c.args.rows.now.entries c.args.change c.requires c.law_exact.ensures)
 
 pub returns-in-Gone-clause-positioned : goal.returns-in-Gone-clause-positioned
 returns-in-Gone-clause-positioned c =
     let e : c.remove-old.new.self.entries ≡ with_change c.args.rows.now.entries c.args.change = search rules in
-    rw e (positioned-changed c.args.rows.now.entries c.args.change c.requires c.is_exact.ensures)
+    rw e (positioned-changed c.args.rows.now.entries c.args.change c.requires c.law_exact.ensures)

@@ -1,29 +1,20 @@
-use Rattle.std.proofs.Common.{ap}
-use Rattle.std.proofs.lemmas.Result.{err_from_is_err_and}
-use Rattle.dv_catalog.specs.Changes.{done_to}
-use Rattle.dv_catalog.specs.State.{collection_of}
-use Rattle.dv_catalog.specs.declared.failure.Stopped.{Stopped}
+use Rattle.std.proofs.Common.{arith, subst}
+use Rattle.dv_catalog.specs.Marks.{Marked}
+use Rattle.dv_catalog.specs.Inner.Parts.{MakesCounted, StandBehind}
 use Rattle.dv_core.specs.Writes.{statement_of}
-use Rattle.dv_core.proofs.Marking.{unmade_stands}
+use Rattle.dv_core.proofs.Again.{unbegun}
 use Rattle.dv_core.proofs.writes.write_one.Goals as goal
 
-pub returns-in_err-storable-in-Insert-clause-marks : goal.returns-in_err-storable-in-Insert-clause-marks
-returns-in_err-storable-in-Insert-clause-marks c =
-    let p = err_from_is_err_and c.from_residual.result c.from_residual.ensures.1 in
-    let old = c.args.catalog.now in
-    let does = done_to (collection_of c.args.namespace.now old.state.namespaces) (statement_of c.args.kind c.args.entry.now) in
-    unmade_stands c.args.namespace.now does old c.from_residual.result p.0 p.1 (ap (λ (s : Stopped). s.done) p.2)
+pub returns-else-not-makes_room_behind-clause-makes : goal.returns-else-not-makes_room_behind-clause-makes
+returns-else-not-makes_room_behind-clause-makes c =
+    let statement = statement_of c.args.kind c.args.entry.now in
+    let ends = c.in-Err.ensures in
+    let same = unbegun c.args.namespace.now statement c.in-Err.stopped c.args.catalog.now (omega (arith, c.if-stopped-gt0.false)) c.write_once.new.catalog ends.makes ends.views ends.marks in
+    subst (λ (before : Marked). MakesCounted c.args.namespace.now statement before c.write_once-in-Err.result c.write_once-in-Err.new.catalog) same c.write_once-in-Err.ensures.makes
 
-pub returns-in_err-updating_of-in-Update-clause-marks : goal.returns-in_err-updating_of-in-Update-clause-marks
-returns-in_err-updating_of-in-Update-clause-marks c =
-    let p = err_from_is_err_and c.from_residual-in_err-updating_of-in-Update.result c.from_residual-in_err-updating_of-in-Update.ensures.1 in
-    let old = c.args.catalog.now in
-    let does = done_to (collection_of c.args.namespace.now old.state.namespaces) (statement_of c.args.kind c.args.entry.now) in
-    unmade_stands c.args.namespace.now does old c.from_residual-in_err-updating_of-in-Update.result p.0 p.1 (ap (λ (s : Stopped). s.done) p.2)
-
-pub returns-in_err-deletion_of-in-Delete-clause-marks : goal.returns-in_err-deletion_of-in-Delete-clause-marks
-returns-in_err-deletion_of-in-Delete-clause-marks c =
-    let p = err_from_is_err_and c.from_residual-in_err-deletion_of-in-Delete.result c.from_residual-in_err-deletion_of-in-Delete.ensures.1 in
-    let old = c.args.catalog.now in
-    let does = done_to (collection_of c.args.namespace.now old.state.namespaces) (statement_of c.args.kind c.args.entry.now) in
-    unmade_stands c.args.namespace.now does old c.from_residual-in_err-deletion_of-in-Delete.result p.0 p.1 (ap (λ (s : Stopped). s.done) p.2)
+pub returns-else-not-makes_room_behind-clause-marks : goal.returns-else-not-makes_room_behind-clause-marks
+returns-else-not-makes_room_behind-clause-marks c =
+    let statement = statement_of c.args.kind c.args.entry.now in
+    let ends = c.in-Err.ensures in
+    let same = unbegun c.args.namespace.now statement c.in-Err.stopped c.args.catalog.now (omega (arith, c.if-stopped-gt0.false)) c.write_once.new.catalog ends.makes ends.views ends.marks in
+    subst (λ (before : Marked). StandBehind c.args.namespace.now statement before c.write_once-in-Err.result c.write_once-in-Err.new.catalog.marks) same c.write_once-in-Err.ensures.marks

@@ -6,7 +6,7 @@ use Rattle.dv_change.specs.Changes.{at}
 use Rattle.dv_change.specs.Inner.Ordered.{gone, put}
 use Rattle.dv_gather.specs.Grouping.{Accumulation}
 use Rattle.dv_group.specs.declared.bundle.Bundle.{Bundle}
-use Rattle.dv_group.specs.declared.running.Way.TheVariants.{Comes}
+use Rattle.dv_group.specs.declared.running.Motion.TheVariants.{Comes}
 use Rattle.dv_group.specs.Inner.Members.{set_at}
 use Rattle.dv_group.specs.Inner.Room.{AreNarrowIn, HaveRoom, IsBundle, most_rows}
 use Rattle.dv_group.specs.Inner.Running.{moved_from}
@@ -21,9 +21,9 @@ follow_each-requires c =
     let left = gone p c.args.members.now in
     let without : Bundle = record { members = left; totals = c.follow_gone.new.totals } in
     let fewer_left = fewer p c.args.members.now in
-    let few : length left ≤ most_rows = omega (arith, c.len.ensures, fewer_left) in
+    let few : length left ≤ most_rows = omega (arith, c.law_few.ensures, fewer_left) in
     subst (λ (fields : List Accumulation). HaveRoom Comes fields p c.in-Some.row (map running_seen c.follow_gone.new.totals.items)) (sym c.fields.ensures)
-    (may-come c.args.group.now.fields p c.is_exact.ensures without c.in_ok-follow_gone.ensures c.in-Some.row few)
+    (may-come c.args.group.now.fields p c.law_exact.ensures without c.in_ok-follow_gone.ensures c.in-Some.row few)
 
 pub returns-in-Some : goal.returns-in-Some
 returns-in-Some c =
@@ -37,6 +37,6 @@ returns-in-Some c =
     let none : at p (gone p rows) ≡ None = none-left p rows c.requires.positioned in
     ok-both c.follow_each.result c.follow_each.ensures.moved c.follow_each.ensures.narrow (λ moved narrow.
     subst (λ (row : Option Row). IsBundle fields (record { members = set_at p row rows; totals = c.follow_each.new.totals })) (sym c.in-Some.is)
-    (came-sound fields p c.is_exact.ensures without c.in_ok-follow_gone.ensures after d none (sym (put-over p d rows c.requires.positioned c.is_exact.ensures))
+    (came-sound fields p c.law_exact.ensures without c.in_ok-follow_gone.ensures after d none (sym (put-over p d rows c.requires.positioned c.law_exact.ensures))
     (moved ∙ ap (λ fields. moved_from Comes p d 0 fields totals) c.fields.ensures)
     (subst (λ (fields : List Accumulation). AreNarrowIn totals fields d) c.fields.ensures narrow)))

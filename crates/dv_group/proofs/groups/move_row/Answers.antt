@@ -10,7 +10,7 @@ use Rattle.dv_group.proofs.groups.move_row.Goals as goal
 pub returns-then-are_one-clause-rows : goal.returns-then-are_one-clause-rows
 returns-then-are_one-clause-rows c =
     let one : are_one c.args.key.now c.args.other.now ≡ true = search rules in
-    λ k. c.in_ok-shift.ensures.rows k ∙ stays-one c.args.group.now c.args.pos c.args.key.now c.args.other.now c.args.new one c.args.groups.now.entries c.is_exact.ensures c.requires k
+    λ k. c.in_ok-shift.ensures.rows k ∙ stays-one c.args.group.now c.args.pos c.args.key.now c.args.other.now c.args.new one c.args.groups.now.entries c.law_exact.ensures c.requires k
 
 pub returns-then-are_one-clause-told : goal.returns-then-are_one-clause-told
 returns-then-are_one-clause-told c =

@@ -13,7 +13,7 @@ returns-clause-all c =
     let ids = map (λ (l : Bor KeyTree). l.now) c.in_ok-ids.ids.items in
     IfOk-weaker c.documents_of.result _ _ (λ found is test within.
     ap (filter test) is
-    ∙ gathered-all c.leaves_are_found_by_keys.ensures c.args.index.now (bounds_seen c.args.bounds) (λ i. has_key i ids) (λ k i covered there. c.in_ok-ids.ensures.all k i covered (ap (has_pair k i) (c.as_pairs.ensures ∙ c.pairs.ensures) ∙ there)) test c.args.collection.now c.requires c.len.ensures.ascending within) c.documents_of.ensures
+    ∙ gathered-all c.leaves_are_found_by_keys.ensures c.args.index.now (bounds_seen c.args.bounds) (λ i. has_key i ids) (λ k i covered there. c.in_ok-ids.ensures.all k i covered (ap (has_pair k i) (c.as_pairs.ensures ∙ c.pairs.ensures) ∙ there)) test c.args.collection.now c.requires c.law_ascending.ensures.ascending within) c.documents_of.ensures
 
 pub returns-clause-only : goal.returns-clause-only
 returns-clause-only c =
@@ -22,4 +22,4 @@ returns-clause-only c =
     let bounds = bounds_seen c.args.bounds in
     IfOk-weaker c.documents_of.result _ _ (λ found is point.
     is
-    ∙ gathered-only c.leaves_are_found_by_keys.ensures c.args.index.now bounds (λ i. has_key i ids) (λ k i covered there. c.in_ok-ids.ensures.all k i covered (ap (has_pair k i) pairs ∙ there)) c.a_key_in_the_bounds_is_of_a_leaf_there.ensures (λ i e. subst (HasKeyWithin bounds i) pairs (c.in_ok-ids.ensures.only point i e)) c.args.collection.now c.requires c.len.ensures.ascending) c.documents_of.ensures
+    ∙ gathered-only c.leaves_are_found_by_keys.ensures c.args.index.now bounds (λ i. has_key i ids) (λ k i covered there. c.in_ok-ids.ensures.all k i covered (ap (has_pair k i) pairs ∙ there)) c.a_key_in_the_bounds_is_of_a_leaf_there.ensures (λ i e. subst (HasKeyWithin bounds i) pairs (c.in_ok-ids.ensures.only point i e)) c.args.collection.now c.requires c.law_ascending.ensures.ascending) c.documents_of.ensures

@@ -16,4 +16,4 @@ pub returns : goal.returns
 returns c =
     c.ids.invariant
     ∙ ap (λ ids. each (map now ids) c.args.collection.now) (take_all c.ids.id-index c.args.ids.now c.ids-test.false)
-    ∙ each-all (map now c.args.ids.now) c.args.collection.now c.requires c.len.ensures.ascending
+    ∙ each-all (map now c.args.ids.now) c.args.collection.now c.requires c.law_ascending.ensures.ascending

@@ -12,4 +12,4 @@ returns c =
     let ids = map (λ (l : Bor KeyTree). l.now) c.in_ok-ids.ids.items in
     IfOk-weaker c.documents_of.result _ _ (λ found is.
     ap (filter (matches c.args.filter.now)) is
-    ∙ tried-all c.leaves_are_found_by_keys.ensures c.an_only_key_is_in_all_bounds.ensures c.args.index.now (bounds_seen c.args.bounds) c.args.filter.now (λ i. has_key i ids) c.in_ok-ids.ensures c.args.collection.now c.requires.indexed c.len.ensures.ascending c.requires.within) c.documents_of.ensures
+    ∙ tried-all c.leaves_are_found_by_keys.ensures c.an_only_key_is_in_all_bounds.ensures c.args.index.now (bounds_seen c.args.bounds) c.args.filter.now (λ i. has_key i ids) c.in_ok-ids.ensures c.args.collection.now c.requires.indexed c.law_ascending.ensures.ascending c.requires.within) c.documents_of.ensures

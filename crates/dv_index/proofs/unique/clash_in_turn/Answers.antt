@@ -10,7 +10,7 @@ use Rattle.dv_index.proofs.unique.clash_in_turn.Goals as goal
 
 pub each-init : goal.each-init
 each-init c =
-    at-first c.args.index.now c.new-trial.result.gone c.new-trial.result.come (befores c.args.each.now) (afters c.args.each.now) c.args.documents.now c.new-trial.ensures.gone c.new-trial.ensures.come c.requires.indexed c.requires.standing c.len.ensures.ascending c.len.ensures.identified c.requires.same_ids c.requires.identified
+    at-first c.args.index.now c.new-trial.result.gone c.new-trial.result.come (befores c.args.each.now) (afters c.args.each.now) c.args.documents.now c.new-trial.ensures.gone c.new-trial.ensures.come c.requires.indexed c.requires.standing c.law_ascending.ensures.ascending c.law_ascending.ensures.identified c.requires.same_ids c.requires.identified
 
 pub returns-then-clashes : goal.returns-then-clashes
 returns-then-clashes c =

@@ -3,7 +3,7 @@ use Rattle.dv_views.proofs.Walked.{place_within, there_place, walk_begins, walk_
 use Rattle.dv_views.proofs.handing.lose_each.Goals as goal
 
 pub views-init : goal.views-init
-views-init c changes = walk_begins c.args.namespace.now changes c.args.places.now c.args.views.now.entries c.requires.places c.requires.apart c.requires.silent
+views-init c all = walk_begins c.args.namespace.now all c.args.places.now c.args.views.now.entries c.requires.places c.requires.apart c.requires.silent
 
 pub lose_at-requires-clause-place : goal.lose_at-requires-clause-place
 lose_at-requires-clause-place c =
@@ -13,8 +13,8 @@ pub lose_at-requires-clause-apart : goal.lose_at-requires-clause-apart
 lose_at-requires-clause-apart c = (c.views.invariant []).apart
 
 pub views-preserved : goal.views-preserved
-views-preserved c changes =
-    walk_goes c.args.namespace.now changes c.args.places.now c.args.views.now.entries c.requires.places c.views.place-index (get_or c.args.places.now c.views.place-index 0) c.views.views.entries (there_place (get_or c.args.places.now c.views.place-index 0) 0 c.args.places.now c.views.place-index c.views-test.true refl) (c.views.invariant changes) c.lose_at.new.views.entries (c.lose_at.ensures changes)
+views-preserved c all =
+    walk_goes c.args.namespace.now all c.args.places.now c.args.views.now.entries c.requires.places c.views.place-index (get_or c.args.places.now c.views.place-index 0) c.views.views.entries (there_place (get_or c.args.places.now c.views.place-index 0) 0 c.args.places.now c.views.place-index c.views-test.true refl) (c.views.invariant all) c.lose_at.new.views.entries (c.lose_at.ensures all)
 
 pub fall_silent-requires-clause-places : goal.fall_silent-requires-clause-places
 fall_silent-requires-clause-places c =
@@ -25,5 +25,5 @@ fall_silent-requires-clause-others c =
     walk_quiet c.args.namespace.now [] c.args.places.now c.args.views.now.entries c.requires.places c.views.place-index c.views.views.entries c.views-test.false (c.views.invariant [])
 
 pub returns : goal.returns
-returns c changes =
-    walk_ends c.args.namespace.now changes c.args.places.now c.args.views.now.entries c.requires.places c.views.place-index c.views.views.entries c.views-test.false (c.views.invariant changes) c.fall_silent.new.views.entries c.fall_silent.ensures
+returns c all =
+    walk_ends c.args.namespace.now all c.args.places.now c.args.views.now.entries c.requires.places c.views.place-index c.views.views.entries c.views-test.false (c.views.invariant all) c.fall_silent.new.views.entries c.fall_silent.ensures

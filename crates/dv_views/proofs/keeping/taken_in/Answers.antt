@@ -1,13 +1,18 @@
 -- What holds of the rows that come out holds of what a view keeps.
-use Rattle.dv_views.specs.Inner.Keeping.{taken_seen}
-use Rattle.dv_views.specs.Placed.{forms}
-use Rattle.dv_views.proofs.Rolling.{result_turns}
+use Rattle.std.proofs.Common.{subst}
+use Rattle.dv_change.specs.declared.taking.Taken as taking
+use Rattle.dv_change.specs.declared.told_rows.ToldRows.{ToldRows}
+use Rattle.dv_change.specs.Inner.ToldRows.{TakesTold}
+use Rattle.dv_views.specs.declared.stage_operator.StageOperator.{StageOperator}
+use Rattle.dv_views.specs.Inner.Operating.{HoldsStage, stage_makes}
+use Rattle.dv_views.proofs.Building.{ok_then}
+use Rattle.dv_views.proofs.Rolling.{turns_once}
 use Rattle.dv_views.proofs.keeping.taken_in.Goals as goal
 
-pub take-requires-clause-live : goal.take-requires-clause-live
-take-requires-clause-live c = (forms c.args.pipeline.now (taken_seen c.args.live).named, c.requires.sound.kept)
-
-pub returns : goal.returns
-returns c =
-    result_turns c.args.pipeline.now c.args.live c.args.input c.args.change.now c.in_ok-try_clone.field-0 c.in_ok-try_clone.ensures c.requires.sound c.args.told.now.items c.take.new.told.items c.take.result c.take.ensures.left c.take.ensures.lists
-    c.take.ensures.live c.take.ensures.ticks c.take.ensures.told c.take.ensures.leads
+pub returns-clause-turns : goal.returns-clause-turns
+returns-clause-turns c =
+    let first = c.args.told.now.items in
+    let now = c.take.new.told.items in
+    ok_then c.take.result c.take.ensures.taken (λ (after : ToldRows StageOperator) takes.
+    turns_once c.args.input c.args.taken.now c.args.rows after first now
+    (subst (λ (t : taking.Taken). TakesTold stage_makes HoldsStage c.args.input t c.args.rows after first now) c.in_ok-try_clone.ensures takes))

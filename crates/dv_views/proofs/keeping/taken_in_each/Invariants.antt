@@ -1,12 +1,11 @@
 -- The changes so far were taken in.
-use Rattle.std.proofs.Common.{map, take}
-use Rattle.dv_change.specs.Inputs.{HasInput}
-use Rattle.dv_views.specs.Inner.Keeping.{Turns, kept_seen}
-use Rattle.dv_views.proofs.Rolling.{arrival}
+use Rattle.std.proofs.Common.{take, Some}
+use Rattle.dv_views.specs.Inner.Keeping.{IsSoundLive, kept_seen}
+use Rattle.dv_views.specs.Inner.Turned.{Turns, coming}
 use Rattle.dv_views.proofs.keeping.taken_in_each.Given as goal
 
-abbrev pub invariant-changes : goal.invariant-changes
-invariant-changes l = record {
-  turns : Turns l.pipeline (map (arrival l.input) (take l.change-index l.changes)) l.fn.live l.fn.told.items l.live l.told.items;
-  input : HasInput l.input (kept_seen l.live).taken.named;
+abbrev pub invariant-all : goal.invariant-all
+invariant-all l = record {
+  sound : IsSoundLive l.live;
+  turns : Turns (coming l.input (Some (take l.taken-index l.all))) (kept_seen l.fn.rows) l.fn.told.items (kept_seen l.live) l.told.items;
 }

@@ -12,7 +12,7 @@ pub returns-clause-refused : goal.returns-clause-refused
 returns-clause-refused c = refused_same
 
 pub returns-clause-fed : goal.returns-clause-fed
-returns-clause-fed c = fed_numbered
+returns-clause-fed c = λ old session numbered piece bytes answer new feeds. fed_numbered old new session piece bytes answer numbered feeds
 
 pub returns-clause-ended : goal.returns-clause-ended
 returns-clause-ended c = λ old session numbered. (ended_numbered old session numbered, refl)

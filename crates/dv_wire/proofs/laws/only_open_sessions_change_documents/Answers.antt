@@ -9,7 +9,11 @@ pub returns-clause-ended : goal.returns-clause-ended
 returns-clause-ended c = λ old session. refl
 
 pub returns-clause-closed : goal.returns-clause-closed
-returns-clause-closed c = fed_closed
+returns-clause-closed c = λ old session fault there piece bytes answer new feeds.
+    let is = fed_closed old new session piece bytes answer fault there feeds in
+    ((is.0, is.1), is.2, is.3)
 
 pub returns-clause-unknown : goal.returns-clause-unknown
-returns-clause-unknown c = fed_nobody
+returns-clause-unknown c = λ old session none piece bytes answer new feeds.
+    let is = fed_nobody old new session piece bytes answer none feeds in
+    ((is.0, is.1), is.2)

@@ -5,7 +5,7 @@ pub returns-clause-opened : goal.returns-clause-opened
 returns-clause-opened c = opened_other
 
 pub returns-clause-fed : goal.returns-clause-fed
-returns-clause-fed c = λ old new session other piece bytes answer feeds differs. fed_other old new session piece bytes answer other feeds differs
+returns-clause-fed c = λ old session other differs piece bytes answer new feeds. fed_other old new session piece bytes answer other feeds differs
 
 pub returns-clause-ended : goal.returns-clause-ended
 returns-clause-ended c = λ old session other differs. other-but other session old.sessions differs

@@ -29,6 +29,6 @@ returns-clause-rows c =
     let right = c.refresh_read.ensures.right c.self.invariant.right in
     let same = ap (λ (m : Marked). m.state) c.in_ok-refresh_read.ensures.marks in
     let live : AreLive names after = rw c.deref.ensures at c.in_ok-refresh_read.ensures.live in
-    let alike = kept_alike names kept collections after state (λ name. c.shown_rows_are_right.ensures.kept collections name right) same live (λ name among. refl) in
+    let alike = kept_alike names kept collections after state (λ name. c.law_shown.ensures.kept collections name right) same live (λ name among. refl) in
     let given = ap (λ ss. evaluated ss c.deref-2.result.now kept) c.stages.ensures ∙ ap (λ (name : List ℕ). evaluated stages name kept) c.deref-2.ensures ∙ evaluated_alike c.what_is_not_read_does_not_matter.ensures stages source kept (λ name. rows_of name state) alike in
     rw (← c.self.view_is) (IfOk-weaker c.rows_of_stages.result _ _ (λ rows is. is ∙ given) c.rows_of_stages.ensures)

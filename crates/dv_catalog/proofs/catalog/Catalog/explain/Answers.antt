@@ -15,7 +15,7 @@ returns-in-Some-clause-explained c =
     let before = c.self.inside.views in
     let after = c.refresh_under.new.registry in
     let marks = c.in_ok-refresh_under.ensures.marks in
-    let kept = c.shown_rows_are_right.ensures.kept collections name (c.refresh_under.ensures.right c.self.invariant.right) c.in_ok-refresh_under.ensures.live ∙ ap (λ (m : Marked). rows_of name m.state) marks in
+    let kept = c.law_shown.ensures.kept collections name (c.refresh_under.ensures.right c.self.invariant.right) c.in_ok-refresh_under.ensures.live ∙ ap (λ (m : Marked). rows_of name m.state) marks in
     rw (← c.self.view_is) (c.explained_view.ensures ∙ sym (view_explained name c.args.filter.now collections before after (ap (λ (m : Marked). m.state.views) marks) c.in-Some.rows (sym c.in-Some.ensures) kept))
 
 pub returns-clause-explained : goal.returns-clause-explained

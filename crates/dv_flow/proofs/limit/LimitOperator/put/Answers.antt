@@ -18,7 +18,7 @@ spill-requires c =
     let cut = cut-length n xs ys c.requires.sound.front in
     let more = at-most-one (is_some c.in_ok-insert.field-0) in
     record {
-      positioned = subst (λ (rows : Positioned). IsPositioned rows) (sym left) (positioned-put c.args.pos c.args.row (xs ++ ys) c.requires.sound.positioned c.is_exact.ensures);
+      positioned = subst (λ (rows : Positioned). IsPositioned rows) (sym left) (positioned-put c.args.pos c.args.row (xs ++ ys) c.requires.sound.positioned c.law_exact.ensures);
       most = omega (arith, c.in_ok-insert.ensures.len, more, cut.0);
       least = λ h. omega (arith, c.in_ok-insert.ensures.len, cut.1 h);
     }

@@ -32,7 +32,7 @@ returns-then-is_behind c =
     let none = nothing-owed n change xs ys c.requires.positioned long past in
     record {
       sound = record {
-        positioned = subst (λ (rows : Positioned). IsPositioned rows) (sym left) (positioned-changed (xs ++ ys) change c.requires.positioned (exact-to c.args.pos c.args.row c.is_exact.ensures));
+        positioned = subst (λ (rows : Positioned). IsPositioned rows) (sym left) (positioned-changed (xs ++ ys) change c.requires.positioned (exact-to c.args.pos c.args.row c.law_exact.ensures));
         front = same ∙ cut-full n xs zs long ∙ (λ i. front_at (sym rest.count i) (sym same i ++ zs));
       };
       count = rest.count;
@@ -50,7 +50,7 @@ returns c =
     let change = change_to c.args.pos c.args.row in
     let sound = c.in_ok-change_front.ensures.sound in
     let shown : c.change_front.new.self.front.entries ≡ front_at n _ = sound.front ∙ (λ i. front_at (c.in_ok-change_front.ensures.count i) (c.in_ok-change_front.ensures.left i)) in
-    let same = limit-told n rows c.args.pos c.args.row c.requires.positioned c.is_exact.ensures c.in_ok-edge.edge c.args.self.now.front.entries c.change_front.new.self.front.entries c.in_ok-old.old c.in_ok-new.new
+    let same = limit-told n rows c.args.pos c.args.row c.requires.positioned c.law_exact.ensures c.in_ok-edge.edge c.args.self.now.front.entries c.change_front.new.self.front.entries c.in_ok-old.old c.in_ok-new.new
     c.in_ok-edge.ensures c.requires.front shown c.in_ok-old.ensures c.in_ok-new.ensures in
     record {
       sound = search rules;

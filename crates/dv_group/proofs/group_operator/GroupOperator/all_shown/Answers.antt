@@ -29,7 +29,7 @@ groups-preserved c =
     let step : c.groups.key-iterator ≡ (key, c.in-Some.field-0-1.now) ∷ c.next.new.self = search rules in
     record {
       shown = ap (with_each g under (keys_of c.next.new.self)) c.in_ok-rows.ensures ∙ ap (λ (es : KeptGroups). with_each g under (keys_of es) c.groups.rows) (sym step) ∙ c.groups.invariant.shown;
-      positioned = subst (λ (rows : Positioned). IsPositioned rows) (sym c.in_ok-rows.ensures) (positioned-group g under key c.groups.rows c.is_own.ensures c.groups.invariant.positioned);
+      positioned = subst (λ (rows : Positioned). IsPositioned rows) (sym c.in_ok-rows.ensures) (positioned-group g under key c.groups.rows c.law_own.ensures c.groups.invariant.positioned);
     }
 
 pub returns-clause-rows : goal.returns-clause-rows

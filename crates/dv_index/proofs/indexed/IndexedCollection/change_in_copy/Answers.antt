@@ -12,4 +12,4 @@ change-requires-clause-possible c =
     let finds = c.what_is_found_has_the_key.ensures in
     subst (λ (x : IndexedTree). HasId c.change_field.new.self × IsSome (found (id_key c.change_field.new.self) x.documents)) c.self.view_is
     (change_possible laws.begins laws.key finds.key finds.begins
-    c.args.key.now c.args.name.now c.args.change c.in-Some.document.now c.change_field.new.self c.self.inside.documents c.requires.no_id c.len.ensures.identified c.in-Some.ensures after)
+    c.args.key.now c.args.name.now c.args.change c.in-Some.document.now c.change_field.new.self c.self.inside.documents c.requires.no_id c.law_ascending.ensures.identified c.in-Some.ensures after)

@@ -1,22 +1,34 @@
--- Under other keys stands what stood there.
-use Rattle.std.proofs.Common.{◌∙◌, [], ap, cond, sym}
+-- Under the key stands nothing then, and under other keys what stood there.
+use Rattle.std.proofs.Common.{◌≡◌, ◌∙◌, [], ap, cond, sym, refl, true}
 use Rattle.std.specs.BTreeMap.{get}
 use Rattle.std.specs.Option.{unwrap_or}
+use Rattle.std.specs.Ordering.{is_eq}
 use Rattle.dv_order.specs.Key.{key_order}
 use Rattle.dv_join.specs.Inner.Indexed.{under}
-use Rattle.dv_join.proofs.Indexes.{key-back, under-gone}
+use Rattle.dv_join.proofs.Indexes.{key-back, none-there, under-like, under-put}
 use Rattle.dv_join.proofs.index.Index.take_under.Goals as goal
 
 pub returns-in-Some : goal.returns-in-Some
-returns-in-Some c = record {
-  rows = ap (λ o. unwrap_or o []) (sym c.in-Some.is ∙ c.remove.ensures.value);
-  others = λ k.
-      ap (λ o. unwrap_or o []) (c.remove.ensures.updates.0 k) ∙ under-gone _ (get key_order c.args.self.now.under k) [] ∙ ap (λ b. cond b [] (under k c.args.self.now)) (key-back c.args.key.now k);
-}
+returns-in-Some c =
+    let m = c.args.self.now.under in
+    let key = c.args.key.now in
+    let w = c.replace.new.dest in
+    let writes = c.get_mut.follows.holds w in
+    let nothing : w ≡ [] = c.replace.ensures.after ∙ c.new-none.ensures in
+    record {
+      rows = c.replace.ensures.value ∙ ap (λ o. unwrap_or o []) c.in-Some.ensures.value;
+      others = λ k.
+          ap (λ o. unwrap_or o []) ((writes.3 (rw (← c.in-Some.ensures.value) refl)).0 k)
+          ∙ under-put (is_eq (key_order key k)) w (get key_order m k) []
+          ∙ (λ i. cond (key-back key k i) (nothing i) (under k c.args.self.now));
+    }
 
 pub returns-in-None : goal.returns-in-None
-returns-in-None c = record {
-  rows = c.new.ensures ∙ ap (λ o. unwrap_or o []) (sym c.in-None.is ∙ c.remove.ensures.value);
-  others = λ k.
-      ap (λ o. unwrap_or o []) (c.remove.ensures.updates.0 k) ∙ under-gone _ (get key_order c.args.self.now.under k) [] ∙ ap (λ b. cond b [] (under k c.args.self.now)) (key-back c.args.key.now k);
-}
+returns-in-None c =
+    let key = c.args.key.now in
+    let none : under key c.args.self.now ≡ [] = ap (λ o. unwrap_or o []) (sym c.in-None.ensures.value) in
+    record {
+      rows = c.new-none.ensures ∙ sym none;
+      others = λ k.
+          rw c.get_mut.follows.holds-at-none (none-there (is_eq (key_order k key)) (under k c.args.self.now) (λ same. under-like k key c.args.self.now same ∙ none));
+    }

@@ -6,5 +6,5 @@ use Rattle.dv_views.proofs.passing.Passing.reaches.Given as goal
 
 abbrev pub invariant-names : goal.invariant-names
 invariant-names l =
-    let told = told_found l.self.namespace.now l.self.changes.now l.self.place l.self.views.now.entries in
+    let told = told_found l.self.namespace.now l.self.all.now l.self.place l.self.views.now.entries in
     list_any (λ name. is_some (told name)) l.names ≡ list_any (λ name. is_some (told name)) (drop l.name-index l.names)

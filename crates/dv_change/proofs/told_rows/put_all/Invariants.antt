@@ -1,0 +1,18 @@
+-- What is left, on the rows so far, makes what all does; and behind what was told it is all that is told.
+use Rattle.std.proofs.Common.{◌≡◌, ◌++◌}
+use Rattle.std.specs.Vec.Iter.{into_iter_items}
+use Rattle.dv_change.specs.Changes.{with_changes}
+use Rattle.dv_change.specs.Inner.Beginning.{BeginsWith}
+use Rattle.dv_change.specs.Inner.Changes.{IsPositioned}
+use Rattle.dv_change.specs.Inner.Told.{changes_told}
+use Rattle.dv_change.proofs.told_rows.put_all.Given as goal
+
+abbrev pub invariant-all : goal.invariant-all
+invariant-all l =
+    let rest = into_iter_items l.taken-iterator in
+    record {
+      rows : with_changes l.rows.entries (changes_told rest) ≡ with_changes l.fn.rows.entries (changes_told l.fn.all.items);
+      positioned : IsPositioned l.rows.entries;
+      told : l.told.items ++ rest ≡ l.fn.told.items ++ l.fn.all.items;
+      begins : BeginsWith l.told.items l.fn.told.items;
+    }

@@ -1,6 +1,0 @@
--- The views have taken in that the documents so far go.
-use Rattle.dv_views.proofs.Losing.{HaveGone}
-use Rattle.dv_views.proofs.registry.Registry.apply_gone.Given as goal
-
-abbrev pub invariant-documents : goal.invariant-documents
-invariant-documents l = HaveGone l.namespace l.fn.documents l.document-iterator l.fn.self l.self

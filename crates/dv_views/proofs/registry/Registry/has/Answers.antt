@@ -1,6 +1,0 @@
-use Rattle.std.proofs.Common.{sym, ◌∙◌}
-use Rattle.dv_views.proofs.Entries.{there}
-use Rattle.dv_views.proofs.registry.Registry.has.Goals as goal
-
-pub returns : goal.returns
-returns c = rw (← c.self.view_is) (c.contains_key.ensures ∙ sym (there c.args.name.now c.self.inside.views.entries))

@@ -1,0 +1,8 @@
+-- The views have taken in the changes so far, where these were told with what stood there.
+use Rattle.std.proofs.Common.{take}
+use Rattle.dv_change.specs.Inner.Told.{changes_told}
+use Rattle.dv_views.proofs.Behind.{AreToldIn, HaveFollowed}
+use Rattle.dv_views.proofs.told_registry.ToldRegistry.apply.Given as goal
+
+abbrev pub invariant-changes : goal.invariant-changes
+invariant-changes l = HaveFollowed l.namespace (changes_told (take l.taken-index l.all)) (AreToldIn (take l.taken-index l.all)) l.fn.self l.self

@@ -1,0 +1,6 @@
+-- The views have taken in that the documents so far go.
+use Rattle.dv_views.proofs.Losing.{HaveGone}
+use Rattle.dv_views.proofs.told_registry.ToldRegistry.apply_gone.Given as goal
+
+abbrev pub invariant-documents : goal.invariant-documents
+invariant-documents l = HaveGone l.namespace l.fn.documents l.document-iterator l.fn.self l.self
