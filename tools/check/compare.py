@@ -3,13 +3,14 @@
 
 Needs the built program (./docd run < /dev/null). The same seed makes the same scripts (`tools/check/random_scripts.py`). They have
 the commands that docd has, good ones and ones with every kind of fault, in sessions that end and open again, in messages
-cut anywhere into lines; a few scripts at the limits of sizes and counts come last. The first script that docd answers in
-another way than the model is cut down and printed with both answers, and the exit status is 1. How far it is stands on standard
-error; a script takes a quarter of a second to a whole one. A few in ten thousand have towers of views
-that each join the one below with itself: those for which the model takes over a minute are passed over, and counted apart.
+cut anywhere into lines; a few scripts at the limits of sizes and counts come last. In so many of a hundred scripts as `--broken`
+says, half the messages have broken bytes (`tools/check/making/breaking.py`). The first script that docd answers in another way
+than the model is cut down and printed with both answers, and the exit status is 1. How far it is stands on standard error; the
+model takes some 0.1 seconds for a script. A few in ten thousand have towers of views
+that each join the one below with itself: those for which the model takes over a minute of processor time are passed over, and counted apart.
 
     python3 tools/check/compare.py
-    python3 tools/check/compare.py --seed 7 --count 10000 --program crates/docd/out/docd
+    python3 tools/check/compare.py --seed 7 --count 10000 --broken 33 --program crates/docd/out/docd
 """
 import argparse
 import random
@@ -31,7 +32,7 @@ from random_scripts import Maker
 
 MOST_TRIES = 3_000  # runs of docd that cutting a script down may take
 A_LOOK = 500  # scripts from one line of how far it is to the next
-MOST_SECONDS = 60  # that a script may take to be made and to be answered by the model
+MOST_SECONDS = 60  # of processor time that a script may take to be made and to be answered by the model
 
 
 class TooLong(Exception):
@@ -54,18 +55,18 @@ def wanted_answer(lines):
     return 1 if error else 0, output, error
 
 
-def random_script(seed, place):
+def random_script(seed, place, breaks):
     """A script's lines, lines that bring the same messages each in one, how many messages there are, and what the model answers;
     None where that takes too long."""
-    signal.alarm(MOST_SECONDS)
+    signal.setitimer(signal.ITIMER_PROF, MOST_SECONDS)
     try:
-        maker = Maker(random.Random("%d/%d" % (seed, place)))
+        maker = Maker(random.Random("%d/%d" % (seed, place)), breaks)
         cut, plain = maker.script()
         return cut, plain, maker.messages, wanted_answer(cut)
     except TooLong:
         return None
     finally:
-        signal.alarm(0)
+        signal.setitimer(signal.ITIMER_PROF, 0)
 
 
 class Cutting:
@@ -186,12 +187,13 @@ def main():
     options.add_argument("--seed", type=int, default=1)
     options.add_argument("--count", type=int, default=2_000, help="how many random scripts")
     options.add_argument("--start", type=int, default=0, help="the first one's number")
+    options.add_argument("--broken", type=int, default=0, help="how many scripts of a hundred have broken messages")
     options.add_argument("--without-limits", action="store_true", help="leave out the scripts at the limits")
     given = parsed(options, "compare")
-    signal.signal(signal.SIGALRM, stop)
+    signal.signal(signal.SIGPROF, stop)
     compared, messages, at_limits, seen = 0, 0, 0, Counter()
     for place in range(given.start, given.start + given.count):
-        made = random_script(given.seed, place)
+        made = random_script(given.seed, place, place % 100 < given.broken)
         if made is None:
             print("compare: seed %d, script %d is skipped: the model takes too long" % (given.seed, place), file=sys.stderr, flush=True)
             continue
@@ -202,6 +204,7 @@ def main():
             return 1
         compared, messages = compared + 1, messages + count
         count_replies(wanted[1], seen)
+        seen["closings"] += wanted[1].count(b" closed ")
         if compared % A_LOOK == 0:
             print("compare: no difference in %d scripts so far" % compared, file=sys.stderr, flush=True)
     for lines in () if given.without_limits else edges():

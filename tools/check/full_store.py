@@ -2,10 +2,15 @@
 """Fills docd until it has no memory for more documents, and checks that it can be emptied then.
 
 Needs the built program (./docd run < /dev/null). Once docd has answered a ping, it may have so many megabytes more than it has by
-then. Documents are inserted, fewer and fewer at a time, until one alone is refused: over an index and under two views, or not.
+then. Documents are inserted, fewer and fewer at a time, until one alone is refused: over two indexes and under two views, or not.
 Then in one run a document is deleted by its `_id`, and all others by deletes that are sent again until none is cut, each of which
-has to take out some; in another one an index, a cursor and the collection go. Behind both as many documents as before, less a
-twentieth, are inserted again, and views have to show what their aggregates do.
+has to take out some; in another one an index, a cursor and the collection go. Behind both documents are inserted again: as many as
+before, less a twentieth.
+
+Where memory ends, a document is stored and a view that finds none is stale; the documents that come then stand where its rows
+stood. So under views as many are inserted again as there were when all views were live last, less a twentieth. A stale view has to
+be live once it is read in the empty store, and to stay so until that many are there; then each view has to show what its aggregate
+does.
 
     python3 tools/check/full_store.py
     python3 tools/check/full_store.py --megabytes 15,500 --program crates/docd/out/docd
@@ -32,7 +37,7 @@ class Store:
     """A docd of little memory, and how many documents it has."""
 
     def __init__(self, program, megabytes, rich):
-        self.docd, self.count = Docd(program), 0
+        self.docd, self.count, self.views = Docd(program), 0, VIEWS if rich else {}
         self.ask("{ping: 1}")
         self.docd.bound(megabytes << 20)
         if rich:
@@ -63,10 +68,18 @@ class Store:
         return reply.get("n") == count
 
     def fill(self):
+        """Inserts until one document is refused. How many there were when all views were live last."""
+        most = 0
         for count in 1000, 100, 10, 1:
             missed = 0
             while missed < 5:
                 missed += not self.insert(count)
+                most = most if self.stale() else self.count
+        return most
+
+    def stale(self):
+        """The names of the views that are."""
+        return [name for name in self.views if self.ask('{viewStats: "%s"}' % name)["state"] == "stale"]
 
     def delete_all(self):
         """Deletes all documents, and returns how many commands that took."""
@@ -81,8 +94,14 @@ class Store:
                 raise Wrong("a delete of all, of which %d are there: %s" % (self.count, error))
             self.count -= error["done"]
 
+    def read_views(self):
+        for name in self.views:
+            self.ask('{find: "%s", limit: 1}' % name)
+
     def compare_views(self):
-        for name, pipeline in VIEWS.items():
+        if self.stale():
+            raise Wrong("with %d documents the views %s are stale again" % (self.count, ", ".join(self.stale())))
+        for name, pipeline in self.views.items():
             rows = [self.ask('{aggregate: "%s", pipeline: %s, cursor: {}}' % it) for it in ((name, "[]"), ("c", pipeline))]
             if rows[0]["cursor"]["firstBatch"] != rows[1]["cursor"]["firstBatch"]:
                 raise Wrong("the view %s doesn't show its rows" % name)
@@ -110,17 +129,18 @@ def fill_and_empty(program, megabytes, rich, drops):
     store = Store(program, megabytes, rich)
     store.insert(10)
     cursor = store.ask('{find: "c", batchSize: 1}')["cursor"]["id"]["$numberLong"]
-    store.fill()
-    filled = store.count
+    under_views = store.fill()
+    filled, stale = store.count, store.stale()
     how = drop_all(store, cursor, rich) if drops else delete_each(store)
     if store.count:
         raise Wrong("%d documents are counted in an empty collection" % store.count)
-    while store.count < filled - filled // 20:
+    store.read_views()
+    while store.count < under_views - under_views // 20:
         if not store.insert(100):
-            raise Wrong("after %s only %d documents can be stored, of %d before" % (how, store.count, filled))
-    if rich:
-        store.compare_views()
-    return "%d documents, %s, and %d documents" % (filled, how, store.count)
+            raise Wrong("after %s only %d documents can be stored, of %d before" % (how, store.count, under_views))
+    store.compare_views()
+    told = ", the last %d beside stale views (%s)" % (filled - under_views, ", ".join(stale)) if stale else ""
+    return "%d documents%s; %s, and %d documents" % (filled, told, how, store.count)
 
 
 def main():

@@ -41,6 +41,10 @@ class Listening:
             time.sleep(0.01)
         return [fate for _, fate in sorted(self.fates.items())]
 
+    def status(self):
+        """With which exit status it has ended, the number of a signal below zero; None where it runs."""
+        return self.process.poll()
+
     def seconds(self):
         """The processor time that it has taken."""
         return time.clock_gettime(~self.process.pid << 3 | 2)

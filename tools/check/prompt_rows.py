@@ -61,7 +61,11 @@ SUSPECTED = [
     ('{update: "c", updates: [{q: {}, u: {a: 1}}]}', 28, 0, "updates.0"), ('{delete: "c", deletes: [{q: {}, limit: 2}]}', 2, 0, "limit: 2"),
     ('{explain: {count: "c"}}', 59, None, "only a find"), ('{find: "c", filter: {a: {$regex: "b"}}}', 2, None, "$regex"),
     ('{find: "c", projection: {a: 1}}', 9, None, "only {}"), ('{find: "c", skip: 1, skip: 2}', 22, None, "skip is given twice"), ('{aggregate: "c", pipeline: [{$group: {_id: 1, n: {$avg: "$a"}}}]}', 9, None, "$avg"),
-    ('{$db: "t"}', 59, None, "no command"), ('{explain: {find: "c", limt: 5}}', 9, None, "limit may be meant"), ('{createIndexes: "c", indexes: [{key: {a: 1}}]}', 9, None, "the index"), ('{ping: 1, $db: "a.b"}', 2, None, "the database"),
+    ('{$db: "t"}', 59, None, "no command"), ('{explain: {find: "c", limt: 5}}', 9, None, "limit may be meant"), ('{createIndexes: "c", indexes: [{key: {a: 1}}]}', 9, None, "in indexes.0 the field name is missing"),
+    ('{createIndexes: "c", indexes: [{key: {a: 1, b: 1}, name: "i"}]}', 9, None, "only one path"), ('{createIndexes: "c", indexes: [{key: {a: 2}, name: "i"}]}', 2, None, "the index"),
+    ('{createIndexes: "c", indexes: [{key: {a: 1}, name: "i", uniqe: true}]}', 9, None, "unique may be meant"), ('{aggregate: "c", pipeline: [{$group: {n: {$sum: 1}}}]}', 9, None, "the field _id is missing"),
+    ('{aggregate: "c", pipeline: [{$lookup: {from: "d", localField: "a", as: "d"}}]}', 9, None, "foreignField is missing"), ('{aggregate: "c", pipeline: [{$project: {a: {$add: [1]}}}]}', 9, None, "no operator $add"),
+    ('{create: "v", viewOn: "c", pipeline: [{$match: {a: {$gtt: 1}}}]}', 2, None, "$gt"), ('{ping: 1, $db: "a.b"}', 2, None, "the database"),
 ]
 
 

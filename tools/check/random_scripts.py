@@ -6,6 +6,7 @@ walked through one of them, and an operand is what stands there, or stands near 
 """
 import struct
 
+from making.breaking import Breaker
 from making.commands import Commands
 from model import messages
 from model.commands import answer_to
@@ -25,12 +26,19 @@ STAGES = ["$match", "$project", "$unwind", "$sort", "$limit", "$group", "$lookup
 ALL = number(2**31 - 1)  # as many rows in a first batch as its bytes let
 
 
-class Maker(Commands):
-    """Makes scripts, and counts their messages."""
+def nested(levels, value):
+    """A document of so many levels around a value."""
+    for _ in range(levels):
+        value = document([(b"a", value)])
+    return value
 
-    def __init__(self, rng):
+
+class Maker(Commands):
+    """Makes scripts, and counts their messages, half of which are broken where it breaks any."""
+
+    def __init__(self, rng, breaks=False):
         super().__init__(rng)
-        self.messages = 0
+        self.messages, self.breaker = 0, Breaker(rng) if breaks else None
         self.is_crowded = False  # whether there are many documents
         self.is_large = False  # whether there are some hundred
 
@@ -96,7 +104,9 @@ class Maker(Commands):
         if self.often(0.003):
             flags = self.rng.choice([1, 4, 5, 2**15])
         data = self.whole(flags)
-        if self.often(0.03):
+        if self.breaker and self.often(0.5):
+            data = self.breaker.broken(data)
+        elif self.often(0.03):
             # A byte of the fields, mostly, since one in front of them closes the session.
             place = self.rng.randrange(25 if self.often(0.9) else 0, len(data) - 1)
             byte = self.rng.choice([0, 1, 3, 4, 0x7f, 0xff, self.rng.randrange(256)])
@@ -190,10 +200,28 @@ class Maker(Commands):
         made = [self.asked([(b"insert", text(b"c")), (b"documents", array(rows))]), self.asked(view)]
         return made[::-1] if self.often(0.3) else made
 
+    def deep(self):
+        """Some documents of nearly the most levels, and a view that puts them still deeper, in a few scripts: the model takes a second
+        for one."""
+        if self.often(0.98):
+            return []
+        rows = [document([(b"_id", number(2_000 + place)), (b"a", nested(self.rng.randint(90, 98), number(place // 2)))])
+                for place in range(4)]
+        deeper = document([(b"$project", document([(b"a", nested(self.rng.randint(1, 60), text(b"$a")))]))])
+        push = [(b"_id", text(b"$a")), (b"all", document([(b"$push", text(b"$a"))]))]
+        lookup = [(b"from", text(b"c")), (b"localField", text(b"a")), (b"foreignField", text(b"a")), (b"as", text(b"o"))]
+        others = [(b"$group", document(push)), (b"$sort", document([(b"a", number(-1))])), (b"$unwind", text(b"$a")),
+                  (b"$lookup", document(lookup))]
+        stages = [document([one]) for one in self.rng.sample(others, 2)]
+        stages.insert(self.rng.randrange(3), deeper)
+        view = [(b"create", text(b"z")), (b"viewOn", text(b"c")), (b"pipeline", array(stages))]
+        return [self.asked(view), self.asked([(b"insert", text(b"c")), (b"documents", array(rows))])]
+
     def run(self, number):
         """The lines of one session, cut anywhere, and a message in each."""
         self.session = object()
-        made = [] if self.made else [*self.unique(), self.first(), *self.unique(), *self.many(), *self.large(), *self.views()]
+        made = [] if self.made else [*self.unique(), self.first(), *self.unique(), *self.many(), *self.large(), *self.deep(),
+                                     *self.views()]
         for _ in range(self.rng.randint(1, 25)):
             made.append(self.message())
             made += self.written() if self.often(0.1) else []

@@ -32,6 +32,7 @@ def edges():
     yield from update_edges()
     yield from view_edges()
     yield from tower_edges()
+    yield from tie_edges()
 
 
 def delete_edges():
@@ -97,6 +98,38 @@ def tower_edges():
             (b"x", b"d", [looking_into(rng.choice([b"v", b"w"]))]), (b"y", rng.choice([b"w", b"x"]), [looking_into(b"d")]),
             (b"z", b"c", [(b"$match", document([(b"k", number(1))]))]), (b"a", b"z", [looking_into(b"w"), (b"$limit", number(2))])]]
         yield lines_of(0, there, *views, *(one_of_tower(rng) for _ in range(60)))
+
+
+def tie_edges():
+    """Finds of the first documents in a sort by an index in which many have the same key, some of them arrays, null or none."""
+    for path, seed in [(b"k", 1), (b"k", 2), (b"k", 3), (b"k.n", 4), (b"k.n", 5)]:
+        rng = random.Random(seed)
+        keys, several = rng.choice([1, 3, 8]), rng.choice([0, 0.1, 0.6])
+        there = insert([document([(b"_id", number(i)), *tied(rng, path, keys, several), (b"x", number(rng.randrange(3)))])
+                        for i in rng.sample(range(2_000), 320)])
+        entry = document([(b"key", document([(path, number(1))])), (b"name", text(b"i"))])
+        yield lines_of(0, there, [(b"createIndexes", text(b"c")), (b"indexes", array([entry]))],
+                       *(first_of_tied(rng, path, keys) for _ in range(40)))
+
+
+def tied(rng, path, keys, several):
+    """The fields of a document by whose path it has one of so few keys, several of them, null or none."""
+    def one():
+        return NOTHING if rng.random() < 0.1 else number(rng.randrange(keys))
+
+    held = array(one() for _ in range(rng.randrange(4))) if rng.random() < several else one()
+    if path == b"k.n":
+        held = array(document([(b"n", one())]) for _ in range(rng.randrange(3))) if rng.random() < several else document([(b"n", held)])
+    return [(b"k", held)] * (rng.random() < 0.9)
+
+
+def first_of_tied(rng, path, keys):
+    """A find of the first documents in a sort by this path, of all or of those in a range of it, or that something else is true of."""
+    ends = [(operator, number(rng.randrange(keys))) for operator in rng.choice([[b"$gte"], [b"$lt"], [b"$gt", b"$lte"]])]
+    filters = rng.choice([[], [], [(path, document(ends))], [(b"x", number(1))]])
+    parts = [(path, number(rng.choice([1, -1]))), *rng.choice([[], [], [], [(b"x", number(-1))]])]
+    return FIND + [(b"filter", document(filters)), (b"sort", document(parts)), (b"skip", number(rng.choice([0, 0, 1, 7]))),
+                   (b"limit", number(rng.choice([1, 2, 3, 7, 15, 16, 17, 18])))]
 
 
 def made_view(name, source, stages):

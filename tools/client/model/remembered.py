@@ -9,9 +9,10 @@ def remembered(function):
     known = {}
 
     def of(row):
-        if id(row) not in known:
+        place = id(row)
+        if place not in known:
             if len(known) == MOST_REMEMBERED:
                 known.clear()
-            known[id(row)] = row, function(row)
-        return known[id(row)][1]
+            known[place] = row, function(row)
+        return known[place][1]
     return of

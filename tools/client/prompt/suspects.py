@@ -23,7 +23,10 @@ MOST = 60  # signs of a value that are shown
 ALIKE = 0.7  # how alike, of 1, a name is that may be meant
 OF_NAMES = NAMESPACE_NOT_FOUND, NAMESPACE_EXISTS, ON_VIEW, READ_BY_VIEW
 ENTRIES = {b"updates": UPDATE_ENTRY, b"deletes": DELETE_ENTRY}
-IN_STAGES = {*STAGES, *LOGIC, *CONDITIONS, *ACCUMULATORS, b"$literal"}
+LITERAL = b"$literal"
+IN_STAGES = {b"$match": {*LOGIC, *CONDITIONS}, b"$group": {*ACCUMULATORS, LITERAL}}  # and this alone in others
+NEEDED = {b"$group": [b"_id"], b"$lookup": [b"from", b"localField", b"foreignField", b"as"]}
+INDEX_ENTRY = {b"key": kinds.document, b"name": kinds.text, b"unique": kinds.boolean, b"v": kinds.anything}
 KINDS = {
     kinds.text: "a string", kinds.documents: "an array of documents", kinds.boolean: "true or false", kinds.document: "a document",
     kinds.array: "an array of stages", kinds.natural: "a number from 0", kinds.any_number: "a number",
@@ -128,16 +131,36 @@ def held_in(fields):
     if given.get(b"sort", (None, None))[1]:
         yield "the sort %s" % short(given[b"sort"]), lambda: sort_of(given[b"sort"][1])
     for place, stage in enumerate(given.get(b"pipeline", (ARRAY, []))[1], 1):
-        told = "stage %d of the pipeline: %s" % (place, short(stage))
-        if stage[0] == DOCUMENT and stage[1] and stage[1][0][0] not in STAGES:
-            told = misnamed("stage", stage[1][0][0], STAGES)
-        elif operator := unknown_in(stage, IN_STAGES):
-            told += "; " + misnamed("operator", operator, IN_STAGES)
-        yield told, lambda stage=stage: pipeline_of([stage])
-    for place, entry in enumerate(given.get(b"indexes", (ARRAY, []))[1]):
-        yield "the index %s" % short(entry), lambda entry=entry: entry_of(entry[1])
+        yield from of_stage("stage %d of the pipeline" % place, stage)
+    for place, (_, entry) in enumerate(given.get(b"indexes", (ARRAY, []))[1]):
+        yield from of_index("indexes.%d" % place, entry)
     if given.get(b"explain", (None, None))[0] == DOCUMENT:
         yield from held_in(given[b"explain"][1])
+
+
+def of_stage(place, stage):
+    """The name of a stage, what it lacks, its operators, and then all of it."""
+    name, (kind, operand) = stage[1][0] if stage[0] == DOCUMENT and stage[1] else (b"", (None, None))
+    told = "%s: %s" % (place, short(stage))
+    if name not in STAGES:
+        told = misnamed("stage", name, STAGES) if name else told
+    elif operator := unknown_in((kind, operand), IN_STAGES.get(name, {LITERAL})):
+        told += "; " + misnamed("operator", operator, IN_STAGES.get(name, {LITERAL}))
+    elif kind == DOCUMENT and (lacking := [one for one in NEEDED.get(name, []) if one not in dict(operand)]):
+        told += "; the field %s is missing" % shown_name(lacking[0])
+    yield told, lambda: pipeline_of([stage])
+
+
+def of_index(place, entry):
+    """The fields of an index that is to be made, one by one, and then all of it."""
+    yield from of_fields("in %s " % place, entry, INDEX_ENTRY)
+    for name in (b"key", b"name"):
+        if name not in dict(entry):
+            yield "in %s the field %s is missing" % (place, shown_name(name)), lambda: refuse(FAILED_TO_PARSE)
+    key = dict(entry).get(b"key", (DOCUMENT, []))
+    if key[0] == DOCUMENT and len(key[1]) > 1:
+        yield "in %s the field key: %s; it may have only one path" % (place, short(key)), lambda: refuse(FAILED_TO_PARSE)
+    yield "the index %s" % short((DOCUMENT, entry)), lambda: entry_of(entry)
 
 
 def of_filter(value, name):
