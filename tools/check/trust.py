@@ -5,9 +5,8 @@ A definition has to be believed if a contract or law that users rely on names it
 a clause of a public function, a ghost member of a public trait, or what the values of a public type are. Lemmas are proved, and
 invariants and codings of types only serve proofs. tools/check/trust.txt says on which crates users rely.
 
-    tools/check/trust.py                   how many files and lines are outer and inner, by crate, and where both kinds share a file
+    tools/check/trust.py                   how many files and lines are outer and inner, by crate
     tools/check/trust.py --check           fails where an outer file imports an inner one, or a file stands in the wrong folder
-    tools/check/trust.py --move            moves and splits files, and mends each path that names them
     tools/check/trust.py --definitions     writes docs/DEFINITIONS.md from the comments of the outer files
     tools/check/trust.py --why NAME        tells which contract or law makes this definition one that has to be believed
 """
@@ -18,10 +17,9 @@ import sys
 from collections import defaultdict
 
 import contracts
-from definitions import Everything, INNER, Module, ROOT, below, spoken, use_lines, words_of
+from definitions import Everything, Module, ROOT, below, use_lines, words_of
 
 GIVEN = pathlib.Path(__file__).resolve().with_name("trust.txt")
-FEW = 12  # lines of other words that may stay beside those that have to be believed
 
 
 class Given:
@@ -89,224 +87,6 @@ class Trust:
 def count(items):
     """How many lines some items have, without comments and empty lines."""
     return sum(1 for item in items for line in item.lines if line.strip() and not line.lstrip().startswith("--"))
-
-
-class Plan:
-    """Where each definition goes: {module: "outer", "inner" or "split"}."""
-
-    def __init__(self, trust):
-        self.trust, self.all = trust, trust.all
-        self.kinds, self.why = {}, {}
-        for module, file in self.all.files.items():
-            outer, inner = trust.parts(file)
-            self.kinds[module] = "inner" if file.is_inner or not outer else "split" if count(inner) > FEW else "outer"
-        changed = True
-        while changed:  # what stays beside believed words may name no inner ones
-            changed = False
-            for module, file in self.all.files.items():
-                if self.kinds[module] == "outer" and any(not self._is_outer(pair) for item in file.items for pair in self._names(module, item)):
-                    self.kinds[module] = changed = "split"
-        for module in self.all.files:
-            if self.kinds[module] == "split" and (reason := self._whole(module)):
-                self.kinds[module], self.why[module] = "outer", reason
-
-    def _names(self, module, item):
-        return self.all.named(item.words, self.all.files[module].text, module)
-
-    def _is_outer(self, pair):
-        kind = self.kinds[pair[0]]
-        return kind == "outer" or (kind == "split" and self.trust.is_believed(self.all.owner[pair]))
-
-    def is_inner_name(self, module, name):
-        """Whether the name of a module goes to the inner part of it."""
-        kind = self.kinds.get(module, "outer")
-        return kind == "inner" or (kind == "split" and (module, name) in self.all.owner and not self.trust.is_believed(self.all.owner[module, name]))
-
-    def _whole(self, module):
-        """Why a file can't be split by the script, if it can't."""
-        if Module(module.crate, "%s.%s" % (INNER, module.name)) in self.all.files:
-            return "there is an inner file of its name"
-        file = self.all.files[module]
-        outer, inner = self.trust.parts(file)
-        for item in outer:
-            used = {name for other in inner for name in item.names if spoken(name) & other.words}
-            if used and not published(item, used):
-                return "its inner part names words that are private to it"
-        return ""
-
-
-def published(item, names):
-    """The lines of an item with `pub` at the heads of these names, or None where that can't be written."""
-    lines = list(item.lines)
-    for name in names:
-        head = re.compile(r"(\s*(?:abbrev |unfoldable )?)(pub )?((?:record |data )?%s\s*[:({].*)" % re.escape(name))
-        at = next((at for at, line in enumerate(lines) if head.match(line)), None)
-        if at is None:
-            return None
-        space, is_public, rest = head.match(lines[at]).groups()
-        if not is_public and not is_constructor(lines, at):
-            lines[at] = space + "pub " + rest
-    return lines
-
-
-def is_constructor(lines, at):
-    """Whether a line is one of a public type's constructors, which are public without a word."""
-    depth = len(lines[at]) - len(lines[at].lstrip())
-    around = next((line for line in reversed(lines[:at]) if line.strip() and len(line) - len(line.lstrip()) < depth), "")
-    return around.lstrip().startswith("pub data ")
-
-
-def is_field(item, name):
-    """Whether a name is that of a record's field, which no import names."""
-    at = next((at for at, line in enumerate(item.lines) if re.match(r"\s+(pub )?%s\s*:" % re.escape(name), line)), None)
-    return at is not None and "record " in "".join(item.lines[:at]) and not is_constructor(item.lines, at)
-
-
-def sources(root):
-    """Each file that may name a definition."""
-    root = pathlib.Path(root)
-    for folder, ending in [("specs", "antt"), ("proofs", "antt"), ("src", "rt"), ("must-fail", "edit")]:
-        for path in sorted(root.glob("crates/*/%s/**/*.%s" % (folder, ending))):
-            if "out" not in path.relative_to(root).parts:
-                yield path
-    yield from sorted(root.glob("planted/*/*.edit"))
-
-
-# ---- moving
-
-def move(trust):
-    plan = Plan(trust)
-    everything = trust.all
-    texts = {path: path.read_text() for path in sources(everything.root)}
-    for module, kind in plan.kinds.items():
-        file = everything.files[module]
-        if file.is_inner or kind == "outer":
-            continue
-        inner = file.path.parent / INNER / file.path.name
-        if kind == "inner":
-            texts[inner] = texts.pop(file.path)
-            file.path.unlink()
-        else:
-            outer_items, inner_items = trust.parts(file)
-            texts[file.path], texts[inner] = halves(plan, module, outer_items, inner_items)
-    for crate, modules in everything.listed.items():
-        libraries(plan, crate, modules, texts)
-    for path, text in texts.items():
-        new = mended(plan, path, text)
-        path.parent.mkdir(exist_ok=True)
-        if not path.is_file() or path.read_text() != new:
-            path.write_text(new)
-    for path in sorted(pathlib.Path(everything.root, "docs").glob("*.md")):
-        path.write_text(mended_document(plan, path.read_text()))
-    for module, reason in plan.why.items():
-        print("%s has both kinds, and isn't split: %s" % (shown(module), reason))
-
-
-def halves(plan, module, outer, inner):
-    """The texts of a file's outer part and of its inner one."""
-    file = plan.all.files[module]
-    first = min(item.first for item in file.items)
-    header = [line for line in file.lines[:first] if line.startswith(("use ", "pub use "))]
-    heading = [line for line in file.lines[:first] if line.startswith("--")]
-    used = [name for item in outer for name in item.names if any(spoken(name) & other.words for other in inner)]
-    lines = {id(item): published(item, [name for name in item.names if name in used]) for item in outer}
-    imported_names = [name for item in outer for name in item.names if name in used and not is_field(item, name)]
-    own = "use Rattle.%s.specs.%s.{%s}" % (module.crate, module.name, ", ".join(dict.fromkeys(imported_names)))
-
-    def written(items, head, uses, comment):
-        body = "\n".join("\n".join(lines.get(id(item), item.lines)).strip("\n") + "\n" for item in items)
-        return "\n".join([*comment, *needed(uses, body), "", body])
-
-    top = written(outer, header, header, heading)
-    rest = written(inner, header, header + ([own] if imported_names else []), ["-- Of `%s`, what only bodies and proofs need." % module.name])
-    return re.sub(r"\n{3,}", "\n\n", top), re.sub(r"\n{3,}", "\n\n", rest)
-
-
-def needed(uses, body):
-    """The `use` lines, without names of this repository that a text doesn't have."""
-    words = {part for word in re.findall(r"[^\s(){}\[\],;]+", body) for part in [word, word.strip("."), *word.split(".")]}
-    for line in uses:
-        match = re.match(r"((?:pub )?use Rattle\.dv_\w+\.specs\.[^{]*)\{([^}]*)\}(.*)$", line)
-        if match and not line.startswith("pub "):
-            names = [name.strip() for name in match[2].split(",")]
-            names = [name for name in names if spoken(name.split(" as ")[-1]) & words]
-            if names:
-                yield "%s{%s}%s" % (match[1], ", ".join(names), match[3])
-        else:
-            yield line
-
-
-def libraries(plan, crate, modules, texts):
-    """Mends Lib.antt, and writes Inner.antt."""
-    library = plan.all.root / "crates" / crate / "specs" / "Lib.antt"
-    inner = [module for module in modules if plan.kinds[module] != "outer"]
-    if not inner:
-        return
-    gone = {"pub mod " + module.name for module in modules if plan.kinds[module] == "inner"}
-    lines = [line for line in texts[library].rstrip("\n").split("\n") if line not in gone and line != "pub mod " + INNER]
-    lines = [line for at, line in enumerate(lines) if not line.startswith("--") or lines[at + 1:at + 2] and not lines[at + 1].startswith("--")]
-    texts[library] = "\n".join([*lines, "-- what only bodies and proofs need", "pub mod " + INNER]) + "\n"
-    texts[library.with_name(INNER + ".antt")] = ("-- Definitions and lemmas that need not be believed: invariants, codings, and words of bodies and proofs.\n"
-                                                 + "".join("pub mod %s\n" % module.name.split(".")[-1] for module in inner))
-
-
-USED = re.compile(r"^(?P<front>.*?\b(?:pub )?use )Rattle\.(?P<crate>dv_\w+)\.specs\.(?P<rest>[^\s;{]+?)(?:\.\{(?P<names>[^}]*)\})?(?P<behind>(?: as [^\s;]+)?;?)$", re.M)
-PATH = re.compile(r"\b(crate|dv_\w+)::specs::(\w+)::([^\s,)\]:]+)")
-TERM = re.compile(r"(?<!use )Rattle\.(dv_\w+)\.specs\.(\w+)\.([^\s,(){}\[\];.]+)")
-
-
-def mended(plan, path, text):
-    """A file's text with the paths of what moved."""
-    own, aliases = path.relative_to(plan.all.root).parts[1], {}
-
-    def use(match):
-        crate, parts = match["crate"], match["rest"].split(".")
-        if parts[0] in (INNER, "declared") or (module := plan.all.module(crate, parts[0])) not in plan.kinds:
-            return match[0]
-        is_passed = Module(crate, parts[0]) in plan.all.passed_on and plan.kinds[module] != "split"
-
-        def line(names, is_inner, behind=match["behind"]):
-            way = [crate, "specs", *parts] if not is_inner or is_passed else [module.crate, "specs", INNER, module.name, *parts[1:]]
-            return match["front"] + "Rattle." + ".".join(way) + (".{%s}" % names if names is not None else "") + behind
-
-        if match["names"] is None and len(parts) == 1:
-            alias = (match["behind"].rstrip(";").split() or [parts[0]])[-1]
-            named = {plan.is_inner_name(module, name) for name in re.findall(r"(?<![\w.])%s\.([^\s,(){}\[\];.]+)" % re.escape(alias), text)}
-            if plan.kinds[module] != "split" or len(named) < 2:
-                return line(None, plan.kinds[module] == "inner" or named == {True})
-            end = ";" if match["behind"].endswith(";") else ""
-            aliases[alias] = module
-            return line(None, False) + "\n" + line(None, True, " as %s_inner%s" % (alias, end))
-        if len(parts) > 1:
-            return line(match["names"], plan.is_inner_name(module, parts[1]))
-        parted = defaultdict(list)
-        for name in match["names"].split(","):
-            if name.strip():
-                parted[plan.is_inner_name(module, name.split(" as ")[0].strip())].append(name.strip())
-        return "\n".join(line(", ".join(parted[is_inner]), is_inner) for is_inner in (False, True) if parted[is_inner])
-
-    def word(match):
-        crate = own if match[1] == "crate" else match[1]
-        module = plan.all.module(crate, match[2])
-        return "%s::specs::%s%s::%s" % (match[1], INNER + "::" if plan.is_inner_name(module, match[3]) else "", match[2], match[3])
-
-    def term(match):
-        module = plan.all.module(match[1], match[2])
-        return "Rattle.%s.specs.%s%s.%s" % (match[1], INNER + "." if plan.is_inner_name(module, match[3]) else "", match[2], match[3])
-
-    text = re.sub(r"(\buse Rattle\.dv_\w+\.specs\.[^\s;{]+\.)\{([^}]*)\}", lambda found: "%s{%s}" % (found[1], " ".join(found[2].split())), text)
-    text = TERM.sub(term, PATH.sub(word, USED.sub(use, text)))
-    for alias, module in aliases.items():
-        text = re.sub(r"(?<![\w.])%s(?=\.([^\s,(){}\[\];.]+))" % re.escape(alias),
-                      lambda found: alias + "_inner" if plan.is_inner_name(module, found[1]) else alias, text)
-    return text
-
-
-def mended_document(plan, text):
-    def path(match):
-        kind = plan.kinds.get(Module(match[1], match[2]))
-        return "%s/specs/%s%s.antt" % (match[1], INNER + "/" if kind == "inner" else "", match[2])
-    return re.sub(r"\b(dv_\w+)/specs/(\w+)\.antt", path, text)
 
 
 # ---- checking and counting
@@ -399,46 +179,34 @@ def small(text):
     return text if text[1:2].isupper() else text[:1].lower() + text[1:]
 
 
+def shown_row(name, row):
+    return "%-16s %6d %6d %6d %6d" % (name, row["files", False], row["lines", False], row["files", True], row["lines", True])
+
+
 def show(trust):
-    plan, everything = Plan(trust), trust.all
-    total = defaultdict(int)
+    everything, total = trust.all, defaultdict(int)
     print("%-16s %6s %6s %6s %6s" % ("crate", "outer", "lines", "inner", "lines"))
     for crate, modules in everything.listed.items():
         row = defaultdict(int)
-        for module in modules:
-            file, kind = everything.files[module], plan.kinds[module]
-            outer, inner = trust.parts(file)
-            rest = len(file.lines) - count(file.items)
-            for is_inner, items in ((0, outer), (1, inner)):
-                if kind == "split" or is_inner == (kind == "inner"):
-                    row["files", is_inner] += 1
-                    row["lines", is_inner] += (count(items) if kind == "split" else count(file.items)) + rest
-        print("%-16s %6d %6d %6d %6d" % (crate, row["files", 0], row["lines", 0], row["files", 1], row["lines", 1]))
+        for file in (everything.files[module] for module in modules):
+            row["files", file.is_inner] += 1
+            row["lines", file.is_inner] += len(file.lines)
+        print(shown_row(crate, row))
         for key, number in row.items():
             total[key] += number
-    print("%-16s %6d %6d %6d %6d" % ("all", total["files", 0], total["lines", 0], total["files", 1], total["lines", 1]))
+    print(shown_row("all", total))
     print("to believe: %d lines of definitions, without comments and imports; %d for the program alone" % (trust.lines, trust.of_program()))
-    for module, kind in plan.kinds.items():
-        if kind == "split":
-            outer, inner = trust.parts(everything.files[module])
-            print("to be split: %s/%s, %d lines to believe, %d others" % (*module, count(outer), count(inner)))
-    for module, reason in plan.why.items():
-        outer, inner = trust.parts(everything.files[module])
-        print("both kinds, to be split by hand (%s): %s/%s, %d and %d lines" % (reason, *module, count(outer), count(inner)))
 
 
 def main():
     options = argparse.ArgumentParser(description=__doc__.split("\n")[0])
     options.add_argument("--check", action="store_true", help="only look for what stands in the wrong place")
-    options.add_argument("--move", action="store_true", help="move and split files")
     options.add_argument("--definitions", action="store_true", help="write docs/DEFINITIONS.md")
     options.add_argument("--why", metavar="NAME", help="tell what makes a definition one that has to be believed")
     options.add_argument("--root", default=ROOT, help="the repository")
     given = options.parse_args()
     trust = Trust(given.root)
-    if given.move:
-        move(trust)
-    elif given.why:
+    if given.why:
         print("\n".join(trust.why(given.why)) or "it need not be believed")
     elif given.definitions:
         page(trust).write_text(definitions(trust))
