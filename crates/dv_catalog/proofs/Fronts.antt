@@ -1,19 +1,21 @@
 -- Stages in front of a pipeline that are a find, and stages that look into nothing.
-use Rattle.std.proofs.Common.{◌≡◌, ◌∙◌, ap, sym, refl, ℕ, Bool, true, false, not, ◌&&◌, List, [], ◌∷◌, ◌++◌, Option, Some, None, take, is_some}
+use Rattle.std.proofs.Common.{◌≡◌, ◌∙◌, ◌≤◌, ap, sym, refl, ℕ, zero, suc, Bool, true, false, not, ◌&&◌, List, [], ◌∷◌, ◌++◌, Option, Some, None, take, map, is_some, arith}
+use Rattle.std.proofs.lemmas.List.{take-map}
 use Rattle.std.specs.List.{list_all}
 use Rattle.std.specs.Option.{option_map}
 use Rattle.dv_match.specs.Filter.{Members, no_members}
 use Rattle.dv_match.specs.Match.{matches}
 use Rattle.dv_path.specs.SortSpec.{Part}
 use Rattle.dv_pipe.specs.declared.stage.Stage.{Stage}
-use Rattle.dv_gather.specs.Lookups.{looked_up}
+use Rattle.dv_gather.specs.Lookups.{joined_row, looked_up}
 use Rattle.dv_gather.specs.declared.lookup.Lookup.{Lookup}
 use Rattle.dv_pipe.specs.declared.stage.Stage.TheVariants as stages
 use Rattle.dv_pipe.specs.declared.stage.Stage.TheVariants.{Match, Sort, Limit}
 use Rattle.dv_pipe.specs.Sources.{Row}
 use Rattle.dv_pipe.specs.Stages.{Lists, beside, foreign_of, from_of, rows_at, stage, through}
-use Rattle.dv_sort.specs.Sorting.{stable}
+use Rattle.dv_sort.specs.Sorting.{front, stable}
 use Rattle.dv_catalog.specs.Inner.Behind.{looks_nowhere}
+use Rattle.dv_catalog.specs.Inner.Fronts.{wanted}
 use Rattle.dv_catalog.specs.Scan.{matching}
 
 module _ (stages later : List Stage) (source : List ℕ) (lists : Lists) (rows : List Row) where
@@ -56,3 +58,26 @@ module _ (source : List ℕ) (lists others : Lists) where
   by_lookup (s ∷ ss) later l rows nowhere =
       ap (λ foreign. through later source lists (looked_up l (through ss source others (stage s rows foreign)) (lists (beside source l.from)))) (sym (foreign-same (from_of s) (and-left (looks_nowhere s) (list_all looks_nowhere ss) nowhere)))
       ∙ by_lookup ss later l (stage s rows (foreign_of s source lists)) (and-right (looks_nowhere s) (list_all looks_nowhere ss) nowhere)
+
+take-twice : {X : Type 0} (n : ℕ) (xs : List X) → take n (take n xs) ≡ take n xs
+take-twice zero xs = refl
+take-twice (suc n) [] = refl
+take-twice (suc n) (x ∷ xs) = ap (λ l. x ∷ l) (take-twice n xs)
+
+front-map : (f : Row → Row) (most : Option ℕ) (rows : List Row) → map f (front most rows) ≡ front most (map f rows)
+front-map f None rows = refl
+front-map f (Some n) rows = sym (take-map f n rows)
+
+-- the rows that stages want are all that they take
+pub wanted_enough : (ss : List Stage) (source : List ℕ) (lists : Lists) (rows : List Row) → through ss source lists (front (wanted ss) rows) ≡ through ss source lists rows
+unfolding through stage looked_up
+wanted_enough [] source lists rows = refl
+wanted_enough (stages.Limit n ∷ ss) source lists rows = ap (through ss source lists) (take-twice n rows)
+wanted_enough (stages.Match form ∷ ss) source lists rows = refl
+wanted_enough (stages.Project p ∷ ss) source lists rows = ap (through ss source lists) (front-map _ (wanted ss) rows) ∙ wanted_enough ss source lists (stage (stages.Project p) rows [])
+wanted_enough (stages.Unwind u ∷ ss) source lists rows = refl
+wanted_enough (stages.Sort parts ∷ ss) source lists rows = refl
+wanted_enough (stages.Group g ∷ ss) source lists rows = refl
+wanted_enough (stages.Lookup l ∷ ss) source lists rows =
+    let joined = joined_row l (lists (beside source l.from)) in
+    ap (through ss source lists) (front-map joined (wanted ss) rows) ∙ wanted_enough ss source lists (map joined rows)

@@ -3,7 +3,7 @@
 ghost use Rattle.std.specs.Prelude.{◌≡◌, List, IfOk};
 ghost use Rattle.std.specs.Option.{option_map};
 ghost use Rattle.dv_catalog.specs.Inner.CatalogParts.{lists_kept};
-ghost use Rattle.dv_catalog.specs.Inner.Fronts.{IsFront, matching_where, passed, sorted_where};
+ghost use Rattle.dv_catalog.specs.Inner.Fronts.{IsFront, matching_where, passed, sorted_where, wanted as wanted_by};
 ghost use Rattle.dv_catalog.specs.Scan.{matching};
 ghost use Rattle.dv_match.specs.Filter.{no_members};
 ghost use Rattle.dv_pipe.specs.Sources.{Row};
@@ -28,6 +28,7 @@ use std::alloc::Global;
 struct Front<'a> {
     filter: Option<&'a Filter>,
     sort: Option<&'a SortSpec>,
+    /// How many rows the `$limit` leaves. Where there is none, how many the stages behind need, where they don't need all.
     most: Option<usize>,
     /// The stages behind them.
     later: &'a [Stage],
@@ -70,14 +71,30 @@ fn first_sort(stages: &[Stage]) -> (Option<&SortSpec>, &[Stage])
     }
 }
 
-/// How many rows a `$limit` leaves that is the first stage, and the stages behind it.
+/// How many rows a `$limit` leaves that is the first stage, and the stages behind it. Where another stage is the first, how many rows
+/// the stages need.
 fn first_limit(stages: &[Stage]) -> (Option<usize>, &[Stage])
     ensures { IsFront (front result.0) result.1.now stages.now }
 {
-    match stages.split_first() {
-        Some((Stage::Limit(count), later)) => (Some(*count as usize), later),
-        _ => (None, stages),
+    if let Some((Stage::Limit(count), later)) = stages.split_first() {
+        return (Some(*count as usize), later);
     }
+    (wanted(stages), stages)
+}
+
+/// How many of the first rows matter to the stages, where not all do: those that a `$limit` takes, if each stage in front of it makes one
+/// row of each.
+fn wanted(stages: &[Stage]) -> Option<usize>
+    ensures { result ≡ wanted_by stages.now }
+{
+    'stages: for stage in stages {
+        match stage {
+            Stage::Limit(count) => return Some(*count as usize),
+            Stage::Project(_) | Stage::Lookup(_) => {}
+            _ => return None,
+        }
+    }
+    None
 }
 
 /// The filter, or where there is none the one that all documents match.

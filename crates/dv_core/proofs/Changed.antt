@@ -3,7 +3,7 @@ use Rattle.std.proofs.Common.{◌≡◌, ◌⊎◌, ◌≤◌, ℕ, Bool, true, 
 use Rattle.std.specs.Prelude.{codes}
 use Rattle.dv_value.specs.Names.{value_under}
 use Rattle.dv_value.specs.Tree.{Tree, Field, int32}
-use Rattle.dv_command.specs.Asked.{Asked, hello, ping, find, aggregate, get_more, kill_cursors, create, drop, create_indexes, drop_indexes, explain, view_stats, asked_by}
+use Rattle.dv_command.specs.Asked.{Asked, find, aggregate, get_more, kill_cursors, create, drop, create_indexes, drop_indexes, asked_by}
 use Rattle.dv_command.specs.Asked as asking
 use Rattle.dv_value.specs.Results.{◌>>=◌}
 use Rattle.dv_command.specs.Replies.{reply_of, drop_reply, first_batch_reply, create_indexes_reply, drop_indexes_reply, document_of, count, errors_field}
@@ -23,11 +23,10 @@ use Rattle.dv_cursor.specs.Cursors.{Cursors}
 use Rattle.dv_catalog.specs.IndexMaking.{indexes_created, indexes_dropped}
 use Rattle.dv_catalog.specs.State.{Namespaces, collection_of, is_view}
 use Rattle.dv_catalog.specs.State as stored
-use Rattle.dv_core.specs.State.{State, marked}
-use Rattle.dv_core.specs.Stats.{view_told}
+use Rattle.dv_core.specs.State.{State}
 use Rattle.dv_catalog.specs.Views.{created, dropped}
 use Rattle.dv_core.specs.Statements.{WriteCounts, Written, nothing_written, carry_out, with_all, with_next, with_result, is_due, IsCutWrite}
-use Rattle.dv_core.specs.Step.{Answer, answered, read_answer, write_answer, on_catalog, on_cursors, answer_to, step, asked_write, makes, moves}
+use Rattle.dv_core.specs.Step.{Answer, answered, read_answer, write_answer, on_catalog, on_cursors, answer_to, step, asked_write, makes, moves, Work, answer_of, telling, work_of}
 use Rattle.dv_core.specs.Writes.{reply_by, write_by}
 use Rattle.dv_core.proofs.Bare.{BareCut, BareStep, BareWants, BareWriteCut}
 
@@ -55,11 +54,7 @@ Made old (create c) new = (created c.namespace c.view old.catalog ≡ Ok new.cat
 Made old (drop d) new = (dropped d.namespace old.catalog ≡ Ok new.catalog) × (new.cursors ≡ old.cursors)
 Made old (create_indexes c) new = (indexes_created c.namespace (map form_asked c.indexes) old.catalog ≡ Ok new.catalog) × (new.cursors ≡ old.cursors)
 Made old (drop_indexes d) new = (indexes_dropped d.namespace d.index old.catalog ≡ Ok new.catalog) × (new.cursors ≡ old.cursors)
-Made old (find f) new = new.catalog ≡ old.catalog
-Made old (aggregate a) new = new.catalog ≡ old.catalog
-Made old (get_more g) new = new.catalog ≡ old.catalog
-Made old (kill_cursors k) new = new.catalog ≡ old.catalog
-Made old asked new = ⊥
+Made old asked new = (moves asked ≡ true) × (new.catalog ≡ old.catalog)
 
 -- the answer of such a command
 pub record Makes (old : State) (asked : Result Asked Refusal) (answer : Answer) : Type 0 where
@@ -93,6 +88,15 @@ read_may : (old : State) (what : Asked) (result : Result (List Field) Refusal) �
 read_may old what (Ok reply) = inl refl
 read_may old what (Err refusal) = inl refl
 
+-- a reply is all
+abbrev OnlyTells : Work → Type 0
+OnlyTells (telling result) = Unit {0}
+OnlyTells work = ⊥
+
+telling_may : (old : State) (what : Asked) (work : Work) → OnlyTells work → MayWrite old (Ok what) (answered old (answer_of old work))
+telling_may old what (telling result) tells = read_may old what result
+telling_may old what work tells = absurd tells
+
 -- what is made, with the reply that tells of it
 module _ {S : Type 0} (reply : S → List Field) where
   made_of : (made : Result S Refusal) (done : List Field × S) → (made >>= λ left. Ok (reply left, left)) ≡ Ok done → made ≡ Ok done.1
@@ -123,14 +127,12 @@ next_told session namespace id count (Some rows) cursors done is = ap (λ (r : R
 
 step_may : (old : State) (session : ℕ) (asked : Result Asked Refusal) → MayWrite old asked (answered old (asked >>= answer_to old session))
 step_may old session (Err refusal) = inl refl
-step_may old session (Ok hello) = inl refl
-step_may old session (Ok ping) = inl refl
 step_may old session (Ok (asking.write w)) = carried_may old (asking.write w) (write_by w) refl (is_view w.namespace old.catalog.views)
-step_may old session (Ok (find f)) = cursors_may old (find f) (reply_to_find session f old.catalog old.cursors) (first_told f.namespace f.batch_size _ _) (λ done. refl)
-step_may old session (Ok (aggregate a)) = cursors_may old (aggregate a) (reply_to_aggregate session a old.catalog old.cursors) (first_told a.namespace a.batch_size _ _) (λ done. refl)
+step_may old session (Ok (find f)) = cursors_may old (find f) (reply_to_find session f old.catalog old.cursors) (first_told f.namespace f.batch_size _ _) (λ done. (refl, refl))
+step_may old session (Ok (aggregate a)) = cursors_may old (aggregate a) (reply_to_aggregate session a old.catalog old.cursors) (first_told a.namespace a.batch_size _ _) (λ done. (refl, refl))
 step_may old session (Ok (get_more g)) =
-    cursors_may old (get_more g) (next_batch session g old.cursors) (next_told session g.namespace (cursor_number g.id) g.batch_size (rows_asked session g.namespace g.id old.cursors) old.cursors) (λ done. refl)
-step_may old session (Ok (kill_cursors k)) = inr (inr (record { what = kill_cursors k; asks = refl; made = refl; tells = refl }))
+    cursors_may old (get_more g) (next_batch session g old.cursors) (next_told session g.namespace (cursor_number g.id) g.batch_size (rows_asked session g.namespace g.id old.cursors) old.cursors) (λ done. (refl, refl))
+step_may old session (Ok (kill_cursors k)) = inr (inr (record { what = kill_cursors k; asks = refl; made = (refl, refl); tells = refl }))
 step_may old session (Ok (create c)) =
     let made = created c.namespace c.view old.catalog in
     catalog_may old (create c) _ (told_of (λ left. reply_of []) (λ left. refl) made) (λ done is. (made_of (λ left. reply_of []) made done is, refl))
@@ -145,8 +147,7 @@ step_may old session (Ok (drop_indexes d)) =
     let made = indexes_dropped d.namespace d.index old.catalog in
     let reply : stored.State → List Field = λ left. drop_indexes_reply (index_count d.namespace old.catalog) in
     catalog_may old (drop_indexes d) _ (told_of reply (λ left. refl) made) (λ done is. (made_of reply made done is, refl))
-step_may old session (Ok (explain e)) = inl refl
-step_may old session (Ok (view_stats v)) = read_may old (view_stats v) (view_told v (marked old))
+step_may old session (Ok asked) = telling_may old asked (work_of old session asked) tt
 
 write_cut_may : (old : State) (what : Asked) (write : Option WriteCounts) → asked_write what ≡ write → (answer : Answer) → BareWriteCut old write answer → MayWrite old (Ok what) answer
 write_cut_may old what None is answer cut = absurd cut
@@ -177,22 +178,14 @@ made_catalog old new (create c) made idle = absurd cc
 made_catalog old new (drop d) made idle = absurd cc
 made_catalog old new (create_indexes c) made idle = absurd cc
 made_catalog old new (drop_indexes d) made idle = absurd cc
-made_catalog old new (find f) made idle = made
-made_catalog old new (aggregate a) made idle = made
-made_catalog old new (get_more g) made idle = made
-made_catalog old new (kill_cursors k) made idle = made
-made_catalog old new what made idle = absurd made
+made_catalog old new what made idle = made.1
 
 made_cursors : (old new : State) (what : Asked) → Made old what new → moves what ≡ false → new.cursors ≡ old.cursors
 made_cursors old new (create c) made idle = made.1
 made_cursors old new (drop d) made idle = made.1
 made_cursors old new (create_indexes c) made idle = made.1
 made_cursors old new (drop_indexes d) made idle = made.1
-made_cursors old new (find f) made idle = absurd cc
-made_cursors old new (aggregate a) made idle = absurd cc
-made_cursors old new (get_more g) made idle = absurd cc
-made_cursors old new (kill_cursors k) made idle = absurd cc
-made_cursors old new what made idle = absurd made
+made_cursors old new what made idle = absurd (cc (made.0, idle))
 
 -- a command that asks for no write, and makes nothing
 pub others_leave : (old new : State) (session : ℕ) (command : Command) (asked : Asked) (outcome : Outcome) → asked_by command ≡ Ok asked → asked_write asked ≡ None → makes asked ≡ false

@@ -5,21 +5,19 @@ use Rattle.std.specs.FinMap as finite
 use lib.ListN.{drop as behind_first}
 use Rattle.std.specs.Str.{bytes_eq}
 use Rattle.dv_value.specs.Tree.{Field}
-use Rattle.dv_command.specs.Asked.{Asked, hello, ping, find, aggregate, get_more, kill_cursors, create, drop, create_indexes, drop_indexes, explain, view_stats, asked_by}
-use Rattle.dv_command.specs.Asked as asking
+use Rattle.dv_command.specs.Asked.{Asked, find, aggregate, get_more, kill_cursors, asked_by}
 use Rattle.dv_refusal.specs.declared.refusal.Refusal.{Refusal}
 use Rattle.dv_refusal.specs.declared.refusal.Refusal.TheVariants.{TooLarge}
 use Rattle.dv_value.specs.Results.{◌>>=◌}
-use Rattle.dv_catalog.specs.State as stored
 use Rattle.dv_cursor.specs.Batch.{batch, rows_behind}
 use Rattle.dv_cursor.specs.Cursors.{Cursor, Cursors, added, advanced, closed, cursor_behind, cursor_over, free_id, rows_to_come, cursor_rows, without_session}
 use Rattle.dv_cursor.specs.Inner.Runs.{is_cursor_place}
 use Rattle.dv_core.specs.Find.{are_too_large, kept, kept_under, replied}
 use Rattle.dv_core.specs.More.{next_of, cursor_number, rows_asked, rows_wanted, without_cursor, without_cursors}
 use Rattle.dv_core.specs.Runs.{Move, carries, ends, wants, stands, state_after_move, is_cursor_number, batch_told, is_nil, is_last_batch, asked_rows, asked_last, rows_told, tells_last, all_told, is_told_out}
-use Rattle.dv_core.specs.State.{State, marked}
-use Rattle.dv_core.specs.Stats.{view_told}
-use Rattle.dv_core.specs.Step.{Answer, answered, answer_to, read_answer, on_catalog, on_cursors, end_session}
+use Rattle.dv_core.specs.State.{State}
+use Rattle.dv_core.specs.Step.{answered, answer_to, on_cursors, end_session, work_of}
+use Rattle.dv_core.proofs.Works.{work_cursors}
 
 abbrev pub Rows : Type 0
 Rows = List (List Field)
@@ -68,19 +66,6 @@ pub record Moves (session id : ℕ) (before after : Cursors) (told : Rows) (last
 
 unmoved : (session id : ℕ) (before after : Cursors) → after ≡ before → Moves session id before after [] false
 unmoved session id before after same = record { does = inl (record { same = ap (at session id) same; none = refl; more = refl }); next = rw same (omega arith) }
-
--- a write leaves cursors, and so does what changes what stands under namespaces
-pub write_cursors : (state : State) (b : Bool) (refusal : Refusal) (answer : Answer) → answer.state.cursors ≡ state.cursors → (answered state (if b then Err refusal else Ok answer)).state.cursors ≡ state.cursors
-write_cursors state true refusal answer same = refl
-write_cursors state false refusal answer same = same
-
-pub read_cursors : (state : State) (result : Result (List Field) Refusal) → (answered state (read_answer state result)).state.cursors ≡ state.cursors
-read_cursors state (Ok reply) = refl
-read_cursors state (Err refusal) = refl
-
-pub catalog_cursors : (state : State) (defined : Result (List Field × stored.State) Refusal) → (answered state (on_catalog state defined)).state.cursors ≡ state.cursors
-catalog_cursors state (Ok done) = refl
-catalog_cursors state (Err refusal) = refl
 
 module _ (laws : CursorLaws) (session id : ℕ) where
   -- ---- a cursor is added
@@ -217,19 +202,11 @@ module _ (laws : CursorLaws) (session id : ℕ) where
   command_moves : (state : State) (other : ℕ) (asked : Result Asked Refusal) → id < state.cursors.next
       → Moves session id state.cursors (answered state (asked >>= answer_to state other)).state.cursors (asked_rows session id other asked state) (asked_last session id other asked state)
   command_moves state other (Err refusal) new = unmoved session id state.cursors state.cursors refl
-  command_moves state other (Ok hello) new = unmoved session id state.cursors state.cursors refl
-  command_moves state other (Ok ping) new = unmoved session id state.cursors state.cursors refl
-  command_moves state other (Ok (asking.write w)) new = unmoved session id state.cursors _ (write_cursors state _ _ _ refl)
   command_moves state other (Ok (find f)) new = first_moves state f.namespace f.batch_size _ (kept other f.namespace _ state.cursors) (kept_moves other f.namespace _ state.cursors new)
   command_moves state other (Ok (aggregate a)) new = first_moves state a.namespace a.batch_size _ (kept other a.namespace _ state.cursors) (kept_moves other a.namespace _ state.cursors new)
   command_moves state other (Ok (get_more g)) new = more_moves state other g.namespace g.id g.batch_size (rows_asked other g.namespace g.id state.cursors) refl
   command_moves state other (Ok (kill_cursors k)) new = gone_moves state.cursors _ (each_gone other k.namespace k.ids state.cursors)
-  command_moves state other (Ok (create c)) new = unmoved session id state.cursors _ (catalog_cursors state _)
-  command_moves state other (Ok (drop d)) new = unmoved session id state.cursors _ (catalog_cursors state _)
-  command_moves state other (Ok (create_indexes c)) new = unmoved session id state.cursors _ (catalog_cursors state _)
-  command_moves state other (Ok (drop_indexes d)) new = unmoved session id state.cursors _ (catalog_cursors state _)
-  command_moves state other (Ok (explain e)) new = unmoved session id state.cursors state.cursors refl
-  command_moves state other (Ok (view_stats v)) new = unmoved session id state.cursors _ (read_cursors state (view_told v (marked state)))
+  command_moves state other (Ok asked) new = unmoved session id state.cursors _ (work_cursors state (work_of state other asked) tt)
 
   session_moves : (state : State) (other : ℕ) (b : Bool) → (session == other) ≡ b → Moves session id state.cursors (end_session other state).cursors [] false
   session_moves state other true is = record { does = inr (inl (record { gone = laws.ended_at session id other state.cursors ∙ rw is refl; none = refl; more = refl })); next = omega arith }

@@ -6,6 +6,7 @@ mod Plain
 mod Steps
 mod Endings
 mod Bare
+mod Works
 mod Changed
 mod CursorMoves
 mod Cursored

@@ -7,11 +7,10 @@ use Rattle.dv_catalog.specs.Marks.{AreMarkedWhere, Marks, all_gone, live, marks_
 use Rattle.dv_catalog.specs.State.{documents_of, is_collection, is_there, is_view, lists_of, without_view}
 use Rattle.dv_catalog.specs.State as stored
 use Rattle.dv_catalog.specs.Views.{created, dropped, made, reads_name, with_view, with_view_by, with_views}
-use Rattle.dv_command.specs.Asked.{Asked, ViewOn, hello, ping, find, aggregate, get_more, kill_cursors, create, drop, create_indexes, drop_indexes, explain, view_stats, asked_by}
+use Rattle.dv_command.specs.Asked.{Asked, ViewOn, create, drop, create_indexes, drop_indexes, asked_by}
 use Rattle.dv_command.specs.Asked as asking
 use Rattle.dv_command.specs.Replies.{drop_reply, reply_of}
 use Rattle.dv_command.specs.declared.command.Command.{Command}
-use Rattle.dv_cursor.specs.Cursors.{Cursors}
 use Rattle.dv_value.specs.Results.{◌>>=◌}
 use Rattle.dv_refusal.specs.declared.refusal.Refusal.{Refusal}
 use Rattle.dv_refusal.specs.declared.refusal.Refusal.TheVariants.{NamespaceExists, NamespaceNotFound, OnView, ReadByView}
@@ -19,14 +18,12 @@ use Rattle.dv_views.specs.Forms.{ViewForm, fault_of_new, names_read}
 use Rattle.dv_views.specs.declared.fault.ViewFault.{ViewFault}
 use Rattle.dv_core.specs.declared.outcome.Outcome.{Outcome}
 use Rattle.dv_core.specs.declared.outcome.Outcome.TheVariants.{Reply, Wanting, NoReply}
-use Rattle.dv_core.specs.Indexes.{find_explained}
 use Rattle.dv_core.specs.Load.{IsLoaded}
 use Rattle.dv_core.specs.Marks.{AreMarked, AreMarkedAll, AreMarkedByWrite, AreMarkedForWant, AreMarkedWhereDropped, marks_behind, marks_behind_all, marks_of_drop, marks_where_made, marks_written, read_by}
 use Rattle.dv_core.specs.Runs.{carries, stands, state_after_move, state_behind_all, wants}
 use Rattle.dv_core.specs.State.{State, marked, standing}
-use Rattle.dv_core.specs.Stats.{view_told}
 use Rattle.dv_core.specs.Statements.{WriteCounts, carry_out, nothing_written}
-use Rattle.dv_core.specs.Step.{Answer, Cut, IsLeft, MemoryStep, Wants, WriteCut, answer_to, answered, counted_step, indexes, makes, on_catalog, on_cursors, read_answer, replying, step, write_answer, asked_write}
+use Rattle.dv_core.specs.Step.{Answer, Cut, IsLeft, MemoryStep, Wants, WriteCut, answer_to, answered, counted_step, indexes, makes, on_catalog, replying, step, write_answer, asked_write, work_of}
 use Rattle.dv_core.specs.Writes.{write_by}
 use Rattle.dv_core.proofs.Bare.{bare}
 use Rattle.dv_core.proofs.Changed.{refused_leave, told, views_stay, want_leaves, refusal_leaves, write_told}
@@ -34,44 +31,13 @@ use Rattle.dv_core.proofs.Cursored.{memory_moves}
 use Rattle.dv_core.proofs.Made.{indexing_leaves}
 use Rattle.dv_core.proofs.Viewed.{loaded_leaves}
 use Rattle.dv_core.proofs.Marking.{counted_marked, cut_length, each_length, marked_length, partly_length, read_length, where_read, where_read_length, without_length, written_marked}
+use Rattle.dv_core.proofs.Works.{work_marks}
 
 -- ---- the answer leaves them
 
-module _ (old : State) where
-  read_leaves : (result : Result (List Field) Refusal) → (answered old (read_answer old result)).state.marks ≡ old.marks
-  read_leaves (Ok reply) = refl
-  read_leaves (Err refusal) = refl
-
-  catalog_leaves : (result : Result (List Field × stored.State) Refusal) → (answered old (on_catalog old result)).state.marks ≡ old.marks
-  catalog_leaves (Ok told) = refl
-  catalog_leaves (Err refusal) = refl
-
-  cursors_leave : (result : Result (List Field × Cursors) Refusal) → (answered old (on_cursors old result)).state.marks ≡ old.marks
-  cursors_leave (Ok told) = refl
-  cursors_leave (Err refusal) = refl
-
-  write_leaves : (b : Bool) (answer : Answer) → answer.state.marks ≡ old.marks → (answered old (if b then Err OnView else Ok answer)).state.marks ≡ old.marks
-  write_leaves true answer same = refl
-  write_leaves false answer same = same
-
-  answer_leaves : (session : ℕ) (asked : Asked) → (answered old (answer_to old session asked)).state.marks ≡ old.marks
-  answer_leaves session hello = refl
-  answer_leaves session ping = refl
-  answer_leaves session (asking.write w) = write_leaves (is_view w.namespace old.catalog.views) _ refl
-  answer_leaves session (find f) = cursors_leave _
-  answer_leaves session (aggregate a) = cursors_leave _
-  answer_leaves session (get_more g) = cursors_leave _
-  answer_leaves session (kill_cursors k) = refl
-  answer_leaves session (create c) = catalog_leaves _
-  answer_leaves session (drop d) = catalog_leaves _
-  answer_leaves session (create_indexes c) = catalog_leaves _
-  answer_leaves session (drop_indexes d) = catalog_leaves _
-  answer_leaves session (explain e) = read_leaves (Ok (find_explained e old.catalog))
-  answer_leaves session (view_stats v) = read_leaves (view_told v (marked old))
-
-  step_leaves : (session : ℕ) (asked : Result Asked Refusal) → (answered old (asked >>= answer_to old session)).state.marks ≡ old.marks
-  step_leaves session (Ok asked) = answer_leaves session asked
-  step_leaves session (Err refusal) = refl
+step_leaves : (old : State) (session : ℕ) (asked : Result Asked Refusal) → (answered old (asked >>= answer_to old session)).state.marks ≡ old.marks
+step_leaves old session (Ok asked) = work_marks old (work_of old session asked)
+step_leaves old session (Err refusal) = refl
 
 -- ---- as they are counted
 

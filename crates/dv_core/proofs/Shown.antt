@@ -10,8 +10,7 @@ use Rattle.dv_catalog.specs.Scan.{scan}
 use Rattle.dv_catalog.specs.Inner.ScanLaws.{all_scanned}
 use Rattle.dv_catalog.specs.State as stored
 use Rattle.dv_catalog.specs.State.{rows_of}
-use Rattle.dv_command.specs.Asked.{Asked, hello, ping, find, aggregate, get_more, kill_cursors, create, drop, create_indexes, drop_indexes, explain, view_stats, asked_by}
-use Rattle.dv_command.specs.Asked as asking
+use Rattle.dv_command.specs.Asked.{Asked, find, aggregate, get_more, kill_cursors, asked_by}
 use Rattle.dv_command.specs.Sound.{AreSpellable}
 use Rattle.dv_command.specs.Inner.Sound.{IsSoundRequest}
 use Rattle.dv_command.specs.declared.command.Command.{Command}
@@ -26,17 +25,17 @@ use Rattle.dv_core.specs.Load.{loaded}
 use Rattle.dv_core.specs.More.{next_of, cursor_number, rows_asked, rows_wanted, without_cursor, without_cursors}
 use Rattle.dv_core.specs.Runs.{carries, wants, state_after_move}
 use Rattle.dv_core.specs.Sound.{AreShown, AreSoundCursors, AreSoundDocuments, AreSoundViews, IsSoundCommand}
-use Rattle.dv_core.specs.State.{State, empty_store_state, marked}
-use Rattle.dv_core.specs.Stats.{view_told}
-use Rattle.dv_core.specs.Step.{answered, answer_to, on_cursors, end_session}
+use Rattle.dv_core.specs.State.{State, empty_store_state}
+use Rattle.dv_core.specs.Step.{answered, answer_to, on_cursors, end_session, work_of}
 use Rattle.dv_core.specs.Storable.{is_within_limits}
 use Rattle.dv_core.specs.declared.outcome.Outcome.{Outcome}
 use Rattle.dv_core.proofs.Bare.{BareStep}
 use Rattle.dv_core.proofs.Asking.{AsksSoundly, body_size, soundly_asked}
-use Rattle.dv_core.proofs.CursorMoves.{CursorLaws, at, catalog_cursors, read_cursors, write_cursors}
+use Rattle.dv_core.proofs.CursorMoves.{CursorLaws, at}
 use Rattle.dv_core.proofs.Cursored.{memory_moves}
 use Rattle.dv_core.proofs.Spelled.{both_hold}
 use Rattle.dv_core.proofs.Viewed.{PipesStayValid, gathered_valid, loaded_leaves, rows_valid}
+use Rattle.dv_core.proofs.Works.{work_cursors}
 
 abbrev Rows : Type 0
 Rows = List (List Field)
@@ -157,15 +156,7 @@ module _ (laws : CursorLaws) where
         left_by_command old (next_of session g.namespace (cursor_number g.id) g.batch_size (rows_asked session g.namespace g.id old.cursors) old.cursors) all
         (next_shown session g.namespace old.cursors all (cursor_number g.id) g.batch_size (rows_asked session g.namespace g.id old.cursors))
     asked_shown size (kill_cursors k) sound = without_shown session k.namespace k.ids old.cursors all
-    asked_shown size (asking.write w) sound = same_shown old.cursors _ (write_cursors old _ _ _ refl) all
-    asked_shown size (create c) sound = same_shown old.cursors _ (catalog_cursors old _) all
-    asked_shown size (drop d) sound = same_shown old.cursors _ (catalog_cursors old _) all
-    asked_shown size (create_indexes c) sound = same_shown old.cursors _ (catalog_cursors old _) all
-    asked_shown size (drop_indexes d) sound = same_shown old.cursors _ (catalog_cursors old _) all
-    asked_shown size hello sound = all
-    asked_shown size ping sound = all
-    asked_shown size (explain e) sound = all
-    asked_shown size (view_stats v) sound = same_shown old.cursors _ (read_cursors old (view_told v (marked old))) all
+    asked_shown size asked sound = same_shown old.cursors _ (work_cursors old (work_of old session asked) tt) all
 
     command_shown : (command : Command) → IsSoundCommand command → (asked : Result Asked Refusal) → asked_by command ≡ asked → AreSoundCursors (answered old (asked >>= answer_to old session)).state
     command_shown command sound (Ok asked) is = asked_shown (body_size command) asked (soundly_asked asks command asked sound is)

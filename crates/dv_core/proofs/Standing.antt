@@ -8,7 +8,7 @@ use Rattle.dv_catalog.specs.IndexMaking.{indexes_created, indexes_dropped, with_
 use Rattle.dv_catalog.specs.State.{Collection, Namespaces, Standing, State, collection, collection_at, collection_of, indexes_of, is_collection, is_there, is_view, with_documents, with_indexes, without_view}
 use Rattle.dv_catalog.specs.Inner.StateLaws.{get-insert, get-remove}
 use Rattle.dv_catalog.specs.Views.{made, reads_name, with_view}
-use Rattle.dv_command.specs.Asked.{Asked, ViewOn, find, aggregate, get_more, kill_cursors, create, drop, create_indexes, drop_indexes}
+use Rattle.dv_command.specs.Asked.{Asked, ViewOn, create, drop, create_indexes, drop_indexes}
 use Rattle.dv_core.specs.Indexes.{form_asked}
 use Rattle.dv_core.specs.State as core
 use Rattle.dv_core.proofs.Changed.{Made}
@@ -109,11 +109,7 @@ module _ (P : List ℕ → Collection → Type 0) where
   made_stands old new (drop_indexes d) keeps made all =
       indexes_left old.catalog new.catalog all d.namespace d.index
       (λ indexes is. keeps.indexed d.namespace (collection_of d.namespace old.catalog.namespaces) indexes is (all d.namespace)) made.0
-  made_stands old new (find f) keeps made all = subst (λ (s : State). Stands s.namespaces) (sym made) all
-  made_stands old new (aggregate a) keeps made all = subst (λ (s : State). Stands s.namespaces) (sym made) all
-  made_stands old new (get_more g) keeps made all = subst (λ (s : State). Stands s.namespaces) (sym made) all
-  made_stands old new (kill_cursors k) keeps made all = subst (λ (s : State). Stands s.namespaces) (sym made) all
-  made_stands old new what keeps made all = absurd made
+  made_stands old new what keeps made all = subst (λ (s : State). Stands s.namespaces) (sym made.1) all
 
 -- what holds of the documents alone, and of none
 pub documents_kept : (Q : List ℕ → List (List Field) → Type 0) → ((name : List ℕ) → Q name []) → (what : Asked) → IsKeptBy (λ name c. Q name c.documents) what

@@ -8,7 +8,7 @@ use Rattle.dv_catalog.specs.State.{Namespaces, collection_of, documents_of, inde
 use Rattle.dv_catalog.specs.Changes.{Effect, done_to}
 use Rattle.dv_catalog.specs.State as stored
 use Rattle.dv_catalog.specs.Views.{made, reads_name, with_view, with_view_by, with_views}
-use Rattle.dv_command.specs.Asked.{Asked, ViewOn, find, aggregate, get_more, kill_cursors, create, drop, create_indexes, drop_indexes, asked_by}
+use Rattle.dv_command.specs.Asked.{Asked, ViewOn, create, drop, create_indexes, drop_indexes, asked_by}
 use Rattle.dv_command.specs.Sound.{AreSpellable, IsSoundPipeline}
 use Rattle.dv_command.specs.Inner.Sound.{IsSoundViewAsked, IsSoundRequest}
 use Rattle.dv_command.specs.declared.command.Command.{Command}
@@ -94,11 +94,7 @@ made_views old new size (create c) asked made all = created_sound old.catalog ne
 made_views old new size (drop d) asked made all = dropped_sound old.catalog new.catalog all d.namespace _ (is_collection d.namespace old.catalog.namespaces) (is_view d.namespace old.catalog.views) (reads_name old.catalog.views d.namespace) made.0
 made_views old new size (create_indexes c) asked made all = subst Sound (sym (created_so old.catalog new.catalog c.namespace (map form_asked c.indexes) made.0).views) all
 made_views old new size (drop_indexes d) asked made all = subst Sound (sym (dropped_so old.catalog new.catalog d.namespace d.index made.0).views) all
-made_views old new size (find f) asked made all = same_views old new made all
-made_views old new size (aggregate a) asked made all = same_views old new made all
-made_views old new size (get_more g) asked made all = same_views old new made all
-made_views old new size (kill_cursors k) asked made all = same_views old new made all
-made_views old new size what asked made all = absurd made
+made_views old new size what asked made all = same_views old new made.1 all
 
 pub steps_views : AsksSoundly → (old new : State) (session : ℕ) (command : Command) (outcome : Outcome) → IsSoundCommand command → AreSoundViews old → BareStep old session command outcome new → AreSoundViews new
 steps_views asks old new session command outcome sound all steps =

@@ -31,6 +31,37 @@ pub record Answer : Type 0 where
 
 -- ---- the commands: each returns a reply and a state, or a refusal
 
+-- what there is to do for a command, which may be refused
+pub data Work : Type 0 where
+  -- to give this reply, and to change nothing
+  telling : Result (List Field) Refusal → Work
+  -- to write documents
+  writing : WriteCounts → Work
+  -- to open, advance or close cursors: a reply, and the cursors after it
+  moving : Result (List Field × Cursors) Refusal → Work
+  -- to create or drop collections, views or indexes: a reply, and the collections and views after it
+  making : Result (List Field × stored.State) Refusal → Work
+
+-- this reply with a result, or its refusal
+abbrev pub replying : {S : Type 0} → List Field → Result S Refusal → Result (List Field × S) Refusal
+replying reply made = made >>= λ left. Ok (reply, left)
+
+-- what there is to do for a parsed command of a session
+abbrev pub work_of : State → ℕ → Asked → Work
+work_of state session hello = telling (Ok hello_reply)
+work_of state session ping = telling (Ok (reply_of []))
+work_of state session (asking.write asked) = writing (write_by asked)
+work_of state session (find asked) = moving (reply_to_find session asked state.catalog state.cursors)
+work_of state session (aggregate asked) = moving (reply_to_aggregate session asked state.catalog state.cursors)
+work_of state session (get_more asked) = moving (next_batch session asked state.cursors)
+work_of state session (kill_cursors asked) = moving (Ok (killed session asked state.cursors))
+work_of state session (create asked) = making (replying (reply_of []) (created asked.namespace asked.view state.catalog))
+work_of state session (drop asked) = making (replying (drop_reply asked.namespace) (dropped asked.namespace state.catalog))
+work_of state session (create_indexes asked) = making (indexed asked state.catalog)
+work_of state session (drop_indexes asked) = making (unindexed asked state.catalog)
+work_of state session (explain asked) = telling (Ok (find_explained asked state.catalog))
+work_of state session (view_stats asked) = telling (view_told asked (marked state))
+
 -- the answer to a command that changes nothing
 abbrev pub read_answer : State → Result (List Field) Refusal → Result Answer Refusal
 read_answer state result = result >>= λ reply. Ok (record { reply = reply; state = state })
@@ -45,33 +76,24 @@ abbrev pub carried_out : State → WriteCounts → Result Answer Refusal
 carried_out state write =
     if is_view write.namespace state.catalog.views then Err OnView else Ok (write_answer state write (carry_out write state.catalog.namespaces))
 
--- the answer to a command that changes collections or views
-abbrev pub on_catalog : State → Result (List Field × stored.State) Refusal → Result Answer Refusal
-on_catalog state result = result >>= λ told. Ok (record { reply = told.0; state = record state { catalog = told.1 } })
-
 -- the answer to a command that changes cursors
 abbrev pub on_cursors : State → Result (List Field × Cursors) Refusal → Result Answer Refusal
 on_cursors state result = result >>= λ told. Ok (record { reply = told.0; state = record state { cursors = told.1 } })
 
--- this reply with a result, or its refusal
-abbrev pub replying : {S : Type 0} → List Field → Result S Refusal → Result (List Field × S) Refusal
-replying reply made = made >>= λ left. Ok (reply, left)
+-- the answer to a command that changes collections or views
+abbrev pub on_catalog : State → Result (List Field × stored.State) Refusal → Result Answer Refusal
+on_catalog state result = result >>= λ told. Ok (record { reply = told.0; state = record state { catalog = told.1 } })
+
+-- the answer to a command for which this is to do
+abbrev pub answer_of : State → Work → Result Answer Refusal
+answer_of state (telling result) = read_answer state result
+answer_of state (writing write) = carried_out state write
+answer_of state (moving result) = on_cursors state result
+answer_of state (making result) = on_catalog state result
 
 -- the answer to a parsed command of a session
 abbrev pub answer_to : State → ℕ → Asked → Result Answer Refusal
-answer_to state session hello = read_answer state (Ok hello_reply)
-answer_to state session ping = read_answer state (Ok (reply_of []))
-answer_to state session (asking.write asked) = carried_out state (write_by asked)
-answer_to state session (find asked) = on_cursors state (reply_to_find session asked state.catalog state.cursors)
-answer_to state session (aggregate asked) = on_cursors state (reply_to_aggregate session asked state.catalog state.cursors)
-answer_to state session (get_more asked) = on_cursors state (next_batch session asked state.cursors)
-answer_to state session (kill_cursors asked) = on_cursors state (Ok (killed session asked state.cursors))
-answer_to state session (create asked) = on_catalog state (replying (reply_of []) (created asked.namespace asked.view state.catalog))
-answer_to state session (drop asked) = on_catalog state (replying (drop_reply asked.namespace) (dropped asked.namespace state.catalog))
-answer_to state session (create_indexes asked) = on_catalog state (indexed asked state.catalog)
-answer_to state session (drop_indexes asked) = on_catalog state (unindexed asked state.catalog)
-answer_to state session (explain asked) = read_answer state (Ok (find_explained asked state.catalog))
-answer_to state session (view_stats asked) = read_answer state (view_told asked (marked state))
+answer_to state session asked = answer_of state (work_of state session asked)
 
 -- the answer to a command; a refused one leaves the state unchanged
 abbrev pub answered : State → Result Answer Refusal → Answer

@@ -1,5 +1,7 @@
 -- Streams, message by message.
-use Rattle.std.proofs.Common.{◌≡◌, ℕ, ◌-◌, ◌⊎◌, Result, Err, List, [], ◌∷◌, ◌++◌, length, take, drop, refl, sym, ap, subst, ◌∙◌, append_assoc, arith, inl, inr}
+use Rattle.std.proofs.Common.{◌≡◌, ℕ, true, ◌-◌, ◌⊎◌, Result, Err, List, [], ◌∷◌, ◌++◌, length, take, drop, refl, sym, ap, subst, ◌∙◌, append_assoc, arith, inl, inr}
+use Rattle.std.specs.Bool.{◌==◌}
+use Rattle.std.proofs.lemmas.Bool.{eqb-true}
 use Rattle.std.proofs.lemmas.List.{append-nil, length-append, take_at, drop_at}
 use Rattle.dv_message.specs.declared.fault.CloseFault.{CloseFault}
 use Rattle.dv_message.specs.declared.fault.CloseFault.TheVariants.{NoMemory}
@@ -34,6 +36,12 @@ pub record Progress (session : ℕ) (old new : State) (stream following out_befo
 pub begins : (session : ℕ) (old : State) (stream out : List ℕ) (counts : Counts) → Progress session old old stream stream out out counts counts
 begins session old stream out counts =
     record { messages = []; answers = []; taken = []; answered = sym (append-nil out); counted = Counted-none counts; carried = refl; splits = refl; parts = refl }
+
+-- a stream without bytes shows no message
+none_unfinished : (bytes : List ℕ) → (length bytes == 0) ≡ true → stream_front bytes ≡ unfinished
+unfolding stream_front
+none_unfinished [] e = refl
+none_unfinished (b ∷ bytes) e = absurd (omega (arith, eqb-true (length (b ∷ bytes)) 0 e))
 
 module _ (by_front : SplitByFronts) (session : ℕ) (old mid : State) (stream here out_before out_now : List ℕ) (before now : Counts) (progress : Progress session old mid stream here out_before out_now before now) where
   pub goes_on : FollowMessages → (new : State) (message : Message) (following out_after : List ℕ) (after : Counts) → stream_front here ≡ whole message following
@@ -71,6 +79,13 @@ module _ (by_front : SplitByFronts) (session : ℕ) (old mid : State) (stream he
   pub at_unfinished : stream_front here ≡ unfinished
       → Answered out_before out_now before now (λ answers. TakesSplit session old (split stream) (record { answers = answers; state = mid; conversation = reading (drop (length stream - length here) stream) }))
   at_unfinished shown = (progress.answers, progress.answered, progress.counted, rw left_is (whole_run (reading here) (split_unfinished by_front here shown)))
+
+  -- nothing is left
+  pub at_end : (length here == 0) ≡ true
+      → Answered out_before out_now before now (λ answers. TakesSplit session old (split stream) (record { answers = answers; state = mid; conversation = reading (drop (length stream) stream) }))
+  at_end empty =
+      let none : length stream - length here ≡ length stream = omega (arith, eqb-true (length here) 0 empty) in
+      rw none at (at_unfinished (none_unfinished here empty))
 
   pub at_closing : (fault : CloseFault) → stream_front here ≡ closing fault
       → Answered out_before out_now before now (λ answers. TakesSplit session old (split stream) (record { answers = answers; state = mid; conversation = closed fault }))

@@ -222,7 +222,7 @@ fn carry_out_all(
 {
     laws::streams_split_by_their_fronts();
     let mut rest = stream;
-    'messages: loop {
+    'messages: while !rest.is_empty() {
         match front(alloc, store, rest) {
             Front::Unfinished => return Ok(stream.len() - rest.len()),
             Front::Closing(fault) => return Err(fault),
@@ -235,6 +235,7 @@ fn carry_out_all(
             }
         }
     }
+    Ok(stream.len())
 }
 
 /// Looks at the front of a stream. Where memory is wanting, the store's reserve is given back for that.

@@ -1,10 +1,11 @@
 -- What the stages in front of a pipeline leave, where a find does the same.
-use Rattle.std.specs.Prelude.{◌≡◌, ℕ, List, Option, Some, None}
+use Rattle.std.specs.Prelude.{◌≡◌, ℕ, List, [], ◌∷◌, Option, Some, None}
 use Rattle.dv_match.specs.Filter.{Members}
 use Rattle.dv_path.specs.SortSpec.{Part}
 use Rattle.dv_pipe.specs.Sources.{Row}
 use Rattle.dv_pipe.specs.Stages.{Lists, through}
 use Rattle.dv_pipe.specs.declared.stage.Stage.{Stage}
+use Rattle.dv_pipe.specs.declared.stage.Stage.TheVariants as stages
 use Rattle.dv_sort.specs.Sorting.{front, stable}
 use Rattle.dv_catalog.specs.Scan.{matching}
 
@@ -23,3 +24,11 @@ passed form parts most rows = front most (sorted_where parts (matching_where for
 -- the stages behind a front, over what the front leaves of some rows, give what all stages give
 abbrev pub IsFront : (List Row → List Row) → List Stage → List Stage → Type 0
 IsFront leaves later stages = (source : List ℕ) (lists : Lists) (rows : List Row) → through later source lists (leaves rows) ≡ through stages source lists rows
+
+-- how many of the first rows matter to stages, if not all: a limit takes so many, behind stages that make one row of each
+abbrev pub wanted : List Stage → Option ℕ
+wanted [] = None
+wanted (stages.Limit count ∷ ss) = Some count
+wanted (stages.Project p ∷ ss) = wanted ss
+wanted (stages.Lookup l ∷ ss) = wanted ss
+wanted (s ∷ ss) = None

@@ -1,7 +1,8 @@
+use Rattle.std.proofs.Common.{sym, ◌∙◌}
 use Rattle.std.proofs.lemmas.Result.{err_from_is_err_and}
 use Rattle.dv_message.specs.Inner.View.{message_seen}
 use Rattle.dv_wire.proofs.Fronts.{seen_is}
-use Rattle.dv_wire.proofs.Streams.{begins, goes_on, at_unfinished, at_fault, at_failure}
+use Rattle.dv_wire.proofs.Streams.{begins, goes_on, at_unfinished, at_end, at_fault, at_failure}
 use Rattle.dv_wire.proofs.session.carry_out_all.Goals as goal
 
 pub messages-init : goal.messages-init
@@ -25,6 +26,11 @@ returns-in-Unfinished-clause-carried c =
     rw c.in-Unfinished.ensures.store
     (at_unfinished c.streams_split_by_their_fronts.ensures.front c.args.session c.args.store.now c.messages.store c.args.stream.now c.messages.rest.now c.args.out.now.items c.messages.out.items c.args.counts.now c.messages.counts c.messages.invariant
     (seen_is _ _ c.in-Unfinished.ensures.front (λ e. cc)))
+
+pub returns-clause-carried : goal.returns-clause-carried
+returns-clause-carried c =
+    at_end c.streams_split_by_their_fronts.ensures.front c.args.session c.args.store.now c.messages.store c.args.stream.now c.messages.rest.now c.args.out.now.items c.messages.out.items c.args.counts.now c.messages.counts c.messages.invariant
+    (sym c.is_empty.ensures ∙ c.messages-test.false)
 
 pub returns-in-Closing-clause-carried : goal.returns-in-Closing-clause-carried
 returns-in-Closing-clause-carried c =
