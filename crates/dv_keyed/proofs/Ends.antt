@@ -10,11 +10,11 @@ use Rattle.std.specs.Range.Bound.{IsForward, bound_map}
 use Rattle.std.proofs.lemmas.Bool.{eqb-true}
 use Rattle.dv_value.specs.declared.value.Value.{Value}
 use Rattle.dv_value.specs.View.{tree}
-use Rattle.dv_value.specs.Tree.{Tree, int32, document, array, no_fields, field, no_elements, element}
+use Rattle.dv_value.specs.Tree.{Tree, int32}
 use Rattle.dv_order.specs.Order.{canon, class, order}
 use Rattle.dv_order.specs.Key.{KeyTree, no_element, value, key_class, key_order}
 use Rattle.dv_order.specs.Inner.KeyLaws.{key_order_total}
-use Rattle.dv_keyed.specs.Inner.Ends.{StartsClass, EndsClass}
+use Rattle.dv_order.specs.Classes.{StartsClass, EndsClass}
 
 abbrev pub LowerClassesStandFirst : Type 0
 LowerClassesStandFirst = (v w : Tree) → class v < class w → order v w ≡ Less
@@ -22,16 +22,6 @@ LowerClassesStandFirst = (v w : Tree) → class v < class w → order v w ≡ Le
 pub class-canon : (v : Tree) → class (canon v) ≡ class v
 class-canon (int32 n) = refl
 class-canon v = refl
-
-pub first-document : (w : Tree) → class w ≡ 5 → is_le (order (document no_fields) w) ≡ true
-first-document (document no_fields) e = refl
-first-document (document (field a v fs)) e = refl
-first-document w e = absurd cc
-
-pub first-array : (w : Tree) → class w ≡ 6 → is_le (order (array no_elements) w) ≡ true
-first-array (array no_elements) e = refl
-first-array (array (element v vs)) e = refl
-first-array w e = absurd cc
 
 -- ---- the ends of a class, and a bound of that class
 abbrev pub key-end : Bound Tree → Bound KeyTree

@@ -5,7 +5,6 @@ pub mod Ids
 pub mod Index
 pub mod Within
 pub mod View
-pub mod Ends
 pub mod Ahead
 pub mod Interval
 pub mod Decided

@@ -1,19 +1,17 @@
 //! Between which keys an index is looked at for a range.
 
-ghost use Rattle.std.specs.Prelude.{◌≡◌, [], true, IfOk};
+ghost use Rattle.std.specs.Prelude.{◌≡◌, true, IfOk};
 ghost use Rattle.std.specs.BTreeMap.Range.{IsLeBy, IsLtBy, range_contains};
 ghost use Rattle.std.specs.Range.Bound.{IsForward, bound_map};
-ghost use Rattle.dv_value.specs.Tree.{binary};
 ghost use Rattle.dv_value.specs.View.{tree};
 ghost use Rattle.dv_match.specs.Filter.{in_range};
 ghost use Rattle.dv_order.specs.Key.{KeyTree, key_order, value as key_of_tree};
 ghost use Rattle.dv_order.specs.Order.{canon};
-ghost use Rattle.dv_keyed.specs.Inner.Ends.{EndsClass, StartsClass};
 ghost use Rattle.dv_keyed.specs.Inner.Within.{covers};
 
 use dv_match::Range;
-use dv_order::{Key, key_of, laws};
-use dv_value::{Bytes, Document, List, NoMemory, Str, Value};
+use dv_order::{Key, class_end, class_start, key_of, laws};
+use dv_value::{NoMemory, Value};
 use std::alloc::Global;
 use std::ops::Bound;
 
@@ -45,58 +43,5 @@ fn key_end(end: Bound<Value>) -> Result<Bound<Key>, NoMemory>
         Bound::Included(value) => Ok(Bound::Included(key_of(&value)?)),
         Bound::Excluded(value) => Ok(Bound::Excluded(key_of(&value)?)),
         Bound::Unbounded => Ok(Bound::Unbounded),
-    }
-}
-
-/// An end before which stands no value of the class of this one. Only before ObjectIds values of another class may stand
-/// behind it, since no binary value is the last one. Takes no memory.
-fn class_start(alloc: Global, value: &Value) -> Bound<Value>
-    ensures { StartsClass (tree value.now) (bound_map tree result) }
-{
-    match value {
-        Value::MinKey => Bound::Unbounded,
-        Value::Null => Bound::Excluded(Value::MinKey),
-        Value::Int32(_) | Value::Int64(_) => Bound::Excluded(Value::Null),
-        Value::Text(_) => Bound::Excluded(Value::Int64(i64::MAX)),
-        Value::Doc(_) => Bound::Included(Value::Doc(Document::new(alloc))),
-        Value::Array(_) => Bound::Included(Value::Array(List::new(alloc))),
-        Value::Binary { .. } => Bound::Included(empty_binary(alloc)),
-        Value::ObjectId(_) => Bound::Excluded(empty_binary(alloc)),
-        Value::Bool(_) => Bound::Excluded(Value::ObjectId([u8::MAX; 12])),
-        Value::Date(_) => Bound::Excluded(Value::Bool(true)),
-        Value::Timestamp(_) => Bound::Excluded(Value::Date(i64::MAX)),
-        Value::MaxKey => Bound::Excluded(Value::Timestamp(u64::MAX)),
-    }
-}
-
-/// An end behind which stands no value of the class of this one. Takes no memory.
-fn class_end(alloc: Global, value: &Value) -> Bound<Value>
-    ensures { EndsClass (tree value.now) (bound_map tree result) }
-{
-    match value {
-        Value::MinKey => Bound::Excluded(Value::Null),
-        Value::Null => Bound::Excluded(Value::Int64(i64::MIN)),
-        Value::Int32(_) | Value::Int64(_) => {
-            Bound::Excluded(Value::Text(Str::of(String::new(alloc))))
-        }
-        Value::Text(_) => Bound::Excluded(Value::Doc(Document::new(alloc))),
-        Value::Doc(_) => Bound::Excluded(Value::Array(List::new(alloc))),
-        Value::Array(_) => Bound::Excluded(empty_binary(alloc)),
-        Value::Binary { .. } => Bound::Excluded(Value::ObjectId([0; 12])),
-        Value::ObjectId(_) => Bound::Excluded(Value::Bool(false)),
-        Value::Bool(_) => Bound::Excluded(Value::Date(i64::MIN)),
-        Value::Date(_) => Bound::Excluded(Value::Timestamp(0)),
-        Value::Timestamp(_) => Bound::Excluded(Value::MaxKey),
-        Value::MaxKey => Bound::Unbounded,
-    }
-}
-
-/// The first of the binary values.
-fn empty_binary(alloc: Global) -> Value
-    ensures { tree result ≡ binary 0 [] }
-{
-    Value::Binary {
-        subtype: 0,
-        bytes: Bytes::of(Vec::new(alloc)),
     }
 }

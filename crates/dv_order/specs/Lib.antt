@@ -1,4 +1,5 @@
 pub mod Order
+pub mod Classes
 pub mod Key
 pub mod Source
 pub mod LentKeys

@@ -1,6 +1,7 @@
 //! The order of BSON values, and keys in this order.
 #![tactic(auto)]
 
+mod classes;
 mod code;
 mod comparison;
 mod key;
@@ -12,6 +13,7 @@ mod shown;
 mod small;
 mod source;
 
+pub use classes::{class_end, class_start};
 pub use code::KeyCode;
 pub use comparison::{compare, same_class};
 pub use key::{Key, key_of, replace_under_first};

@@ -1,6 +1,5 @@
 -- Of `Key`, what only bodies and proofs need.
 use Rattle.std.specs.Prelude.{◌≡◌, refl}
-use Rattle.std.specs.declared.cmp.Ordering.{Ordering}
 use Rattle.std.proofs.Common.{ap}
 use base.Stored.{Gv, gnum, gcons, Coded}
 use Rattle.dv_value.specs.Inner.TreeCode.{coded_tree}

@@ -8,7 +8,7 @@ use Rattle.dv_order.specs.Source.{small_value}
 use Rattle.dv_order.specs.declared.shown.Shown as showns
 use Rattle.dv_order.specs.declared.shown.Shown.TheVariants as shown
 use Rattle.dv_order.specs.declared.source.KeySource as sources
-use Rattle.dv_order.specs.declared.source.KeySource.TheVariants.{Small, Short, Middle, Long, Document}
+use Rattle.dv_order.specs.declared.source.KeySource.TheVariants.{Short, Middle, Long}
 
 -- the first bytes are a text
 abbrev pub IsTextIn : ℕ → List ℕ → Type 0

@@ -1,4 +1,4 @@
--- Values at which the values of a class begin or end.
+-- Values at which the values of a class begin or end, as the bounds of ranges.
 use Rattle.std.specs.Prelude.{◌≡◌, ◌<◌, true, ⊤}
 use Rattle.std.specs.declared.ops.Bound.{Bound}
 use Rattle.std.specs.declared.ops.Bound.TheVariants.{Included, Excluded, Unbounded}
