@@ -1,16 +1,14 @@
 //! What holds of changes, each the contract of a function that does nothing.
 
-ghost use Rattle.std.specs.Prelude.{◌≡◌, ◌<◌, ◌≤◌, ◌++◌, ◌∷◌, [], length, List, map, Ok, Err};
+ghost use Rattle.std.specs.Prelude.{◌≡◌, ◌<◌, ◌≤◌, ◌++◌, ◌∷◌, [], length, List, Ok, Err};
 ghost use Rattle.dv_value.specs.Tree.{Field};
-ghost use Rattle.dv_catalog.specs.Changes.{Change, with_change, with_changes};
+ghost use Rattle.dv_catalog.specs.Changes.{Change, with_change};
 ghost use Rattle.dv_catalog.specs.Inner.EffectView.{AreAble, BeginsWithId};
 ghost use Rattle.dv_catalog.specs.State.{AreOrdered};
-ghost use Rattle.dv_catalog.specs.Told.{told};
+ghost use Rattle.dv_catalog.specs.Inner.Told.{AreToldAsMade};
 ghost use Rattle.dv_catalog.specs.Views.{with_view};
 ghost use Rattle.dv_catalog.specs.Inner.ViewParts.{IfUnread};
 ghost use Rattle.dv_refusal.specs.declared.refusal.Refusal.TheVariants.{LimitReached};
-ghost use Rattle.dv_views.specs.Changed.{documents_changed};
-ghost use Rattle.dv_views.specs.Inner.Changed.{AreMade};
 ghost use Rattle.dv_views.specs.Forms.{ViewForm, height_over, heights};
 
 /// Documents stay in the order of their `_id`s after a change, if a document that is put begins with its `_id`.
@@ -28,7 +26,7 @@ pub fn changes_keep_the_order()
 /// Changes that can be made, as they are told to views, are those that a collection makes.
 pub(crate) fn told_changes_are_made()
     ensures { (documents : List (List Field)) (changes : List Change) → AreOrdered documents → AreAble documents changes
-        → AreMade (map told changes) documents × (documents_changed (map told changes) documents ≡ with_changes documents changes) }
+        → AreToldAsMade documents changes }
 {
     changes_keep_the_order();
     dv_views::laws::a_put_is_the_collections();

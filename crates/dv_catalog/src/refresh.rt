@@ -1,13 +1,12 @@
 //! Views, kept over what stands under namespaces.
 
-ghost use Rattle.std.specs.Prelude.{◌≡◌, ◌∷◌, [], false, ℕ, List, Some, OnOk};
-ghost use Rattle.dv_value.specs.Tree.{Field};
+ghost use Rattle.std.specs.Prelude.{◌≡◌, ◌∷◌, [], false, ℕ, List, OnOk};
 ghost use Rattle.dv_views.specs.Forms as forms;
 ghost use Rattle.dv_views.specs.Inner.Views as views;
 ghost use Rattle.dv_catalog.specs.Inner.CatalogParts as parts;
-ghost use Rattle.dv_catalog.specs.Inner.CatalogParts.{AreLive, marked_of, rows_kept, state_of};
+ghost use Rattle.dv_catalog.specs.Inner.CatalogParts.{AreLive, KeepsItsRows, ShowsItsRows, marked_of};
 ghost use Rattle.dv_catalog.specs.Inner.Parts.{Reads};
-ghost use Rattle.dv_catalog.specs.State.{Namespaces, lists_of, rows_of};
+ghost use Rattle.dv_catalog.specs.State.{Namespaces, lists_of};
 
 use crate::collections::Collections;
 use crate::sources::documents_under;
@@ -104,10 +103,9 @@ fn is_stale(registry: &ToldRegistry, name: &str) -> bool
 
 /// A law: the rows that a right view shows are those that stand under its name.
 pub(crate) fn law_shown(registry: &ToldRegistry)
-    ensures shown { (namespaces : Namespaces) (name : List ℕ) (rows : List (List Field)) → views.AreRight (lists_of namespaces) registry.now
-        → views.rows_shown name registry.now ≡ Some rows → rows ≡ rows_of name (state_of namespaces registry.now) }
+    ensures shown { (namespaces : Namespaces) (name : List ℕ) → views.AreRight (lists_of namespaces) registry.now → ShowsItsRows name namespaces registry.now }
     ensures kept { (namespaces : Namespaces) (name : List ℕ) → views.AreRight (lists_of namespaces) registry.now
-        → AreLive (name ∷ []) registry.now → rows_kept name namespaces registry.now ≡ rows_of name (state_of namespaces registry.now) }
+        → AreLive (name ∷ []) registry.now → KeepsItsRows name namespaces registry.now }
 {
     dv_views::laws::what_is_shown_is_right();
     // No two views have one name.

@@ -7,9 +7,9 @@ ghost use Rattle.dv_match.specs.Match.{matches};
 ghost use Rattle.dv_path.specs.Parts.{part};
 ghost use Rattle.dv_coll.specs.Collection.{AreStanding, HasId};
 ghost use Rattle.dv_index.specs.Inner.Ahead as defined;
-ghost use Rattle.dv_index.specs.Inner.Ahead.{LeadsSomewhere};
+ghost use Rattle.dv_index.specs.Inner.Ahead.{HasAllAhead, LeadsSomewhere};
 ghost use Rattle.dv_index.specs.Inner.Change.{AreIndexesOf};
-ghost use Rattle.dv_index.specs.Inner.Search.{AgreeOn, IsIndexOf, documents_referred};
+ghost use Rattle.dv_index.specs.Inner.Search.{IsIndexOf, documents_referred};
 
 use crate::indexes::Indexes;
 use crate::search::documents_of;
@@ -122,7 +122,7 @@ pub(crate) fn candidates_ahead<'c>(
     requires indexed { IsIndexOf index.now collection.now }
     requires path { index.now.path ≡ by.now.path }
     requires somewhere { LeadsSomewhere filter.now (part by.now) bar.now }
-    ensures all { IfOk result (λ found. IfSome found (λ documents. AgreeOn (defined.is_ahead (part by.now) bar.now) (kept (matches filter.now) (documents_referred documents.items)) (kept (matches filter.now) collection.now))) }
+    ensures all { IfOk result (λ found. IfSome found (λ documents. HasAllAhead (part by.now) bar.now filter.now (kept (matches filter.now) (documents_referred documents.items)) collection.now)) }
     ensures standing { IfOk result (λ found. IfSome found (λ documents. AreStanding collection.now (documents_referred documents.items))) }
 {
     laws::an_only_key_is_in_all_bounds();

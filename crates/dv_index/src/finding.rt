@@ -4,9 +4,9 @@ ghost use Rattle.std.specs.Prelude.{◌≡◌, filter as kept, map, reverse, tak
 ghost use Rattle.dv_coll.specs.Collection.{AreStanding};
 ghost use Rattle.dv_match.specs.Match.{matches};
 ghost use Rattle.dv_path.specs.Parts.{part};
-ghost use Rattle.dv_index.specs.Inner.Ahead.{is_ahead};
+ghost use Rattle.dv_index.specs.Inner.Ahead.{HasAllAhead};
 ghost use Rattle.dv_index.specs.Inner.InDirection.{in_direction};
-ghost use Rattle.dv_index.specs.Inner.Search.{AgreeOn, documents_referred};
+ghost use Rattle.dv_index.specs.Inner.Search.{documents_referred};
 
 use crate::ahead::{Ahead, candidates_ahead, index_in_order, leads_somewhere};
 use crate::indexed::IndexedCollection;
@@ -98,7 +98,7 @@ impl IndexedCollection {
         ties: Ties,
         least: usize,
     ) -> Result<Option<Ahead<'_>>, NoMemory>
-        ensures all { IfOk result (λ found. IfSome found (λ ahead. AgreeOn (is_ahead (part by.now) ahead.bar) (documents_referred ahead.documents.items) (kept (λ d. matches filter.now d) self.now.documents))) }
+        ensures all { IfOk result (λ found. IfSome found (λ ahead. HasAllAhead (part by.now) ahead.bar filter.now (documents_referred ahead.documents.items) self.now.documents)) }
         ensures standing { IfOk result (λ found. IfSome found (λ ahead. AreStanding self.now.documents (documents_referred ahead.documents.items))) }
         ensures tied { IfOk result (λ found. IfSome found (λ ahead. IfSome ahead.bar.until (λ until. ties ≡ Ties.ById))) }
     {

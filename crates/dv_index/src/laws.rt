@@ -19,9 +19,9 @@ ghost use Rattle.dv_index.specs.Indexed.{IndexedTree, documents_covered, without
 ghost use Rattle.dv_keyed.specs.Inner.Keys.{has_key};
 ghost use Rattle.dv_keyed.specs.Inner.Pairs.{has_pair};
 ghost use Rattle.dv_keyed.specs.Within.{has_within};
-ghost use Rattle.dv_index.specs.Inner.Indexed.{AreUnbroken, has_index_named, index_on};
+ghost use Rattle.dv_index.specs.Inner.Indexed.{AreUnbroken, BreaksNone, has_index_named, index_on};
 ghost use Rattle.dv_index.specs.Inner.Search.{IsIndexOf};
-ghost use Rattle.dv_index.specs.Unique.{are_broken, clashes};
+ghost use Rattle.dv_index.specs.Unique.{are_broken};
 
 pub use dv_keyed::laws::{
     a_closed_range_is_decided_by_its_ends, a_key_in_the_bounds_is_of_a_leaf_there,
@@ -63,15 +63,15 @@ pub fn indexes_come_and_go()
 /// A document that is inserted without a clash breaks no unique index.
 #[tactic(auto, using(crate::proofs::Apart::insert_breaks_nothing))]
 pub fn an_insert_without_a_clash_breaks_nothing()
-    ensures { (indexes : List IndexForm) (d : List Field) (ds : List (List Field)) → IsAscending ds → found (id_key d) ds ≡ None → AreUnbroken indexes ds
-        → clashes indexes d ds ≡ false → AreUnbroken indexes (inserted d ds) }
+    ensures { (indexes : List IndexForm) (d : List Field) (ds : List (List Field)) → IsAscending ds → found (id_key d) ds ≡ None
+        → BreaksNone indexes d ds (inserted d ds) }
 {}
 
 /// Nor does one that is put in place of another.
 #[tactic(auto, using(crate::proofs::Apart::replacement_breaks_nothing))]
 pub fn a_replacement_without_a_clash_breaks_nothing()
-    ensures { (indexes : List IndexForm) (d : List Field) (ds : List (List Field)) → IsAscending ds → IsSome (found (id_key d) ds) → AreUnbroken indexes ds
-        → clashes indexes d ds ≡ false → AreUnbroken indexes (replaced d ds) }
+    ensures { (indexes : List IndexForm) (d : List Field) (ds : List (List Field)) → IsAscending ds → IsSome (found (id_key d) ds)
+        → BreaksNone indexes d ds (replaced d ds) }
 {}
 
 /// A document that is taken out breaks none.

@@ -146,7 +146,7 @@ fn found_between<'c>(
 {
     laws::a_closed_range_is_decided_by_its_ends();
     // The documents ascend by their `_id`s.
-    let _ = collection.len();
+    collection.law_ascending();
     if index.pairs().has_several() {
         return Ok(None);
     }

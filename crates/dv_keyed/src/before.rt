@@ -9,7 +9,7 @@ ghost use Rattle.dv_path.specs.SortKey as sorting;
 ghost use Rattle.dv_keyed.specs.Inner.Ahead.{HaveAllAhead, HaveTriedAhead, is_until, leaf_sorted_by, null_key, stands_ahead};
 ghost use Rattle.dv_keyed.specs.Inner.Interval.{is_between, is_in_all};
 ghost use Rattle.dv_keyed.specs.Inner.Keys.{refers_to};
-ghost use Rattle.dv_keyed.specs.Inner.Pairs.{has_pair};
+ghost use Rattle.dv_keyed.specs.Inner.Pairs.{LeadFrom};
 
 use crate::index::Index;
 use crate::interval::Interval;
@@ -156,7 +156,7 @@ fn ids_before<'i>(
 
 /// Adds the `_id`s' keys that stand under the bar's own key and come before its end.
 fn add_tied<'i>(index: &'i Pairs, bar: &Bar<'_>, ids: &mut Vec<&'i Key>) -> Result<(), NoMemory>
-    ensures added { OnOk result ((k i : KeyTree) → is_eq (key_order k bar.now.key.now) ≡ true → is_until i bar.now.until ≡ true → has_pair k i index.now ≡ true → refers_to ids.new.items i ≡ true) }
+    ensures added { OnOk result ((k i : KeyTree) → is_eq (key_order k bar.now.key.now) ≡ true → is_until i bar.now.until ≡ true → LeadFrom k i index.now ids.new.items) }
     ensures kept { OnOk result ((i : KeyTree) → refers_to ids.old.items i ≡ true → refers_to ids.new.items i ≡ true) }
 {
     match bar.until {
@@ -183,7 +183,7 @@ fn add_empty_before<'i>(
     bar: &Bar<'_>,
     ids: &mut Vec<&'i Key>,
 ) -> Result<(), NoMemory>
-    ensures added { OnOk result ((i : KeyTree) → stands_ahead direction bar.now no_element i ≡ true → has_pair (leaf_sorted_by no_element) i index.now ≡ true → refers_to ids.new.items i ≡ true) }
+    ensures added { OnOk result ((i : KeyTree) → stands_ahead direction bar.now no_element i ≡ true → LeadFrom (leaf_sorted_by no_element) i index.now ids.new.items) }
     ensures kept { OnOk result ((i : KeyTree) → refers_to ids.old.items i ≡ true → refers_to ids.new.items i ≡ true) }
 {
     if !bar.may_be_behind(direction, &Key::no_element()) {

@@ -1,13 +1,10 @@
 //! Filters that are a range with two ends.
 
-ghost use Rattle.std.specs.Prelude.{◌≡◌, ◌&&◌, IfOk, IfSome};
+ghost use Rattle.std.specs.Prelude.{IfOk, IfSome};
 ghost use Rattle.dv_value.specs.View.{tree};
 ghost use Rattle.dv_match.specs.Filter.{in_range};
 ghost use Rattle.dv_match.specs.View.{condition, member};
-ghost use Rattle.dv_order.specs.Key.{KeyTree};
-ghost use Rattle.dv_keyed.specs.Inner.Decided.{AreClosed, IsClosed, IsClosedUnder, IsInBoth};
-ghost use Rattle.dv_keyed.specs.Inner.Interval.{is_between};
-ghost use Rattle.dv_keyed.specs.Inner.Within.{covers};
+ghost use Rattle.dv_keyed.specs.Inner.Decided.{AreClosed, HasKeysOfBoth, IsClosed, IsClosedUnder, IsInBoth};
 
 use crate::interval::Interval;
 use crate::plan::same_path;
@@ -70,8 +67,7 @@ fn closed_between(
     high: Range,
     most: &Value,
 ) -> Result<Option<Interval>, NoMemory>
-    ensures { IfOk result (λ found. IfSome found (λ ends. (k : KeyTree) →
-        is_between ends k ≡ (covers (in_range low (tree least.now)) k && covers (in_range high (tree most.now)) k))) }
+    ensures { IfOk result (λ found. IfSome found (λ ends. HasKeysOfBoth ends (in_range low (tree least.now)) (in_range high (tree most.now)))) }
 {
     laws::lower_classes_stand_first();
     if !same_class(least, most) {

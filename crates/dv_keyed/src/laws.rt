@@ -10,9 +10,9 @@ ghost use Rattle.dv_order.specs.Order.{canon};
 ghost use Rattle.dv_candidates.specs.Candidates.{Candidate, or_null};
 ghost use Rattle.dv_path.specs.LeafKeys.{is_leaf_key};
 ghost use Rattle.dv_keyed.specs.Choice.{chosen};
-ghost use Rattle.dv_keyed.specs.Inner.Decided.{HasOneKey, IsAnswered, IsClosed, IsDecided, IsOnlyLeaf, is_one_condition};
+ghost use Rattle.dv_keyed.specs.Inner.Decided.{HasOneKey, IsAnswered, IsClosed, IsDecided, IsOnlyLeaf, MatchesBetween, is_one_condition};
 ghost use Rattle.dv_keyed.specs.Inner.Examples.{has_key_of};
-ghost use Rattle.dv_keyed.specs.Inner.Interval.{is_between, is_in_all};
+ghost use Rattle.dv_keyed.specs.Inner.Interval.{is_in_all};
 ghost use Rattle.dv_keyed.specs.declared.interval.Interval.{Interval};
 ghost use Rattle.dv_keyed.specs.Within.{has_within, is_within};
 ghost use Rattle.dv_keyed.specs.Inner.Within.{covers};
@@ -58,8 +58,8 @@ pub fn one_condition_is_decided_by_its_bounds()
 
 /// A document that has only one key matches a range with two ends exactly if its key is between them; one without keys doesn't.
 pub fn a_closed_range_is_decided_by_its_ends()
-    ensures { (ends : Interval) (path : List (List ℕ)) (filter : Members) (d : List Field) → IsClosed ends path filter → HasOneKey path d →
-        (matches filter d ≡ true) ↔ ((k : KeyTree) × (is_between ends k ≡ true) × (is_leaf_key k path d ≡ true)) }
+    ensures { (ends : Interval) (path : List (List ℕ)) (filter : Members) (d : List Field) → IsClosed ends path filter → HasOneKey path d
+        → MatchesBetween ends path filter d }
 {
     dv_order::laws::keys_stand_as_their_values();
     dv_order::laws::equal_is_same_but_for_widths();

@@ -8,18 +8,19 @@ ghost use Rattle.dv_value.specs.Tree.{Tree, array, document, null, Elements, no_
 ghost use Rattle.dv_path.specs.Placing.{put};
 ghost use Rattle.dv_path.specs.Removing.{remove};
 ghost use Rattle.dv_row.specs.declared.fault.PipelineFault.TheVariants.{BadSpec};
-ghost use Rattle.dv_row.specs.Inner.Examples.{named_a, named_b, named_id, shown};
+ghost use Rattle.dv_row.specs.Inner.Examples.{named_a, named_b, named_id, row_of, shown};
 ghost use Rattle.dv_value.specs.Short.{int, long, text, doc, list};
 ghost use Rattle.dv_row.specs.declared.project.Project as projects;
 ghost use Rattle.dv_row.specs.declared.project.Project.TheVariants.{Include};
 ghost use Rattle.dv_row.specs.declared.unwind.Unwind as unwinds;
 ghost use Rattle.dv_row.specs.ExpressionParsing.{expression_in};
 ghost use Rattle.dv_row.specs.Expressions.{Expression, computed_of, value_of};
-ghost use Rattle.dv_row.specs.Parsing.{unwind_in, unwinding};
-ghost use Rattle.dv_row.specs.Projecting.{paths_behind, projected};
+ghost use Rattle.dv_row.specs.Parsing.{unwind_in};
+ghost use Rattle.dv_row.specs.Projecting.{projected};
 ghost use Rattle.dv_row.specs.ProjectParsing.{project_in};
 ghost use Rattle.dv_row.specs.Row.{Row};
-ghost use Rattle.dv_row.specs.Inner.Shown.{AreNamesApart, AreUnmet, Level, Paths, bare_levels, begins_at, computed_fields, document_under, ends_at, excluded, has_parts, ids_in, included, is_met, is_named, names, way_to, within};
+ghost use Rattle.dv_row.specs.Inner.Shown.{AreNamesApart, AreUnmet, IsShownInside, IsShownWithin, Level, Paths, bare_levels, begins_at, computed_fields, ends_at, excluded, has_parts, ids_in, included, is_met, is_named, names};
+ghost use Rattle.dv_row.specs.Inner.UnwoundRows.{dropping, preserving};
 ghost use Rattle.dv_row.specs.Unwinding.{reached, unwound};
 ghost use Rattle.dv_row.specs.Inner.Valid.{AreValid, IsValid};
 
@@ -43,10 +44,10 @@ pub fn each_element_has_its_row()
 /// without the empty array. For the others the same rows are returned.
 #[tactic(auto, using(crate::proofs::ElementRows::no_row, crate::proofs::ElementRows::preserved_row, crate::proofs::ElementRows::without_the_array, crate::proofs::ElementRows::no_more))]
 pub fn what_is_dropped_can_be_preserved()
-    ensures dropped { (path : List (List ℕ)) (row : Row) → (reached path row ≡ None) ⊎ (reached path row ≡ Some null) ⊎ (reached path row ≡ Some (array no_elements)) → unwound (unwinding path false) row ≡ [] }
-    ensures preserved { (path : List (List ℕ)) (row : Row) → (reached path row ≡ None) ⊎ (reached path row ≡ Some null) → unwound (unwinding path true) row ≡ row ∷ [] }
-    ensures without_the_array { (path : List (List ℕ)) (row : Row) → reached path row ≡ Some (array no_elements) → unwound (unwinding path true) row ≡ remove row path ∷ [] }
-    ensures no_more { (path : List (List ℕ)) (row first : Row) (rest : List Row) → unwound (unwinding path false) row ≡ first ∷ rest → unwound (unwinding path true) row ≡ first ∷ rest }
+    ensures dropped { (path : List (List ℕ)) (row : Row) → (reached path row ≡ None) ⊎ (reached path row ≡ Some null) ⊎ (reached path row ≡ Some (array no_elements)) → dropping path row ≡ [] }
+    ensures preserved { (path : List (List ℕ)) (row : Row) → (reached path row ≡ None) ⊎ (reached path row ≡ Some null) → preserving path row ≡ row ∷ [] }
+    ensures without_the_array { (path : List (List ℕ)) (row : Row) → reached path row ≡ Some (array no_elements) → preserving path row ≡ remove row path ∷ [] }
+    ensures no_more { (path : List (List ℕ)) (row first : Row) (rest : List Row) → dropping path row ≡ first ∷ rest → preserving path row ≡ first ∷ rest }
 {}
 
 /// Of a row's fields those that a path names stay, each as it is, and those that hold others stay if a path leads through them;
@@ -77,9 +78,9 @@ pub fn documents_are_shown_as_rows()
     ensures included_apart { (paths : Paths) (front back : Row) → included paths (front ++ back) ≡ included paths front ++ included paths back }
     ensures excluded_apart { (paths : Paths) (front back : Row) → excluded paths (front ++ back) ≡ excluded paths front ++ excluded paths back }
     ensures included_inside { (paths : Paths) (name : List ℕ) (d : Row) → ends_at paths name ≡ false → begins_at paths name ≡ true
-        → included paths (document_under name d ∷ []) ≡ document_under name (included (paths_behind name paths) d) ∷ [] }
+        → IsShownInside included paths name d }
     ensures excluded_inside { (paths : Paths) (name : List ℕ) (d : Row) → ends_at paths name ≡ false → begins_at paths name ≡ true
-        → excluded paths (document_under name d ∷ []) ≡ document_under name (excluded (paths_behind name paths) d) ∷ [] }
+        → IsShownInside excluded paths name d }
 {}
 
 /// At any depth of documents, an included path that leads through the levels keeps at each of them only that document, and in it
@@ -88,9 +89,9 @@ pub fn documents_are_shown_as_rows()
 #[tactic(auto, using(crate::proofs::Levels::included_deep, crate::proofs::Levels::excluded_deep))]
 pub fn paths_lead_through_levels()
     ensures included { (levels : List Level) (name : List ℕ) (rest : List (List ℕ)) (d : Row) → AreNamesApart levels
-        → included (way_to levels name rest ∷ []) (within levels d) ≡ within (bare_levels levels) (included ((name ∷ rest) ∷ []) d) }
+        → IsShownWithin included levels (bare_levels levels) name rest d }
     ensures excluded { (levels : List Level) (name : List ℕ) (rest : List (List ℕ)) (d : Row) → AreNamesApart levels
-        → excluded (way_to levels name rest ∷ []) (within levels d) ≡ within levels (excluded ((name ∷ rest) ∷ []) d) }
+        → IsShownWithin excluded levels levels name rest d }
 {}
 
 /// If a stage says nothing of `_id`, that stays as it is, beside what is included or computed and beside what is excluded.
@@ -103,11 +104,11 @@ pub fn an_id_that_is_not_asked_for_stays()
 /// `_id` stays beside what is included and beside what is excluded, and goes if it is excluded itself, by itself or beside either.
 #[tactic(auto, using(crate::proofs::Worked::id_stays_included, crate::proofs::Worked::id_stays_excluded, crate::proofs::Worked::id_goes_alone, crate::proofs::Worked::id_goes_included, crate::proofs::Worked::id_goes_excluded))]
 pub fn examples_of_ids()
-    ensures stays_beside_included { (id a b : Tree) → shown (named_a (int 1) ∷ []) (named_id id ∷ named_a a ∷ named_b b ∷ []) ≡ Ok (named_id id ∷ named_a a ∷ []) }
-    ensures stays_beside_excluded { (id a b : Tree) → shown (named_a (int 0) ∷ []) (named_id id ∷ named_a a ∷ named_b b ∷ []) ≡ Ok (named_id id ∷ named_b b ∷ []) }
-    ensures goes_alone { (id a b : Tree) → shown (named_id (int 0) ∷ []) (named_id id ∷ named_a a ∷ named_b b ∷ []) ≡ Ok (named_a a ∷ named_b b ∷ []) }
-    ensures goes_beside_included { (id a b : Tree) → shown (named_a (int 1) ∷ named_id (int 0) ∷ []) (named_id id ∷ named_a a ∷ named_b b ∷ []) ≡ Ok (named_a a ∷ []) }
-    ensures goes_beside_excluded { (id a b : Tree) → shown (named_a (int 0) ∷ named_id (int 0) ∷ []) (named_id id ∷ named_a a ∷ named_b b ∷ []) ≡ Ok (named_b b ∷ []) }
+    ensures stays_beside_included { (id a b : Tree) → shown (named_a (int 1) ∷ []) (row_of id a b) ≡ Ok (named_id id ∷ named_a a ∷ []) }
+    ensures stays_beside_excluded { (id a b : Tree) → shown (named_a (int 0) ∷ []) (row_of id a b) ≡ Ok (named_id id ∷ named_b b ∷ []) }
+    ensures goes_alone { (id a b : Tree) → shown (named_id (int 0) ∷ []) (row_of id a b) ≡ Ok (named_a a ∷ named_b b ∷ []) }
+    ensures goes_beside_included { (id a b : Tree) → shown (named_a (int 1) ∷ named_id (int 0) ∷ []) (row_of id a b) ≡ Ok (named_a a ∷ []) }
+    ensures goes_beside_excluded { (id a b : Tree) → shown (named_a (int 0) ∷ named_id (int 0) ∷ []) (row_of id a b) ≡ Ok (named_b b ∷ []) }
 {}
 
 /// After what is included come the computed fields, in the stage's order, each with the value of its expression over the row; one
@@ -121,10 +122,10 @@ pub fn computed_fields_stand_last()
 /// An array of which nothing is left stays; int64s are switches; `_id` stays first, and what is computed comes last.
 #[tactic(auto, using(crate::proofs::Worked::arrays_stay, crate::proofs::Worked::a_long_on, crate::proofs::Worked::a_long_off, crate::proofs::Worked::computed_behind))]
 pub fn examples_of_showing()
-    ensures arrays_stay { shown ((codes "a.c", int 1) ∷ (codes "b.c", int 1) ∷ []) (named_id (int 1) ∷ named_a (list (int 7 ∷ [])) ∷ named_b (list []) ∷ []) ≡ Ok (named_id (int 1) ∷ named_a (list []) ∷ named_b (list []) ∷ []) }
-    ensures a_long_on { shown (named_a (long 1) ∷ []) (named_id (int 1) ∷ named_a (int 5) ∷ named_b (int 6) ∷ []) ≡ Ok (named_id (int 1) ∷ named_a (int 5) ∷ []) }
-    ensures a_long_off { shown (named_a (long 0) ∷ []) (named_id (int 1) ∷ named_a (int 5) ∷ named_b (int 6) ∷ []) ≡ Ok (named_id (int 1) ∷ named_b (int 6) ∷ []) }
-    ensures computed_behind { shown ((codes "x", text (codes "$b")) ∷ (codes "y", text (codes "$c")) ∷ named_a (int 1) ∷ []) (named_id (int 1) ∷ named_a (int 5) ∷ named_b (int 6) ∷ []) ≡ Ok (named_id (int 1) ∷ named_a (int 5) ∷ (codes "x", int 6) ∷ []) }
+    ensures arrays_stay { shown ((codes "a.c", int 1) ∷ (codes "b.c", int 1) ∷ []) (row_of (int 1) (list (int 7 ∷ [])) (list [])) ≡ Ok (row_of (int 1) (list []) (list [])) }
+    ensures a_long_on { shown (named_a (long 1) ∷ []) (row_of (int 1) (int 5) (int 6)) ≡ Ok (named_id (int 1) ∷ named_a (int 5) ∷ []) }
+    ensures a_long_off { shown (named_a (long 0) ∷ []) (row_of (int 1) (int 5) (int 6)) ≡ Ok (named_id (int 1) ∷ named_b (int 6) ∷ []) }
+    ensures computed_behind { shown ((codes "x", text (codes "$b")) ∷ (codes "y", text (codes "$c")) ∷ named_a (int 1) ∷ []) (row_of (int 1) (int 5) (int 6)) ≡ Ok (named_id (int 1) ∷ named_a (int 5) ∷ (codes "x", int 6) ∷ []) }
 {}
 
 /// Forms that are refused: a dollar sign with no path after it, a switch inside a document, a field that is computed beside one

@@ -6,7 +6,8 @@ ghost use Rattle.dv_change.specs.Changes.{with_change};
 ghost use Rattle.dv_change.specs.Inner.Changes.{IsPositioned};
 ghost use Rattle.dv_change.specs.Inner.Told.{with_old};
 ghost use Rattle.dv_pipe.specs.Sources.{lists_of, rows_referred};
-ghost use Rattle.dv_views.specs.Inner.Copies.{AreCopies, HaveCopiesRead, HaveCopy, HaveTold, StillHolds, copy_under};
+ghost use Rattle.dv_views.specs.Inner.Copies.{AreCopies, HaveCopiesRead, HaveCopy, HaveTold, copy_under};
+ghost use Rattle.dv_views.specs.Inner.Made.{StillHolds};
 ghost use Rattle.dv_views.specs.Inner.Views.{AreInOrder};
 ghost use Rattle.dv_views.specs.Placed.{positioned};
 

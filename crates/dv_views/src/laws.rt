@@ -7,21 +7,22 @@ ghost use Rattle.dv_coll.specs.Collection.{HasId, IsAscending, found, id_key, in
 ghost use Rattle.dv_change.specs.declared.position.Part.TheVariants.{Up};
 ghost use Rattle.dv_change.specs.declared.change.Change.{Change};
 ghost use Rattle.dv_change.specs.declared.change.Change.TheVariants.{Put, Gone};
-ghost use Rattle.dv_change.specs.Changes.{at, forget, with_change};
+ghost use Rattle.dv_change.specs.Changes.{at, with_change};
 ghost use Rattle.dv_change.specs.Inner.Changes.{HaveOneLength, IsPositioned};
 ghost use Rattle.dv_order.specs.Key.{KeyTree};
 ghost use Rattle.dv_pipe.specs.Sources.{Row};
-ghost use Rattle.dv_pipe.specs.Stages.{Lists, evaluated};
+ghost use Rattle.dv_pipe.specs.Stages.{Lists};
 ghost use Rattle.dv_pipe.specs.declared.stage.Stage.{Stage};
 ghost use Rattle.dv_views.specs.Changed.{documents_changed};
 ghost use Rattle.dv_views.specs.Inner.Changed.{AreMade, AreMadeInTurn, IsMade};
 ghost use Rattle.dv_views.specs.Inner.Copies.{AreKeptRight, KeptViews};
 ghost use Rattle.dv_views.specs.Inner.Fault.{view_fault_number};
+ghost use Rattle.dv_views.specs.Inner.Made.{AreFromScratch};
 ghost use Rattle.dv_views.specs.Inner.Examples.{over_lists, seven_views};
 ghost use Rattle.dv_views.specs.Flow.{nothing, shares};
-ghost use Rattle.dv_views.specs.Forms.{ViewForm, fault_of_new, height_over, heights, is_name_among, is_read_by, names_read, needed, outs_of, rows_over};
+ghost use Rattle.dv_views.specs.Forms.{ViewForm, fault_of_new, height_over, heights, is_name_among, is_read_by, needed, rows_over};
 ghost use Rattle.dv_views.specs.Placed.{ListPlaces, own_position, positioned};
-ghost use Rattle.dv_views.specs.Inner.Views.{AreNamedApart, AreRight, Views, view_form, reads_name, rows_shown, views_without};
+ghost use Rattle.dv_views.specs.Inner.Views.{AreNamedApart, AreRight, AreSameWhereRead, Views, view_form, reads_name, rows_shown, views_without};
 ghost use Rattle.dv_views.specs.declared.fault.ViewFault.TheVariants.{Exists, LimitReached, NoMemory, ReadByView};
 
 /// A document that is put at its own position replaces the one that has an equal `_id`, if there is one, and else it comes in its
@@ -65,7 +66,8 @@ pub fn documents_stand_at_their_ids()
 /// What stages make at positions are, without these, the rows of the pipeline from scratch, if each name that they read has the
 /// same rows with positions and without them. So what a live view keeps by changes is what it would have if it were recomputed.
 pub fn kept_rows_are_those_from_scratch()
-    ensures { (stages : List Stage) (source : List ℕ) (places : ListPlaces) (lists : Lists) → IsPositioned (places source) → HaveOneLength (places source) → ((name : List ℕ) → is_name_among name (names_read stages source) ≡ true → forget (places name) ≡ lists name) → forget (outs_of stages source places) ≡ evaluated stages source lists }
+    ensures { (stages : List Stage) (source : List ℕ) (places : ListPlaces) (lists : Lists) → IsPositioned (places source) → HaveOneLength (places source)
+        → AreFromScratch stages source places lists }
 {
     dv_flow::laws::matched_rows_are_the_filter();
     dv_flow::laws::shown_rows_are_each_row_as_it_is_shown();
@@ -79,14 +81,14 @@ pub fn kept_rows_are_those_from_scratch()
 /// Views that are right over some lists are right over others that are the same wherever a view reads.
 #[tactic(auto, using(crate::proofs::Right::right_over_others))]
 pub fn what_is_not_read_does_not_matter()
-    ensures { (views : Views) (lists others : Lists) → ((name : List ℕ) → reads_name views name ≡ true → lists name ≡ others name) → AreRight lists views → AreRight others views }
+    ensures { (views : Views) (lists others : Lists) → AreSameWhereRead views lists others → AreRight lists views → AreRight others views }
 {
     dv_pipe::laws::what_is_not_read_does_not_matter();
 }
 
 /// The same holds of views with the documents that are kept for them.
 pub fn what_is_not_read_is_not_kept()
-    ensures { (kept : KeptViews) (lists others : Lists) → ((name : List ℕ) → reads_name kept.views name ≡ true → lists name ≡ others name) → AreKeptRight lists kept → AreKeptRight others kept }
+    ensures { (kept : KeptViews) (lists others : Lists) → AreSameWhereRead kept.views lists others → AreKeptRight lists kept → AreKeptRight others kept }
 {
     what_is_not_read_does_not_matter();
 }

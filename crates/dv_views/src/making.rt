@@ -5,13 +5,12 @@ ghost use Rattle.std.specs.List.{AllByRecursion};
 ghost use Rattle.dv_change.specs.declared.input.Input.TheVariants.{Named};
 ghost use Rattle.dv_change.specs.Inner.Changes.{IsPositioned};
 ghost use Rattle.dv_coll.specs.Collection.{HasId};
-ghost use Rattle.dv_pipe.specs.Sources.{lists_of, rows_referred};
+ghost use Rattle.dv_pipe.specs.Sources.{rows_referred};
 ghost use Rattle.dv_views.specs.Inner.Filled.{FillsList, FillsLists, firsts_of};
 ghost use Rattle.dv_views.specs.Forms.{names_read};
-ghost use Rattle.dv_views.specs.Inner.Ground.{IsBuilt, IsLive, IsPlacedUnder, outs_below, outs_of_mark};
+ghost use Rattle.dv_views.specs.Inner.Ground.{IsBuilt, IsLive, IsPlacedUnder, lists_below, outs_below, outs_of_mark, views_below};
 ghost use Rattle.dv_views.specs.Inner.Keeping.{IsSoundLive, kept_seen};
 ghost use Rattle.dv_views.specs.Inner.Made.{IsNoStale};
-ghost use Rattle.dv_views.specs.Inner.Older.{views_before};
 ghost use Rattle.dv_views.specs.Placed as defined;
 ghost use Rattle.dv_views.specs.Placed.{positioned};
 ghost use Rattle.dv_views.specs.Views.{live};
@@ -47,10 +46,10 @@ pub(crate) fn made(
     lookups: &[Str],
 ) -> Result<ToldRows<StageOperator>, NoMemory>
     requires lookups { lookups.now ≡ defined.lookups_of pipeline.now source.now }
-    requires read { AllByRecursion (λ name. AreInOrder (lists_of ground.now.sources.now name)) (names_read pipeline.now source.now) }
-    requires live { AllByRecursion (λ name. IsNoStale (view_under name (views_before ground.now.place ground.now.views.now.entries))) (names_read pipeline.now source.now) }
+    requires read { AllByRecursion (λ name. AreInOrder (lists_below ground.now name)) (names_read pipeline.now source.now) }
+    requires live { AllByRecursion (λ name. IsNoStale (view_under name (views_below ground.now))) (names_read pipeline.now source.now) }
     ensures sound { IfOk result (λ rows. IsSoundLive rows) }
-    ensures built { IfOk result (λ rows. IsBuilt pipeline.now source.now (views_before ground.now.place ground.now.views.now.entries) (lists_of ground.now.sources.now) (live (kept_seen rows))) }
+    ensures built { IfOk result (λ rows. IsBuilt pipeline.now source.now (views_below ground.now) (lists_below ground.now) (live (kept_seen rows))) }
 {
     // With the lists that stages look into there first, each row of the source is made once.
     let fresh = nothing_taken_in(alloc, pipeline)?;
@@ -68,12 +67,11 @@ fn filled_lists(
     lookups: &[Str],
 ) -> Result<ToldRows<StageOperator>, NoMemory>
     requires sound { IsSoundLive rows }
-    requires ordered { AllByRecursion (λ name. AreInOrder (lists_of ground.now.sources.now name)) lookups.now }
-    requires live { AllByRecursion (λ name. IsNoStale (view_under name (views_before ground.now.place ground.now.views.now.entries))) lookups.now }
+    requires ordered { AllByRecursion (λ name. AreInOrder (lists_below ground.now name)) lookups.now }
+    requires live { AllByRecursion (λ name. IsNoStale (view_under name (views_below ground.now))) lookups.now }
     ensures sound { IfOk result (λ after. IsSoundLive after) }
-    ensures made { let places = outs_below (views_before ground.now.place ground.now.views.now.entries) (lists_of ground.now.sources.now) in
-        IfOk result (λ after. FillsLists places lookups.now (kept_seen rows) (kept_seen after)) }
-    ensures placed { IfOk result (λ _. AllByRecursion (IsPlacedUnder (views_before ground.now.place ground.now.views.now.entries) (lists_of ground.now.sources.now)) lookups.now) }
+    ensures made { IfOk result (λ after. FillsLists (outs_below (views_below ground.now) (lists_below ground.now)) lookups.now (kept_seen rows) (kept_seen after)) }
+    ensures placed { IfOk result (λ _. AllByRecursion (IsPlacedUnder (views_below ground.now) (lists_below ground.now)) lookups.now) }
 {
     let mut live = rows;
     'lists: for (place, name) in lookups.iter().enumerate() {
@@ -100,10 +98,10 @@ fn filled_list(
 
 /// What stands under a name, each row put at its position, where none stood. Fails where memory is wanting.
 fn firsts_under(alloc: Global, ground: &Ground<'_>, name: &str) -> Result<Vec<Taken>, NoMemory>
-    requires ordered { AreInOrder (lists_of ground.now.sources.now name.now) }
-    requires live { IsNoStale (view_under name.now (views_before ground.now.place ground.now.views.now.entries)) }
-    ensures firsts { IfOk result (λ firsts. firsts.items ≡ firsts_of (outs_below (views_before ground.now.place ground.now.views.now.entries) (lists_of ground.now.sources.now) name.now)) }
-    ensures placed { IfOk result (λ _. IsPlacedUnder (views_before ground.now.place ground.now.views.now.entries) (lists_of ground.now.sources.now) name.now) }
+    requires ordered { AreInOrder (lists_below ground.now name.now) }
+    requires live { IsNoStale (view_under name.now (views_below ground.now)) }
+    ensures firsts { IfOk result (λ firsts. firsts.items ≡ firsts_of (outs_below (views_below ground.now) (lists_below ground.now) name.now)) }
+    ensures placed { IfOk result (λ _. IsPlacedUnder (views_below ground.now) (lists_below ground.now) name.now) }
 {
     match older(ground.views, ground.place, name) {
         Some(view) => firsts_of_view(alloc, view),

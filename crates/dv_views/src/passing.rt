@@ -7,8 +7,8 @@ ghost use Rattle.std.specs.Option.{option_map};
 ghost use Rattle.dv_views.specs.Inner.Body.{Body};
 ghost use Rattle.dv_views.specs.Inner.Ground.{IsLiveView};
 ghost use Rattle.dv_views.specs.Inner.Keeping.{IsSoundLive, kept_seen};
-ghost use Rattle.dv_views.specs.Inner.Older.{told_found, views_before};
-ghost use Rattle.dv_views.specs.Inner.Passing.{IsLostAt, IsTakenAt};
+ghost use Rattle.dv_views.specs.Inner.Older.{told_found};
+ghost use Rattle.dv_views.specs.Inner.Passing.{IsLostAt, IsTakenAt, older_views, told_to};
 ghost use Rattle.dv_views.specs.declared.passing.Left.TheVariants.{NoMemory};
 ghost use Rattle.dv_views.specs.Inner.Seen.{entry_view};
 ghost use Rattle.dv_views.specs.Inner.Turned.{Turns, comes_to, coming_to_lists, coming_under};
@@ -53,7 +53,7 @@ pub(crate) struct Passing<'a> {
 impl<'a> Passing<'a> {
     /// What is told under a name: nothing, where the change doesn't come there.
     fn told(&self, name: &str) -> Option<&'a [Taken]>
-        ensures { option_map (λ all. all.now) result ≡ told_found self.now.namespace.now self.now.all.now self.now.place self.now.views.now.entries name.now }
+        ensures { option_map (λ all. all.now) result ≡ told_to self.now name.now }
     {
         match older(self.views, self.place, name) {
             Some(view) => view.told(),
@@ -64,14 +64,14 @@ impl<'a> Passing<'a> {
 
     /// Whether the change comes to the name.
     fn comes_to(&self, name: &str) -> bool
-        ensures { result ≡ is_some (told_found self.now.namespace.now self.now.all.now self.now.place self.now.views.now.entries name.now) }
+        ensures { result ≡ is_some (told_to self.now name.now) }
     {
         self.told(name).is_some()
     }
 
     /// Whether the change comes to one of these names.
     fn reaches(&self, names: &[Str]) -> bool
-        ensures { result ≡ list_any (λ name. is_some (told_found self.now.namespace.now self.now.all.now self.now.place self.now.views.now.entries name)) names.now }
+        ensures { result ≡ list_any (λ name. is_some (told_to self.now name)) names.now }
     {
         'names: for name in names {
             if self.comes_to(name.as_str()) {
@@ -83,7 +83,7 @@ impl<'a> Passing<'a> {
 
     /// Whether each of these names that is a view's is that of a live one.
     fn are_live(&self, names: &[Str]) -> bool
-        ensures { IsTrue result → AllByRecursion (λ name. IsLiveView (view_under name (views_before self.now.place self.now.views.now.entries))) names.now }
+        ensures { IsTrue result → AllByRecursion (λ name. IsLiveView (view_under name (older_views self.now))) names.now }
     {
         'names: for name in names {
             if !self.is_live(name.as_str()) {
@@ -95,7 +95,7 @@ impl<'a> Passing<'a> {
 
     /// Whether the name, if it is a view's, is that of a live one.
     fn is_live(&self, name: &str) -> bool
-        ensures { IsTrue result → IsLiveView (view_under name.now (views_before self.now.place self.now.views.now.entries)) }
+        ensures { IsTrue result → IsLiveView (view_under name.now (older_views self.now)) }
     {
         match older(self.views, self.place, name) {
             Some(view) => view.live().is_some(),
@@ -114,9 +114,8 @@ impl<'a> Passing<'a> {
     ) -> Result<(ToldRows<StageOperator>, Vec<Taken>), Left>
         requires { IsSoundLive live }
         ensures sound { IfOk result (λ r. IsSoundLive r.0) }
-        ensures turns { let known = told_found self.now.namespace.now self.now.all.now self.now.place self.now.views.now.entries in
-            IfOk result (λ r. Turns (coming_under source.now lookups.now known) (kept_seen live) [] (kept_seen r.0) r.1.items) }
-        ensures live { IfOk result (λ _. AllByRecursion (λ name. IsLiveView (view_under name (views_before self.now.place self.now.views.now.entries))) (source.now ∷ lookups.now)) }
+        ensures turns { IfOk result (λ r. Turns (coming_under source.now lookups.now (told_to self.now)) (kept_seen live) [] (kept_seen r.0) r.1.items) }
+        ensures live { IfOk result (λ _. AllByRecursion (λ name. IsLiveView (view_under name (older_views self.now))) (source.now ∷ lookups.now)) }
     {
         if !self.is_live(source) || !self.are_live(lookups) {
             return Err(Left::StaleBelow);
@@ -137,8 +136,7 @@ impl<'a> Passing<'a> {
     ) -> Result<ToldRows<StageOperator>, NoMemory>
         requires { IsSoundLive live }
         ensures sound { IfOk result (λ after. IsSoundLive after) }
-        ensures turns { let known = told_found self.now.namespace.now self.now.all.now self.now.place self.now.views.now.entries in
-            IfOk result (λ after. Turns (coming_to_lists 0 lookups.now known) (kept_seen live) told.old.items (kept_seen after) told.new.items) }
+        ensures turns { IfOk result (λ after. Turns (coming_to_lists 0 lookups.now (told_to self.now)) (kept_seen live) told.old.items (kept_seen after) told.new.items) }
     {
         let mut live = live;
         'lists: for (place, name) in lookups.iter().enumerate() {

@@ -1,10 +1,9 @@
 //! Which views a change of a namespace comes to.
 
-ghost use Rattle.std.specs.Prelude.{◌≡◌, ◌∷◌, ◌++◌, [], ℕ, List, map, OnOk, IfOk};
+ghost use Rattle.std.specs.Prelude.{◌≡◌, ◌∷◌, ◌++◌, [], ℕ, List, OnOk, IfOk};
 ghost use Rattle.dv_views.specs.Inner.Readers as defined;
 ghost use Rattle.dv_views.specs.Inner.Readers.{AreListed, AreReaders, listing_seen, listing_without, places_under, with_list, without};
-ghost use Rattle.dv_views.specs.Inner.Seen.{entry_view, view_seen};
-ghost use Rattle.dv_views.specs.Inner.Views.{view_form};
+ghost use Rattle.dv_views.specs.Inner.Seen.{form_seen, forms_seen};
 
 use crate::view::View;
 use dv_value::NoMemory;
@@ -45,8 +44,8 @@ impl Readers {
         views: &IndexMap<String, View>,
         view: &View,
     ) -> Result<Readers, NoMemory>
-        requires { AreReaders (map view_form (map entry_view views.now.entries)) (listing_seen self.now.lists.entries) }
-        ensures { (name : List ℕ) → IfOk result (λ readers. AreReaders (map view_form (map entry_view views.now.entries) ++ view_form (view_seen name view.now) ∷ []) (listing_seen readers.lists.entries)) }
+        requires { AreReaders (forms_seen views.now.entries) (listing_seen self.now.lists.entries) }
+        ensures { (name : List ℕ) → IfOk result (λ readers. AreReaders (forms_seen views.now.entries ++ form_seen name view.now ∷ []) (listing_seen readers.lists.entries)) }
     {
         let mut lists = self.lists_with(alloc, views, view)?;
         list_under(alloc, &mut lists, view.source(), views.len())?;
@@ -63,8 +62,8 @@ impl Readers {
         views: &IndexMap<String, View>,
         view: &View,
     ) -> Result<IndexMap<String, Vec<usize>>, NoMemory>
-        requires { AreReaders (map view_form (map entry_view views.now.entries)) (listing_seen self.now.lists.entries) }
-        ensures { (name : List ℕ) → IfOk result (λ lists. AreListed (map view_form (map entry_view views.now.entries)) (view_form (view_seen name view.now)) [] (listing_seen lists.entries)) }
+        requires { AreReaders (forms_seen views.now.entries) (listing_seen self.now.lists.entries) }
+        ensures { (name : List ℕ) → IfOk result (λ lists. AreListed (forms_seen views.now.entries) (form_seen name view.now) [] (listing_seen lists.entries)) }
     {
         let mut lists = IndexMap::new(alloc);
         'lists: for (namespace, places) in &self.lists {

@@ -5,9 +5,9 @@ ghost use Rattle.std.specs.List.{AllByRecursion};
 ghost use Rattle.std.specs.Option.{option_copied, option_map};
 ghost use Rattle.dv_pipe.specs.Sources.{lists_of};
 ghost use Rattle.dv_pipe.specs.Stages.{Lists};
-ghost use Rattle.dv_views.specs.Inner.Copies.{AreCopies, AreKeptRight, CountKeptWork, HaveTakenChange, StayKeptRight, StillHolds, needed_for};
+ghost use Rattle.dv_views.specs.Inner.Copies.{AreCopies, AreKeptRight, CountKeptWork, HaveTakenChange, StayKeptRight};
 ghost use Rattle.dv_views.specs.Forms as forms;
-ghost use Rattle.dv_views.specs.Inner.Made.{IsCreated};
+ghost use Rattle.dv_views.specs.Inner.Made.{IsCreated, StillHolds, needed_for};
 ghost use Rattle.dv_views.specs.Inner.Views.{AreInOrder, AreNamedApart, ArePartlyRefreshed, AreRefreshed, AreRight, IsRefusedFor, has_view, mark_ticks, reads_name, rows_shown, state_of_mark, view_form, view_under, views_without};
 
 use crate::copies::Copies;

@@ -4,12 +4,12 @@ ghost use Rattle.std.specs.Prelude.{◌≡◌, ◌≢◌, ◌||◌, ◌<◌, [],
 ghost use Rattle.std.specs.List.{AllByRecursion, list_any};
 ghost use Rattle.std.specs.Option.{option_copied, option_map};
 ghost use Rattle.dv_pipe.specs.Sources.{lists_of};
-ghost use Rattle.dv_pipe.specs.Stages.{Lists, is_read};
+ghost use Rattle.dv_pipe.specs.Stages.{is_read};
 ghost use Rattle.dv_change.specs.Inner.Told.{changes_told};
 ghost use Rattle.dv_views.specs.Inner.Applied.{CountsWork, StaysRight};
 ghost use Rattle.dv_views.specs.Forms as forms;
 ghost use Rattle.dv_views.specs.Forms.{is_name_among, names_read};
-ghost use Rattle.dv_views.specs.Inner.Made.{AreAlike, IsAdded, IsCreated, IsNoStale, IsRefreshedAt};
+ghost use Rattle.dv_views.specs.Inner.Made.{IsAdded, IsCreated, IsNoStale, IsRefreshedAt, StillHolds, needed_for};
 ghost use Rattle.dv_views.specs.Inner.Seen.{IsSoundRegistry, view_seen};
 ghost use Rattle.dv_views.specs.Inner.Turned.{HaveTaken, known_at};
 ghost use Rattle.dv_views.specs.Inner.Views.{AreInOrder, AreNamedApart, ArePartlyRefreshed, AreRefreshed, AreRight, IsRefusedFor, view_form, has_view, is_stale, reads_name, mark_rows, rows_shown, state_of_mark, mark_ticks, view_under, views_without};
@@ -221,12 +221,12 @@ impl ToldRegistry {
         pipeline: Pipeline,
         sources: &Sources<'_>,
     ) -> Result<(), ViewFault>
-        requires { AllByRecursion (λ n. AreInOrder (lists_of sources.now n)) (forms.needed (map view_form self.old) (names_read pipeline source.now)) }
+        requires { AllByRecursion (λ n. AreInOrder (lists_of sources.now n)) (needed_for self.old pipeline source.now) }
         ensures fault { IsRefusedFor (forms.fault_of_new (map view_form self.old) name.now source.now pipeline) result }
         ensures refused { forms.fault_of_new (map view_form self.old) name.now source.now pipeline ≢ None → self.new ≡ self.old }
         ensures ok { OnOk result (IsCreated name.now source.now pipeline self.old self.new) }
-        ensures err { OnErr result (ArePartlyRefreshed (forms.needed (map view_form self.old) (names_read pipeline source.now)) self.old self.new) }
-        ensures right { (lists : Lists) → AreAlike (forms.needed (map view_form self.old) (names_read pipeline source.now)) (lists_of sources.now) lists → AreRight lists self.old → AreRight lists self.new }
+        ensures err { OnErr result (ArePartlyRefreshed (needed_for self.old pipeline source.now) self.old self.new) }
+        ensures right { StillHolds AreRight (needed_for self.old pipeline source.now) (lists_of sources.now) self.old self.new }
     {
         if let Some(fault) = self.fault_of_new(name, source, &pipeline) {
             return Err(fault);
@@ -252,7 +252,7 @@ impl ToldRegistry {
         requires live { AllByRecursion (λ n. IsNoStale (view_under n self.old)) (names_read pipeline source.now) }
         ensures ok { OnOk result (IsAdded name.now source.now pipeline self.old self.new) }
         ensures err { OnErr result (self.new ≡ self.old) }
-        ensures right { (lists : Lists) → AreAlike (names_read pipeline source.now) (lists_of sources.now) lists → AreRight lists self.old → AreRight lists self.new }
+        ensures right { StillHolds AreRight (names_read pipeline source.now) (lists_of sources.now) self.old self.new }
     {
         laws::kept_rows_are_those_from_scratch();
         dv_pipe::laws::what_is_not_read_does_not_matter();
@@ -322,7 +322,7 @@ impl ToldRegistry {
         requires read { AllByRecursion (λ n. AreInOrder (lists_of sources.now n)) names.now }
         ensures ok { OnOk result (AreRefreshed names.now self.old self.new) }
         ensures err { OnErr result (ArePartlyRefreshed names.now self.old self.new) }
-        ensures right { (lists : Lists) → AreAlike names.now (lists_of sources.now) lists → AreRight lists self.old → AreRight lists self.new }
+        ensures right { StillHolds AreRight names.now (lists_of sources.now) self.old self.new }
     {
         'views: for place in 0..self.views.len() {
             self.refresh_at(place, names, sources)?;
@@ -344,7 +344,7 @@ impl ToldRegistry {
         requires fresh { AllByRecursion (λ v. is_name_among v.name names.now ≡ true → is_stale v.mark ≡ false) (take place self.old) }
         ensures ok { OnOk result (IsRefreshedAt place names.now self.old self.new) }
         ensures err { OnErr result (self.new ≡ self.old) }
-        ensures right { (lists : Lists) → AreAlike names.now (lists_of sources.now) lists → AreRight lists self.old → AreRight lists self.new }
+        ensures right { StillHolds AreRight names.now (lists_of sources.now) self.old self.new }
     {
         laws::kept_rows_are_those_from_scratch();
         dv_pipe::laws::what_is_not_read_does_not_matter();

@@ -7,7 +7,7 @@ use Rattle.dv_views.specs.Forms.{is_name_among}
 use Rattle.dv_views.specs.Views as views
 use Rattle.dv_views.specs.Inner.Views as views_inner
 use Rattle.dv_catalog.specs.Marks.{Mark, Marked, live, stale}
-use Rattle.dv_catalog.specs.State.{Namespaces, State, documents_of, is_collection, is_view, lists_of}
+use Rattle.dv_catalog.specs.State.{Namespaces, State, documents_of, is_collection, is_view, lists_of, rows_of}
 
 abbrev pub state_of : Namespaces → views_inner.Views → State
 state_of namespaces registry = record { namespaces = namespaces; views = map views_inner.view_form registry }
@@ -35,6 +35,14 @@ rows_or (Some rows) others = rows
 -- the rows that a view of a name keeps, or else the documents under it
 abbrev pub rows_kept : List ℕ → Namespaces → views_inner.Views → List (List Field)
 rows_kept name namespaces registry = rows_or (views_inner.rows_shown name registry) (documents_of name namespaces)
+
+-- the rows that the view of a name shows, if it shows any, are those that stand under the name
+abbrev pub ShowsItsRows : List ℕ → Namespaces → views_inner.Views → Type 0
+ShowsItsRows name namespaces registry = (rows : List (List Field)) → views_inner.rows_shown name registry ≡ Some rows → rows ≡ rows_of name (state_of namespaces registry)
+
+-- the rows that are kept under a name are those that stand under it
+abbrev pub KeepsItsRows : List ℕ → Namespaces → views_inner.Views → Type 0
+KeepsItsRows name namespaces registry = rows_kept name namespaces registry ≡ rows_of name (state_of namespaces registry)
 
 -- the same of each name
 abbrev pub lists_kept : Namespaces → views_inner.Views → Lists

@@ -6,11 +6,12 @@ use Rattle.dv_change.specs.declared.taking.Taken as taking
 use Rattle.dv_change.specs.Inner.Told.{changes_told}
 use Rattle.dv_coll.specs.Collection.{found}
 use Rattle.dv_order.specs.Key.{KeyTree}
-use Rattle.dv_views.specs.Inner.Changed.{AreToldOf}
+use Rattle.dv_views.specs.Changed.{documents_changed}
+use Rattle.dv_views.specs.Inner.Changed.{AreMade, AreToldOf}
 use Rattle.dv_views.specs.Inner.Views as views
 use Rattle.dv_views.specs.Placed.{own_position, positioned}
 use Rattle.dv_catalog.specs.declared.effect.Updated.{Updated}
-use Rattle.dv_catalog.specs.Changes.{Change}
+use Rattle.dv_catalog.specs.Changes.{Change, with_changes}
 use Rattle.dv_catalog.specs.Inner.EffectView.{after_of}
 use Rattle.dv_catalog.specs.State.{Collection}
 use Rattle.dv_catalog.specs.Told.{told}
@@ -19,6 +20,10 @@ use Rattle.dv_catalog.specs.Told.{told}
 pub record AreToldSo (documents : List (List Field)) (changes : List Change) (all : List taking.Taken) : Type 0 where
   pub changes_are : changes_told all ≡ map told changes
   pub olds : AreToldOf (positioned documents) all
+
+-- changes, as they are told to views, are those that a collection makes
+abbrev pub AreToldAsMade : List (List Field) → List Change → Type 0
+AreToldAsMade documents changes = AreMade (map told changes) documents × (documents_changed (map told changes) documents ≡ with_changes documents changes)
 
 -- so are those of a namespace; or nothing is told, where no view reads it
 abbrev pub AreTold : List ℕ → views.Views → List (List Field) → List Change → List taking.Taken → Type 0

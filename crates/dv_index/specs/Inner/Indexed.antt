@@ -8,7 +8,7 @@ use Rattle.dv_value.specs.Inner.TreeCode.{coded_tree}
 use Rattle.dv_keyed.specs.Index.{IndexForm}
 use Rattle.dv_keyed.specs.Inner.Index.{coded_form}
 use Rattle.dv_index.specs.Indexed.{IndexedTree}
-use Rattle.dv_index.specs.Unique.{are_broken}
+use Rattle.dv_index.specs.Unique.{are_broken, clashes}
 
 -- with other documents, and the same indexes
 abbrev pub with_documents : List (List Field) → IndexedTree → IndexedTree
@@ -29,6 +29,10 @@ index_on name path unique = record { name = name; path = path; unique = unique }
 -- no unique index is broken
 abbrev pub AreUnbroken : List IndexForm → List (List Field) → Type 0
 AreUnbroken indexes documents = are_broken indexes documents ≡ false
+
+-- documents to which one was added, or in which it was put in place of another, break no more indexes than before, unless it clashed
+abbrev pub BreaksNone : List IndexForm → List Field → List (List Field) → List (List Field) → Type 0
+BreaksNone indexes d before after = AreUnbroken indexes before → clashes indexes d before ≡ false → AreUnbroken indexes after
 
 -- one to one as a ghost value
 abbrev pub coded_indexed : Coded IndexedTree

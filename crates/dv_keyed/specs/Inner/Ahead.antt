@@ -9,7 +9,7 @@ use Rattle.dv_path.specs.SortKey.{stands_first}
 use Rattle.dv_path.specs.declared.direction.Direction.{Direction}
 use Rattle.dv_keyed.specs.declared.before.Bar.{Bar}
 use Rattle.dv_keyed.specs.Inner.Keys.{refers_to}
-use Rattle.dv_keyed.specs.Inner.Pairs.{IsOnlyKey, Pair, has_pair}
+use Rattle.dv_keyed.specs.Inner.Pairs.{IsOnlyKey, LeadFrom, Pair, has_pair}
 
 -- whether an `_id`'s key is less than an end, where there is one
 abbrev pub is_until : KeyTree → Option (Bor KeyTree) → Bool
@@ -32,7 +32,7 @@ null_key = value (canon null)
 -- the references lead to each `_id` that has a leaf sorted ahead of the bar, if the leaf's key passes a test
 abbrev pub HaveAllAhead : Direction → Bar → (KeyTree → Bool) → List Pair → List (Bor KeyTree) → Type 0
 HaveAllAhead direction bar test ps ids =
-    (k i : KeyTree) → stands_ahead direction bar k i ≡ true → test (leaf_sorted_by k) ≡ true → has_pair (leaf_sorted_by k) i ps ≡ true → refers_to ids i ≡ true
+    (k i : KeyTree) → stands_ahead direction bar k i ≡ true → test (leaf_sorted_by k) ≡ true → LeadFrom (leaf_sorted_by k) i ps ids
 
 -- the same of those whose only key passes the test, and of all that have several keys
 abbrev pub HaveTriedAhead : Direction → Bar → (KeyTree → Bool) → List Pair → List (Bor KeyTree) → Type 0

@@ -1,5 +1,5 @@
 -- Filters that are one condition, or a range with two ends, and `_id`s that have a key in bounds.
-use Rattle.std.specs.Prelude.{◌≡◌, ◌&&◌, ℕ, Bool, true, false, List, Some, slice_get}
+use Rattle.std.specs.Prelude.{◌≡◌, ◌↔◌, ◌&&◌, ℕ, Bool, true, false, List, Some, slice_get}
 use Rattle.std.specs.Ordering.{is_eq}
 use Rattle.dv_match.specs.Filter.{Condition, Member, at_path, Members, more_members, no_members, Conditions, more_conditions, no_conditions}
 use Rattle.dv_match.specs.Match.{matches}
@@ -32,9 +32,13 @@ is_one_condition ms = false
 abbrev pub HasKeyWithin : Condition → KeyTree → List Pair → Type 0
 HasKeyWithin c id ps = (k : KeyTree) × (covers c k ≡ true) × (has_pair k id ps ≡ true)
 
+-- exactly those keys stand between two ends that are in the bounds of both conditions
+abbrev pub HasKeysOfBoth : Interval → Condition → Condition → Type 0
+HasKeysOfBoth ends c e = (k : KeyTree) → is_between ends k ≡ (covers c k && covers e k)
+
 -- two ranges have exactly those keys in common that stand between two ends
 abbrev pub IsInBoth : Interval → Condition → Condition → Type 0
-IsInBoth ends c e = (is_bound c ≡ true) × (is_bound e ≡ true) × ((k : KeyTree) → is_between ends k ≡ (covers c k && covers e k))
+IsInBoth ends c e = (is_bound c ≡ true) × (is_bound e ≡ true) × HasKeysOfBoth ends c e
 
 -- conditions, a member of a filter or a filter under a path that are such ranges
 abbrev pub AreClosed : Interval → Conditions → Type 0
@@ -52,6 +56,10 @@ IsClosed ends path ms = ⊥
 -- all keys of a document under a path are equal
 abbrev pub HasOneKey : List (List ℕ) → List Field → Type 0
 HasOneKey path d = (k l : KeyTree) → is_leaf_key k path d ≡ true → is_leaf_key l path d ≡ true → is_eq (key_order k l) ≡ true
+
+-- a document matches exactly if one of its keys under the path stands between two ends
+abbrev pub MatchesBetween : Interval → List (List ℕ) → Members → List Field → Type 0
+MatchesBetween ends path filter d = (matches filter d ≡ true) ↔ ((k : KeyTree) × (is_between ends k ≡ true) × (is_leaf_key k path d ≡ true))
 
 -- an `_id` has a key between two ends
 abbrev pub HasKeyBetween : Interval → KeyTree → List Pair → Type 0

@@ -53,9 +53,13 @@ AddsPairs test id old new = (k i : KeyTree) → has_pair k i new ≡ (has_pair k
 abbrev pub AreSameBut : (KeyTree → Bool) → KeyTree → List Pair → List Pair → Type 0
 AreSameBut test id old new = (k i : KeyTree) → (has_pair k i new && not (test k && is_eq (key_order i id))) ≡ (has_pair k i old && not (test k && is_eq (key_order i id)))
 
+-- the references lead to an `_id` if it has a key
+abbrev pub LeadFrom : KeyTree → KeyTree → List Pair → List (Bor KeyTree) → Type 0
+LeadFrom k id ps ids = has_pair k id ps ≡ true → refers_to ids id ≡ true
+
 -- the references lead to each `_id` that has a key that passes
 abbrev pub HaveAll : (KeyTree → Bool) → List Pair → List (Bor KeyTree) → Type 0
-HaveAll test ps ids = (k i : KeyTree) → test k ≡ true → has_pair k i ps ≡ true → refers_to ids i ≡ true
+HaveAll test ps ids = (k i : KeyTree) → test k ≡ true → LeadFrom k i ps ids
 
 -- the same, but that an `_id` may be left out whose only key doesn't pass another test
 abbrev pub HaveTried : (KeyTree → Bool) → (KeyTree → Bool) → List Pair → List (Bor KeyTree) → Type 0

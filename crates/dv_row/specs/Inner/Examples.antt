@@ -1,5 +1,5 @@
 -- Worked examples of stages of one row, as they are written.
-use Rattle.std.specs.Prelude.{List, Result, Ok, codes}
+use Rattle.std.specs.Prelude.{List, [], ◌∷◌, Result, Ok, codes}
 use Rattle.dv_value.specs.Tree.{Field, Tree}
 use Rattle.dv_row.specs.declared.fault.PipelineFault.{PipelineFault}
 use Rattle.dv_value.specs.Results.{◌>>=◌}
@@ -21,3 +21,7 @@ named_a v = (codes "a", v)
 
 abbrev pub named_b : Tree → Field
 named_b v = (codes "b", v)
+
+-- a row of three such fields
+abbrev pub row_of : Tree → Tree → Tree → Row
+row_of id a b = named_id id ∷ named_a a ∷ named_b b ∷ []

@@ -7,7 +7,7 @@ use Rattle.dv_value.specs.Names.{has_name}
 use Rattle.dv_value.specs.Tree.{Tree, document, array, Field, fields_of}
 use Rattle.dv_row.specs.declared.project.Project.TheVariants.{Exclude, Include}
 use Rattle.dv_row.specs.Expressions.{Expression, nothing, value_of}
-use Rattle.dv_row.specs.Projecting.{projected}
+use Rattle.dv_row.specs.Projecting.{paths_behind, projected}
 use Rattle.dv_row.specs.Row.{Row}
 
 abbrev pub Paths : Type 0
@@ -24,6 +24,10 @@ excluded paths row = projected (Exclude paths) row
 -- a document under a name
 abbrev pub document_under : List ℕ → Row → Field
 document_under name d = (name, document (fields_of d))
+
+-- a document under a name is shown as a row by itself is, by what is left of the paths behind the name
+abbrev pub IsShownInside : (Paths → Row → Row) → Paths → List ℕ → Row → Type 0
+IsShownInside show paths name d = show paths (document_under name d ∷ []) ≡ document_under name (show (paths_behind name paths) d) ∷ []
 
 -- whether a path is a name alone
 abbrev pub is_alone : List ℕ → List (List ℕ) → Bool
@@ -100,6 +104,11 @@ bare_level l = record { front = []; name = l.name; back = [] }
 
 abbrev pub bare_levels : List Level → List Level
 bare_levels levels = map bare_level levels
+
+-- where a path leads through levels to a name and on, the document inside them is shown as a row by itself is, by the rest of the
+-- path; around it stand these levels
+abbrev pub IsShownWithin : (Paths → Row → Row) → List Level → List Level → List ℕ → List (List ℕ) → Row → Type 0
+IsShownWithin show levels left name rest d = show (way_to levels name rest ∷ []) (within levels d) ≡ within left (show ((name ∷ rest) ∷ []) d)
 
 -- at each level no other field has the document's name
 abbrev pub AreNamesApart : List Level → Type 0

@@ -1,10 +1,19 @@
 -- The rows of an $unwind by what they are made of.
-use Rattle.std.specs.Prelude.{List, [], ◌∷◌, map, Some, None}
+use Rattle.std.specs.Prelude.{ℕ, true, false, List, [], ◌∷◌, map, Some, None}
 use Rattle.dv_value.specs.View.{tree}
 use Rattle.dv_row.specs.Inner.Crossings.{set_on_way}
 use Rattle.dv_row.specs.declared.unwound_rows.Origin.{Origin}
 use Rattle.dv_row.specs.declared.unwound_rows.Origin.TheVariants.{Nothing, Itself, Emptied, Elements}
+use Rattle.dv_row.specs.Parsing.{unwinding}
 use Rattle.dv_row.specs.Row.{Row}
+use Rattle.dv_row.specs.Unwinding.{unwound}
+
+-- the rows that an $unwind of a path returns for a row: without such as have no element, and with them
+abbrev pub dropping : List (List ℕ) → Row → List Row
+dropping path row = unwound (unwinding path false) row
+
+abbrev pub preserving : List (List ℕ) → Row → List Row
+preserving path row = unwound (unwinding path true) row
 
 abbrev pub rows_of_origin : Origin → List Row
 rows_of_origin Nothing = []

@@ -13,13 +13,10 @@ use Rattle.dv_change.specs.Inner.Told.{with_old}
 use Rattle.dv_change.specs.Positions.{PosTree}
 use Rattle.dv_pipe.specs.Sources.{Row}
 use Rattle.dv_pipe.specs.Stages.{Lists}
-use Rattle.dv_pipe.specs.declared.stage.Stage.{Stage}
 use Rattle.dv_views.specs.Changed.{with_changed}
 use Rattle.dv_views.specs.Flow.{shares}
-use Rattle.dv_views.specs.Forms.{names_read, needed}
 use Rattle.dv_views.specs.Inner.Changed.{AreMade}
 use Rattle.dv_views.specs.Inner.Counted.{AreCounted}
-use Rattle.dv_views.specs.Inner.Made.{AreAlike}
 use Rattle.dv_views.specs.Placed.{positioned}
 use Rattle.dv_views.specs.Inner.Turned.{HaveLost, HaveTaken, known_at}
 use Rattle.dv_views.specs.Inner.Views.{AreOverLive, AreRight, Views, no_distance, reads_name, view_form}
@@ -73,15 +70,7 @@ pub record AreKeptRight (lists : Lists) (kept : KeptViews) : Type 0 where
   pub copies : AreCopies lists kept.copies
   pub read : AreCopiesRead kept.views kept.copies
 
--- ---- names that are asked for, and changes of a namespace
-
--- the names that are needed for a pipeline over a source
-abbrev pub needed_for : Views → List Stage → List ℕ → List (List ℕ)
-needed_for views stages source = needed (map view_form views) (names_read stages source)
-
--- this still holds over whatever lists it held that are the same under some names as the sources
-abbrev pub StillHolds : {V : Type 0} → (Lists → V → Type 0) → List (List ℕ) → Lists → V → V → Type 0
-StillHolds Holds names sources before after = (lists : Lists) → AreAlike names sources lists → Holds lists before → Holds lists after
+-- ---- changes of a namespace
 
 -- over whatever lists they were right, they are right over these with the changes
 abbrev pub StayKeptRight : List ℕ → List Change → KeptViews → KeptViews → Type 0

@@ -4,13 +4,23 @@ use Rattle.std.specs.List.{AllByRecursion}
 use Rattle.dv_change.specs.Changes.{Positioned}
 use Rattle.dv_change.specs.Inner.Changes.{IsPositioned}
 use Rattle.dv_pipe.specs.declared.stage.Stage.{Stage}
-use Rattle.dv_pipe.specs.Sources.{Row}
+use Rattle.dv_pipe.specs.Sources.{Row, lists_of}
 use Rattle.dv_pipe.specs.Stages.{Lists}
 use Rattle.dv_views.specs.Forms.{names_read}
 use Rattle.dv_views.specs.Placed.{ListPlaces, positioned}
 use Rattle.dv_views.specs.Inner.Holding.{HasMade}
+use Rattle.dv_views.specs.Inner.Older.{views_before}
 use Rattle.dv_views.specs.Views.{ViewMark, View, live, stale, taken_from}
 use Rattle.dv_views.specs.Inner.Views.{Views, view_under}
+use Rattle.dv_views.specs.declared.making.Ground.{Ground}
+
+-- the views that are older than the one that is made
+abbrev pub views_below : Ground → Views
+views_below ground = views_before ground.place ground.views.now.entries
+
+-- what collections hold
+abbrev pub lists_below : Ground → Lists
+lists_below ground = lists_of ground.sources.now
 
 abbrev pub outs_of_mark : ViewMark → Positioned
 outs_of_mark (live kept) = kept.rows

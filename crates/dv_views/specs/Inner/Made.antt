@@ -1,14 +1,29 @@
 -- Views that come, and lists over which they are made.
 use Rattle.std.specs.Prelude.{◌≡◌, ℕ, zero, suc, true, false, List, [], ◌∷◌, ◌++◌, map, Option, Some, None, ⊤}
+use Rattle.dv_change.specs.Changes.{forget}
 use Rattle.dv_pipe.specs.declared.stage.Stage.{Stage}
-use Rattle.dv_pipe.specs.Stages.{Lists}
-use Rattle.dv_views.specs.Forms.{is_name_among, names_read, needed}
+use Rattle.dv_pipe.specs.Stages.{Lists, evaluated}
+use Rattle.dv_views.specs.Forms.{is_name_among, names_read, needed, outs_of}
+use Rattle.dv_views.specs.Placed.{ListPlaces}
 use Rattle.dv_views.specs.Views.{View}
 use Rattle.dv_views.specs.Inner.Views.{AreRefreshed, IsJustMade, IsPartlyRefreshed, Views, view_form, is_stale}
 
 -- lists that hold the same under some names
 abbrev pub AreAlike : List (List ℕ) → Lists → Lists → Type 0
 AreAlike names lists others = (name : List ℕ) → is_name_among name names ≡ true → lists name ≡ others name
+
+-- what stages make at positions are, without these, the rows of the pipeline from scratch, if each name that they read has the same rows
+-- with positions and without them
+abbrev pub AreFromScratch : List Stage → List ℕ → ListPlaces → Lists → Type 0
+AreFromScratch stages source places lists = AreAlike (names_read stages source) (λ name. forget (places name)) lists → forget (outs_of stages source places) ≡ evaluated stages source lists
+
+-- the names that are needed for a pipeline over a source
+abbrev pub needed_for : Views → List Stage → List ℕ → List (List ℕ)
+needed_for views stages source = needed (map view_form views) (names_read stages source)
+
+-- this still holds over whatever lists it held that are the same under some names as the sources
+abbrev pub StillHolds : {V : Type 0} → (Lists → V → Type 0) → List (List ℕ) → Lists → V → V → Type 0
+StillHolds Holds names sources before after = (lists : Lists) → AreAlike names sources lists → Holds lists before → Holds lists after
 
 -- a view more, which was just made
 pub record IsAdded (name source : List ℕ) (stages : List Stage) (before after : Views) : Type 0 where
@@ -20,7 +35,7 @@ pub record IsAdded (name source : List ℕ) (stages : List Stage) (before after 
 -- behind the stale ones that it needs were made anew
 pub record IsCreated (name source : List ℕ) (stages : List Stage) (before after : Views) : Type 0 where
   pub refreshed : Views
-  pub read : AreRefreshed (needed (map view_form before) (names_read stages source)) before refreshed
+  pub read : AreRefreshed (needed_for before stages source) before refreshed
   pub added : IsAdded name source stages refreshed after
 
 -- no view, or one that isn't stale

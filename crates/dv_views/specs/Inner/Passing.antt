@@ -4,10 +4,19 @@ use Rattle.std.specs.Map.{values_of}
 use Rattle.indexmap.specs.IndexMap.{set_value_at}
 use Rattle.dv_change.specs.declared.taking.Taken as taking
 use Rattle.dv_views.specs.Inner.Body.{Body}
-use Rattle.dv_views.specs.Inner.Older.{Entries, told_before, views_before}
+use Rattle.dv_views.specs.Inner.Older.{Entries, told_before, told_found, views_before}
 use Rattle.dv_views.specs.Inner.Seen.{view_seen}
-use Rattle.dv_views.specs.Inner.Turned.{IsTakenBy}
-use Rattle.dv_views.specs.Inner.Views.{distances_of}
+use Rattle.dv_views.specs.Inner.Turned.{IsTakenBy, Known}
+use Rattle.dv_views.specs.Inner.Views.{Views, distances_of}
+use Rattle.dv_views.specs.declared.passing.Passing.{Passing}
+
+-- the views that are older than the one to which a change comes
+abbrev pub older_views : Passing → Views
+older_views p = views_before p.place p.views.now.entries
+
+-- what is told under each name to the view to which a change comes
+abbrev pub told_to : Passing → Known
+told_to p = told_found p.namespace.now p.all.now p.place p.views.now.entries
 
 pub record IsTakenAt {Y : Type 0} (namespace : List ℕ) (all : List taking.Taken) (place : ℕ) (before after : Entries Y) : Type 0 where
   pub old : Body

@@ -6,7 +6,7 @@ use Rattle.std.specs.String.{string_bytes}
 use Rattle.dv_views.specs.Inner.Body.{Body}
 use Rattle.dv_views.specs.Inner.Readers.{AreReaders, Listing}
 use Rattle.dv_views.specs.Inner.Turned.{Telling}
-use Rattle.dv_views.specs.Forms.{AreFounded, heights}
+use Rattle.dv_views.specs.Forms.{AreFounded, ViewForm, heights}
 use Rattle.dv_views.specs.Views.{View}
 use Rattle.dv_views.specs.Inner.Views.{AreNamedApart, AreOverLive, Views, view_form, no_distance}
 
@@ -16,6 +16,13 @@ view_seen name b = record { name = name; source = b.source; stages = b.stages; m
 
 abbrev pub entry_view : {Y : Type 0} → String Y × Body → View
 entry_view e = view_seen (string_bytes e.0) e.1
+
+-- an entry but for what it keeps, and all entries so
+abbrev pub form_seen : List ℕ → Body → ViewForm
+form_seen name b = view_form (view_seen name b)
+
+abbrev pub forms_seen : {Y : Type 0} → List (String Y × Body) → List ViewForm
+forms_seen es = map view_form (map entry_view es)
 
 abbrev pub telling : {Y : Type 0} → String Y × Body → Telling
 telling e = record { view = entry_view e; told = e.1.told }
@@ -37,6 +44,6 @@ AreSilent es = AllByRecursion (λ e. e.1.told ≡ None) es
 -- entries of such views, each with its height, none of which tells of a change; and the lists of their readers
 pub record AreSoundEntries {Y : Type 0} (es : List (String Y × Body)) (listing : Listing) : Type 0 where
   pub views : IsSoundRegistry (map entry_view es)
-  pub heights : HaveHeights (heights (map view_form (map entry_view es))) es
+  pub heights : HaveHeights (heights (forms_seen es)) es
   pub silent : AreSilent es
-  pub readers : AreReaders (map view_form (map entry_view es)) listing
+  pub readers : AreReaders (forms_seen es) listing

@@ -96,6 +96,10 @@ reads v namespace = is_read v.stages v.source namespace
 abbrev pub reads_name : Views → List ℕ → Bool
 reads_name views namespace = list_any (λ v. reads v namespace) views
 
+-- the lists are the same wherever a view reads
+abbrev pub AreSameWhereRead : Views → Lists → Lists → Type 0
+AreSameWhereRead views lists others = (name : List ℕ) → reads_name views name ≡ true → lists name ≡ others name
+
 -- how far a view is from being live: a stale one is 1
 abbrev pub distance : ViewMark → ℕ
 distance (live kept) = 0

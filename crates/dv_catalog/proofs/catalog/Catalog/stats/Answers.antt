@@ -15,4 +15,4 @@ returns c =
     let collections = c.self.inside.collections in
     let vs = c.self.inside.views in
     rw (← c.self.view_is, c.is_live.ensures)
-    (stats_are name collections vs (λ rows shown. c.law_shown.ensures.shown collections name rows c.self.invariant.right shown) (view_under name vs) refl c.in_ok-state.state c.in_ok-rows.rows c.in_ok-ticks.ticks c.in_ok-state.ensures c.in_ok-rows.ensures c.in_ok-ticks.ensures)
+    (stats_are name collections vs (c.law_shown.ensures.shown collections name c.self.invariant.right) (view_under name vs) refl c.in_ok-state.state c.in_ok-rows.rows c.in_ok-ticks.ticks c.in_ok-state.ensures c.in_ok-rows.ensures c.in_ok-ticks.ensures)

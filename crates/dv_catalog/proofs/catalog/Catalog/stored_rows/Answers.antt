@@ -9,4 +9,4 @@ returns c =
     let collections = c.self.inside.collections in
     let vs = c.self.inside.views in
     rw (← c.self.view_is)
-    (c.rows.ensures ∙ stored_are name collections vs (λ rows shown. c.law_shown.ensures.shown collections name rows c.self.invariant.right shown) (view_under name vs) refl)
+    (c.rows.ensures ∙ stored_are name collections vs (c.law_shown.ensures.shown collections name c.self.invariant.right) (view_under name vs) refl)

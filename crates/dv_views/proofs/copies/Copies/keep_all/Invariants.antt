@@ -2,7 +2,8 @@
 use Rattle.std.proofs.Common.{drop}
 use Rattle.std.specs.List.{AllByRecursion}
 use Rattle.dv_pipe.specs.Sources.{lists_of}
-use Rattle.dv_views.specs.Inner.Copies.{AreCopies, StillHolds}
+use Rattle.dv_views.specs.Inner.Copies.{AreCopies}
+use Rattle.dv_views.specs.Inner.Made.{StillHolds}
 use Rattle.dv_views.specs.Inner.Views.{AreInOrder}
 use Rattle.dv_views.proofs.copies.Copies.keep_all.Given as goal
 

@@ -1,5 +1,6 @@
 use Rattle.std.proofs.Common.{subst, sym}
-use Rattle.dv_views.specs.Inner.Copies.{AreCopies, KeptViews, needed_for}
+use Rattle.dv_views.specs.Inner.Copies.{AreCopies, KeptViews}
+use Rattle.dv_views.specs.Inner.Made.{needed_for}
 use Rattle.dv_views.specs.Inner.Views.{AreRight}
 use Rattle.dv_views.proofs.Kept.{left_right}
 use Rattle.dv_views.proofs.Refreshing.{none_refreshed}

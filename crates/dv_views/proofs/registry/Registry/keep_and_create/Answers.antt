@@ -1,5 +1,6 @@
 use Rattle.std.proofs.Common.{subst, sym}
-use Rattle.dv_views.specs.Inner.Copies.{KeptViews, needed_for}
+use Rattle.dv_views.specs.Inner.Copies.{KeptViews}
+use Rattle.dv_views.specs.Inner.Made.{needed_for}
 use Rattle.dv_views.specs.Inner.Views.{ArePartlyRefreshed}
 use Rattle.dv_views.proofs.Kept.{where_wanting}
 use Rattle.dv_views.proofs.Refreshing.{none_refreshed}
