@@ -9,13 +9,14 @@ use Rattle.dv_value.specs.Inner.Spelled.{length-counted, length-framed, length-t
 use Rattle.dv_value.specs.Spelling.{type_byte, kind_of, framed, counted, element_spelling, payload, fields_spelling, elements_spelling, IsValue, levels, fields_levels, elements_levels}
 use Rattle.dv_bson.specs.Reading.{Inside, Frame, kind_at, name_at, text_at, frame_at, value_at, fields_at, body_at}
 use Rattle.dv_value.specs.Results.{◌>>=◌}
+use Rattle.dv_value.specs.Inner.TreeLaws.{fields_back, elements_back}
 use Rattle.dv_bson.proofs.Steps.{bind_at}
 use Rattle.dv_bson.proofs.Numbers.{wide32, wide64, first_again, signed_again}
 use Rattle.dv_bson.proofs.Binaries.{binary_again}
 use Rattle.dv_bson.proofs.Names.{kind_again}
 use Rattle.dv_bson.proofs.Frames.{text_again, frame_again, framed_value}
 use Rattle.dv_bson.specs.Inner.Parts.{numbered}
-use Rattle.dv_bson.proofs.Fields.{name_again, AreRead, AreRead-fields, AreRead-elements, values, values-numbered, elements_spelling-from_read, elements_levels-values, fields_of-list_of_fields, elements_of-list_of_elements}
+use Rattle.dv_bson.proofs.Fields.{name_again, AreRead, AreRead-fields, AreRead-elements, values, values-numbered, elements_spelling-from_read, elements_levels-values}
 
 -- elements of fewer than k levels are read again
 abbrev pub Complete : ℕ → Inside → Type 0
@@ -55,8 +56,8 @@ module _ (k : ℕ) (inside : Inside) (complete : Complete k inside) (at : ℕ) (
   unfolding value_at payload fields_spelling elements_spelling
   value_again (string s) = λ valid deep short.
       bind_at (text_at (counted s ++ rest)) (λ text. Ok (string text.0, text.1)) (s, rest) (Ok (string s, rest)) (text_again s rest valid (omega (arith, length-counted s))) refl
-  value_again (document fs) = subst (λ (gs : Fields). IsAgain (document gs)) (fields_of-list_of_fields fs) (fields_of_again (list_of_fields fs))
-  value_again (array vs) = subst (λ (ws : Elements). IsAgain (array ws)) (elements_of-list_of_elements vs) (elements_of_again (list_of_elements vs))
+  value_again (document fs) = subst (λ (gs : Fields). IsAgain (document gs)) (fields_back fs) (fields_of_again (list_of_fields fs))
+  value_again (array vs) = subst (λ (ws : Elements). IsAgain (array ws)) (elements_back vs) (elements_of_again (list_of_elements vs))
   value_again (binary subtype bytes) = λ valid deep short. binary_again subtype bytes rest (omega (arith, length-tagged subtype bytes))
   value_again (object_id id) = λ valid deep short. first_again 12 object_id id rest valid.0
   value_again (boolean false) = λ valid deep short. refl

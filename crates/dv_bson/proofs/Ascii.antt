@@ -9,7 +9,7 @@ use Rattle.std.proofs.lemmas.List.Sums.{position_or_len_is}
 use Rattle.std.proofs.lemmas.List.Quantifiers.{position-Some}
 use Rattle.std.proofs.lemmas.Str.{IsUtf8-from_ascii, is_utf8-from_IsUtf8}
 use Rattle.dv_bson.specs.Inner.Parts.{any_name_at}
-use Rattle.dv_bson.proofs.Fronts.{cut_some}
+use Rattle.dv_bson.specs.Inner.CutLaws.{cut_some}
 
 abbrev pub is_end : ℕ → Bool
 is_end b = b == 0 || nat_lt 127 b

@@ -6,8 +6,9 @@ use Rattle.std.proofs.lemmas.List.{take_at, drop_at, take-append-drop, length-ap
 use Rattle.dv_value.specs.declared.fault.BsonFault.TheVariants.{BadLength}
 use Rattle.dv_value.specs.Tree.{Tree, binary}
 use Rattle.dv_value.specs.Spelling.{IsBytes, tagged}
+use Rattle.dv_value.specs.Inner.ByteLaws.{IsBytes-drop, IsBytes-take}
 use Rattle.dv_bson.specs.Reading.{tagged_at, binary_at}
-use Rattle.dv_bson.proofs.Steps.{IsBytes-take, IsBytes-drop, IsBytes-rest, Takes, refused_not, ok_is}
+use Rattle.dv_bson.proofs.Steps.{IsBytes-rest, Takes, refused_not, ok_is}
 use Rattle.dv_bson.proofs.Numbers.{wide32}
 
 pub record TakesBinary (bytes : List ℕ) (x : Tree × List ℕ) : Type 0 where

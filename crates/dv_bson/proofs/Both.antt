@@ -9,7 +9,8 @@ use Rattle.dv_value.specs.Inner.Spelled.{length-framed}
 use Rattle.dv_value.specs.Spelling.{framed, payload, fields_spelling, elements_spelling, fields_levels, spelling, IsBytes, Spells, Fits}
 use Rattle.dv_bson.specs.Reading.{count_at, Frame, frame_of, body_at, outermost_of, document_at, fault_of, first_fault}
 use Rattle.dv_value.specs.Results.{◌>>=◌}
-use Rattle.dv_bson.proofs.Steps.{bind_ok, bind_at, refused_not, given, ok_is, IsBytes-take, IsBytes-drop, Takes}
+use Rattle.dv_value.specs.Inner.ByteLaws.{IsBytes-drop, IsBytes-take}
+use Rattle.dv_bson.proofs.Steps.{bind_ok, bind_at, refused_not, given, ok_is, Takes}
 use Rattle.dv_bson.proofs.Frames.{framed_count, frame_of_again, frame_of_takes}
 use Rattle.dv_bson.proofs.Fields.{AreFields-from_read, AreRead-fields}
 use Rattle.dv_bson.proofs.Taken.{TakesInside, body_sound}

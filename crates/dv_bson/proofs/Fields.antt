@@ -8,9 +8,10 @@ use Rattle.std.proofs.lemmas.List.{length_push, take_all}
 use Rattle.std.proofs.lemmas.Slice.Eq.{bytes_eq-Decides}
 use Rattle.std.proofs.lemmas.Str.{IsUtf8-from_is_utf8, is_utf8-from_IsUtf8, IsUtf8-from_ascii}
 use Rattle.dv_value.specs.declared.fault.BsonFault.TheVariants.{BadLength, BadUtf8, BadArrayName, RepeatedName}
-use Rattle.dv_value.specs.Tree.{Tree, Fields, no_fields, field, Elements, no_elements, element, Field, fields_of, list_of_fields, elements_of, list_of_elements}
+use Rattle.dv_value.specs.Tree.{Tree, Field, fields_of, elements_of}
 use Rattle.dv_value.specs.Names.{has_name, has_zero}
 use Rattle.dv_value.specs.Spelling.{kind_of, element_spelling, payload, fields_spelling, elements_spelling, IsValue, AreFields, AreElements, levels, fields_levels, elements_levels}
+use Rattle.dv_value.specs.Inner.TreeLaws.{fields_again}
 use Rattle.dv_bson.specs.Reading.{cut_at_zero, checked_name, named_by, name_at}
 use Rattle.dv_bson.specs.Inner.Parts.{numbered}
 use Rattle.dv_bson.proofs.Steps.{passed, refused_not, given, ok_is}
@@ -127,18 +128,6 @@ Apart-none : (fs : List Field) → Apart [] fs
 Apart-none [] = tt
 Apart-none (f ∷ fs) = (refl, Apart-none fs)
 
-pub list_of_fields-fields_of : (fs : List Field) → list_of_fields (fields_of fs) ≡ fs
-list_of_fields-fields_of [] = refl
-list_of_fields-fields_of (f ∷ fs) = ap (λ (gs : List Field). f ∷ gs) (list_of_fields-fields_of fs)
-
-pub fields_of-list_of_fields : (fs : Fields) → fields_of (list_of_fields fs) ≡ fs
-fields_of-list_of_fields no_fields = refl
-fields_of-list_of_fields (field name value fs) = ap (field name value) (fields_of-list_of_fields fs)
-
-pub elements_of-list_of_elements : (vs : Elements) → elements_of (list_of_elements vs) ≡ vs
-elements_of-list_of_elements no_elements = refl
-elements_of-list_of_elements (element v vs) = ap (element v) (elements_of-list_of_elements vs)
-
 -- ---- the fields of a document
 
 AreRead-Apart : (seen fs : List Field) → AreRead false seen fs → Apart seen fs
@@ -149,12 +138,12 @@ pub AreFields-from_read : (seen fs : List Field) → AreRead false seen fs → A
 AreFields-from_read seen [] h = tt
 AreFields-from_read seen (f ∷ fs) h =
     let fresh = (Apart-last seen f fs (AreRead-Apart (seen ++ f ∷ []) fs h.2)).1 in
-    (h.0.0, h.0.1, ap (has_name f.0) (list_of_fields-fields_of fs) ∙ fresh, h.1, AreFields-from_read (seen ++ f ∷ []) fs h.2)
+    (h.0.0, h.0.1, ap (has_name f.0) (fields_again fs) ∙ fresh, h.1, AreFields-from_read (seen ++ f ∷ []) fs h.2)
 
 AreRead-from_apart : (seen fs : List Field) → AreFields (fields_of fs) → Apart seen fs → AreRead false seen fs
 AreRead-from_apart seen [] h apart = tt
 AreRead-from_apart seen (f ∷ fs) h apart =
-    let fresh : has_name f.0 fs ≡ false = ap (has_name f.0) (sym (list_of_fields-fields_of fs)) ∙ h.2 in
+    let fresh : has_name f.0 fs ≡ false = ap (has_name f.0) (sym (fields_again fs)) ∙ h.2 in
     ((h.0, h.1, apart.0), h.3, AreRead-from_apart (seen ++ f ∷ []) fs h.4 (Apart-push seen f fs apart.1 fresh))
 
 pub AreRead-fields : (fs : List Field) → AreFields (fields_of fs) → AreRead false [] fs

@@ -11,7 +11,8 @@ use Rattle.dv_value.specs.Tree.{Tree, Field}
 use Rattle.dv_value.specs.Spelling.{IsBytes, framed, counted}
 use Rattle.dv_bson.specs.Reading.{Inside, count_at, counted_at, text_at, Frame, frame_of, framed_at, frame_at}
 use Rattle.dv_value.specs.Results.{◌>>=◌}
-use Rattle.dv_bson.proofs.Steps.{IsBytes-take, IsBytes-drop, Takes, refused_not, passed, given, ok_is, parted_at_zero}
+use Rattle.dv_value.specs.Inner.ByteLaws.{IsBytes-drop, IsBytes-take}
+use Rattle.dv_bson.proofs.Steps.{Takes, refused_not, passed, given, ok_is, parted_at_zero}
 use Rattle.dv_bson.proofs.Numbers.{count_takes, count_again, wide32}
 
 -- a count in front of a text, and a zero behind it

@@ -17,7 +17,6 @@ pub mod Elements
 pub mod Alike
 pub mod Loop
 pub mod Turns
-pub mod Items
 pub mod Payloads
 pub mod Rest
 pub mod Written

@@ -10,8 +10,9 @@ use Rattle.std.proofs.lemmas.Nat.{le_bytes_4, le_bytes_8, from_le_bytes-to_le_by
 use Rattle.dv_value.specs.declared.fault.BsonFault.TheVariants.{BadLength}
 use Rattle.dv_value.specs.Tree.{Tree}
 use Rattle.dv_value.specs.Spelling.{IsBytes}
+use Rattle.dv_value.specs.Inner.ByteLaws.{IsBytes-drop, IsBytes-take}
 use Rattle.dv_bson.specs.Reading.{count_at, first_bytes, signed_at}
-use Rattle.dv_bson.proofs.Steps.{IsBytes-take, IsBytes-drop, Takes, refused_not, ok_is}
+use Rattle.dv_bson.proofs.Steps.{Takes, refused_not, ok_is}
 
 -- numbers of this width and their bytes
 pub record IsWide (w : Width) : Type 0 where

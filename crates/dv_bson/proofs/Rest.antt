@@ -4,7 +4,7 @@ use Rattle.std.specs.List.{slice_get}
 use Rattle.dv_value.specs.Tree.{Tree, Field, fields_of, elements_of}
 use Rattle.dv_value.specs.Inner.Spelled.{fields_spelling-field, elements_spelling-element, length-element_spelling}
 use Rattle.dv_value.specs.Spelling.{kind_of, element_spelling, payload, fields_spelling, elements_spelling}
-use Rattle.dv_bson.proofs.Items.{drop_item}
+use Rattle.dv_value.specs.Inner.ListLaws.{drop_item}
 
 pub fields_spelling-drop : (fs : List Field) (place : ℕ) (f : Field) → slice_get fs place ≡ Some f
     → fields_spelling (fields_of (drop place fs)) ≡ element_spelling (kind_of f.1) f.0 (payload f.1) ++ fields_spelling (fields_of (drop (place + 1) fs))

@@ -1,3 +1,4 @@
 -- Definitions and lemmas that need not be believed: invariants, codings, and words of bodies and proofs.
 pub mod Parts
 pub mod Writing
+pub mod CutLaws

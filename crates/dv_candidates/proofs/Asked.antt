@@ -1,5 +1,5 @@
 -- What a fold says that stops where a test passes, and lists of candidates built one by one.
-use Rattle.std.proofs.Common.{◌≡◌, Bool, true, false, List, [], ◌∷◌, ◌++◌, map, Option, Some, None, slice_get, Result, Ok, Err, ℕ, zero, suc, ◌+◌, ◌<◌, ◌≤◌, length, take, drop, drop_of_length-le, get_or, refl, ap, sym, ◌∙◌, arith, add-one, append_assoc, append-nil}
+use Rattle.std.proofs.Common.{◌≡◌, Bool, true, false, List, [], ◌∷◌, ◌++◌, map, Some, None, slice_get, Result, Ok, Err, ℕ, zero, suc, ◌+◌, ◌<◌, ◌≤◌, length, take, drop, drop_of_length-le, get_or, refl, ap, sym, ◌∙◌, arith, add-one, append_assoc, append-nil}
 use Rattle.std.specs.Result.{is_err}
 use Rattle.std.specs.List.{list_any, flat_map, FoldsTo}
 use Rattle.std.proofs.lemmas.Bool.{or_left, or_right}
@@ -9,6 +9,7 @@ use Rattle.dv_value.specs.Names.{value_under}
 use Rattle.dv_value.specs.declared.value.Value.{Value}
 use Rattle.dv_value.specs.Tree.{Tree, document, array, Field, fields_of, elements_of}
 use Rattle.dv_value.specs.View.{tree}
+use Rattle.dv_value.specs.Inner.TreeLaws.{fields_again, elements_again}
 use Rattle.dv_candidates.specs.Candidates.{Candidate, entered, picked, step_from, candidates, whole, with_elements}
 use Rattle.dv_candidates.specs.Path.{index_of}
 use Rattle.dv_candidates.specs.View.{seen}
@@ -18,7 +19,6 @@ use denote.Ref.{Bor}
 use Rattle.std.proofs.Math.Seq.{drop-cons}
 use Rattle.dv_candidates.specs.Inner.Fold.{Takes, Folded, PassesOne}
 use Rattle.dv_candidates.proofs.Folds.{any-right}
-use Rattle.dv_candidates.proofs.Walks.{list_of_fields_of, list_of_elements_of}
 
 not_true : (b : Bool) → (b ≡ true → ⊥) → b ≡ false
 not_true true h = absurd (h refl)
@@ -56,7 +56,7 @@ pub grown : {X : Type 0} (now before start far added : List X) → now ≡ befor
 grown now before start far added p q = p ∙ ap (λ l. l ++ added) q ∙ append_assoc start far added
 
 pub entered-document : (name : List ℕ) (v : Value) (d : List Field) → v ≡ Value.Doc d → entered name (tree v) ≡ value_under name d ∷ []
-entered-document name v d e = ap (λ w. entered name (tree w)) e ∙ ap (λ fs. value_under name fs ∷ []) (list_of_fields_of d)
+entered-document name v d e = ap (λ w. entered name (tree w)) e ∙ ap (λ fs. value_under name fs ∷ []) (fields_again d)
 
 pub entered-other : (name : List ℕ) (v : Value) → ((d : _) → v ≡ Value.Doc d → ⊥) → entered name (tree v) ≡ []
 entered-other name (Value.Doc d) none = absurd (none d refl)
@@ -78,13 +78,13 @@ module _ (c : memory.Candidate) (value : Bor Value) (at : c ≡ Found value) whe
   seen-at v e = ap seen at ∙ ap Some e
 
   pub elements-at : (l : List Tree) → value.now ≡ Value.Array l → with_elements (seen c) ≡ Some (array (elements_of l)) ∷ map Some l
-  elements-at l e = ap with_elements (seen-at (array (elements_of l)) (ap tree e)) ∙ ap (λ vs. Some (array (elements_of l)) ∷ map Some vs) (list_of_elements_of l)
+  elements-at l e = ap with_elements (seen-at (array (elements_of l)) (ap tree e)) ∙ ap (λ vs. Some (array (elements_of l)) ∷ map Some vs) (elements_again l)
 
   pub step-document : (name : List ℕ) (d : List Field) → value.now ≡ Value.Doc d → step_from name (seen c) ≡ value_under name d ∷ []
-  step-document name d e = ap (step_from name) (seen-at (document (fields_of d)) (ap tree e)) ∙ ap (λ fs. value_under name fs ∷ []) (list_of_fields_of d)
+  step-document name d e = ap (step_from name) (seen-at (document (fields_of d)) (ap tree e)) ∙ ap (λ fs. value_under name fs ∷ []) (fields_again d)
 
   pub step-array : (name : List ℕ) (l : List Tree) → value.now ≡ Value.Array l → step_from name (seen c) ≡ picked (index_of name) l ++ flat_map (entered name) l
-  step-array name l e = ap (step_from name) (seen-at (array (elements_of l)) (ap tree e)) ∙ ap (λ vs. picked (index_of name) vs ++ flat_map (entered name) vs) (list_of_elements_of l)
+  step-array name l e = ap (step_from name) (seen-at (array (elements_of l)) (ap tree e)) ∙ ap (λ vs. picked (index_of name) vs ++ flat_map (entered name) vs) (elements_again l)
 
 flat_flat : {X Y Z : Type 0} (f : Y → List Z) (g : X → List Y) (xs : List X) → flat_map (λ x. flat_map f (g x)) xs ≡ flat_map f (flat_map g xs)
 flat_flat f g [] = refl
@@ -94,15 +94,11 @@ flat_one : {X : Type 0} (xs : List X) → flat_map (λ x. x ∷ []) xs ≡ xs
 flat_one [] = refl
 flat_one (x ∷ xs) = ap (λ ys. x ∷ ys) (flat_one xs)
 
-pub positive : {X : Type 0} (xs : List X) → (xs ≡ [] → ⊥) → 0 < length xs
-positive [] some = absurd (some refl)
-positive (x ∷ xs) some = omega arith
-
 -- the candidates of a path, component by component
 pub whole-first : (names : List (List ℕ)) (fs : List Field) (name : List ℕ) → 0 < length names → name ≡ get_or names 0 name → flat_map (candidates (drop 1 names)) (value_under name fs ∷ []) ≡ whole fs names
 unfolding whole
 whole-first [] fs name some is = absurd (omega arith)
-whole-first (n ∷ names) fs name some is = ap (λ m. flat_map (candidates names) (value_under m fs ∷ [])) is ∙ ap (λ gs. flat_map (candidates names) (value_under n gs ∷ [])) (sym (list_of_fields_of fs))
+whole-first (n ∷ names) fs name some is = ap (λ m. flat_map (candidates names) (value_under m fs ∷ [])) is ∙ ap (λ gs. flat_map (candidates names) (value_under n gs ∷ [])) (sym (fields_again fs))
 
 pub candidates-more : (names : List (List ℕ)) (i : ℕ) (name : List ℕ) (cs : List Candidate) → i < length names → name ≡ get_or names i name → flat_map (candidates (drop (i + 1) names)) (flat_map (step_from name) cs) ≡ flat_map (candidates (drop i names)) cs
 candidates-more names i name cs within is =

@@ -3,9 +3,9 @@ use Rattle.std.proofs.Common.{◌≡◌, ◌∙◌, ℕ, suc, ◌+◌, ◌<◌, 
 use Rattle.std.proofs.Math.Seq.{drop-cons}
 use Rattle.dv_value.specs.Names.{value_under}
 use Rattle.dv_value.specs.Tree.{document, Field, fields_of}
+use Rattle.dv_value.specs.Inner.TreeLaws.{fields_again}
 use Rattle.dv_candidates.specs.Candidates.{Candidate}
 use Rattle.dv_candidates.specs.Ways.{HasNoArray}
-use Rattle.dv_candidates.proofs.Walks.{list_of_fields_of}
 
 -- behind a value that is missing nothing stands
 pub nothing-stands : (names : List (List ℕ)) → HasNoArray names None
@@ -13,7 +13,7 @@ nothing-stands [] = tt
 nothing-stands (name ∷ names) = tt
 
 pub clear-entered : (names : List (List ℕ)) (name : List ℕ) (fs : List Field) → HasNoArray (name ∷ names) (Some (document (fields_of fs))) → HasNoArray names (value_under name fs)
-clear-entered names name fs clear = subst (λ gs. HasNoArray names (value_under name gs)) (list_of_fields_of fs) clear
+clear-entered names name fs clear = subst (λ gs. HasNoArray names (value_under name gs)) (fields_again fs) clear
 
 pub clear-first : (names : List (List ℕ)) (name : List ℕ) (fs : List Field) → 0 < length names → name ≡ get_or names 0 name → HasNoArray names (Some (document (fields_of fs))) → HasNoArray (drop 1 names) (value_under name fs)
 clear-first [] name fs some is clear = absurd (omega arith)

@@ -1,7 +1,6 @@
 -- Items that a loop or a call reads, as what is seen of them.
-use Rattle.std.proofs.Common.{◌≡◌, ℕ, zero, suc, ◌+◌, ◌≤◌, ◌<◌, List, [], ◌∷◌, length, map, drop, add-one, get_or, Option, Some, None, slice_get, refl, sym, ap, arith, Bool, true, false, if◌then◌else◌}
+use Rattle.std.proofs.Common.{◌≡◌, ℕ, zero, suc, ◌≤◌, ◌<◌, List, [], ◌∷◌, length, map, get_or, Option, Some, refl, sym, ap, arith, Bool, true, false, if◌then◌else◌}
 use Rattle.std.specs.Str.{bytes_eq}
-use Rattle.std.proofs.lemmas.Option.{slice_get_read, slice_get-map}
 use Rattle.dv_value.specs.declared.value.Value.{Value}
 use Rattle.dv_value.specs.Tree.{Tree, document, Field, fields_of, elements_of}
 use Rattle.dv_value.specs.Inner.Tree.{weight, fields_weight, elements_weight}
@@ -15,12 +14,6 @@ pub get_or_any : {X : Type 0} (xs : List X) (place : ℕ) (x d : X) → place < 
 get_or_any [] place x d within is = absurd (omega arith)
 get_or_any (y ∷ ys) zero x d within is = is
 get_or_any (y ∷ ys) (suc place) x d within is = get_or_any ys place x d (omega arith) is
-
--- the item at a place, as what is seen of it
-pub slice_get_seen : {X Y : Type 0} (view : X → Y) (xs : List X) (ys : List Y) (place : ℕ) (x : X) → map view xs ≡ ys → place < length xs → x ≡ get_or xs place x → slice_get ys place ≡ Some (view x)
-slice_get_seen view xs ys place x seen within is =
-    let here : slice_get xs place ≡ Some x = slice_get_read xs (length xs) place x refl within is in
-    rw (← seen, slice_get-map view xs place, here) refl
 
 pub value_weighs_less_in : (values : List Value) (vs : List Tree) (place : ℕ) (value : Value) → map tree values ≡ vs → place < length values → value ≡ get_or values place value → weight (tree value) ≤ elements_weight (elements_of vs)
 value_weighs_less_in = weights.value_weighs_less

@@ -8,13 +8,14 @@ use denote.Ref.{Bor}
 use Rattle.dv_value.specs.Tree.{Tree, document, array, Field, fields_of, elements_of}
 use Rattle.dv_value.specs.Names.{value_under}
 use Rattle.dv_value.specs.View.{tree}
+use Rattle.dv_value.specs.Inner.TreeLaws.{fields_again}
 use Rattle.dv_candidates.specs.declared.onward.Stand.{Stand}
 use Rattle.dv_candidates.specs.declared.places.Places.{Places}
 use Rattle.dv_candidates.specs.Candidates.{Candidate}
 use Rattle.dv_candidates.specs.Inner.Onward.{StandsFor}
 use Rattle.dv_candidates.specs.Inner.Places.{has, HaveName, IsDocument, IsWithin, IsBefore, Reaches, ReachesElement}
 use Rattle.dv_candidates.proofs.Reach.{name_at, hits, hits-document}
-use Rattle.dv_candidates.proofs.Walks.{drop_behind, list_of_fields_of, one_less, one_more}
+use Rattle.dv_candidates.proofs.Walks.{drop_behind, one_less, one_more}
 use Rattle.dv_candidates.proofs.WalkedArrays.{element-whole, whole-below, below-none, below-more}
 
 -- going on from where a walk stands
@@ -42,7 +43,7 @@ module _ {names : List (List ℕ)} {s : Places} (before : IsBefore names s) wher
     one_on : (p : Candidate → Bool) (place : ℕ) → has s place ≡ true → hits p (drop place names) (Some (document (fields_of fs))) ≡ hits p (drop place (drop 1 names)) (Some v)
     one_on p place h =
         hits-document p names place (fields_of fs) (before.before place h)
-        ∙ ap (λ gs. hits p (drop (suc place) names) (value_under (name_at names place) gs)) (list_of_fields_of fs)
+        ∙ ap (λ gs. hits p (drop (suc place) names) (value_under (name_at names place) gs)) (fields_again fs)
         ∙ ap (λ n. hits p (drop (suc place) names) (value_under n fs)) (one.named place h)
         ∙ ap (hits p (drop (suc place) names)) value
         ∙ ap (λ ns. hits p ns (Some v)) (sym (drop_behind names place))

@@ -3,13 +3,14 @@ use Rattle.std.proofs.Common.{◌≡◌, ℕ, zero, suc, ◌+◌, ◌<◌, ◌�
 use Rattle.std.proofs.lemmas.Bool.{or_cases, or_left, or_right}
 use Rattle.std.proofs.lemmas.Option.{slice_get_within}
 use Rattle.dv_value.specs.Tree.{Tree, array, elements_of}
+use Rattle.dv_value.specs.Inner.TreeLaws.{elements_again}
 use Rattle.dv_candidates.specs.declared.places.Places.{Places}
 use Rattle.dv_candidates.specs.Path.{index_of}
 use Rattle.dv_candidates.specs.Candidates.{Candidate}
 use Rattle.dv_candidates.specs.Inner.Places.{has, picks, follows, IsWithin, IsBefore, IsDocument, Reaches, ReachesElement}
 use Rattle.dv_candidates.proofs.Bits.{none}
 use Rattle.dv_candidates.proofs.Reach.{name_at, hits, hits-array-to, hits-array-from}
-use Rattle.dv_candidates.proofs.Walks.{IsPart, drop_behind, list_of_elements_of, one_more, part-before, part-has, part-in, part-test, picks-from, picks-to}
+use Rattle.dv_candidates.proofs.Walks.{IsPart, drop_behind, one_more, part-before, part-has, part-in, part-test, picks-from, picks-to}
 
 -- ---- arrays
 module _ (names : List (List ℕ)) (s : Places) (vs : List Tree) where
@@ -26,7 +27,7 @@ module _ {names : List (List ℕ)} {s : Places} (vs : List Tree) (before : IsBef
   element-whole index v there p r = record {
     place = r.place;
     inside = r.inside;
-    passes = hits-array-from p names r.place (elements_of vs) index v (before.before r.place r.inside) (ap (λ ws. slice_get ws index) (list_of_elements_of vs) ∙ there) r.way;
+    passes = hits-array-from p names r.place (elements_of vs) index v (before.before r.place r.inside) (ap (λ ws. slice_get ws index) (elements_again vs) ∙ there) r.way;
   }
 
   pub below-whole : {end : ℕ} (p : Candidate → Bool) → ReachesBelow names s vs end p → Reaches names s (Some (array (elements_of vs))) p
@@ -35,7 +36,7 @@ module _ {names : List (List ℕ)} {s : Places} (vs : List Tree) (before : IsBef
   pub whole-below : {end : ℕ} → length vs ≤ end → (p : Candidate → Bool) → Reaches names s (Some (array (elements_of vs))) p → ReachesBelow names s vs end p
   whole-below over p r =
       let it = hits-array-to p names r.place (elements_of vs) (before.before r.place r.inside) r.passes in
-      let there : slice_get vs it.0 ≡ Some it.1 = ap (λ ws. slice_get ws it.0) (sym (list_of_elements_of vs)) ∙ it.2 in
+      let there : slice_get vs it.0 ≡ Some it.1 = ap (λ ws. slice_get ws it.0) (sym (elements_again vs)) ∙ it.2 in
       record {
         index = it.0;
         below = let bound = slice_get_within vs it.0 it.1 there in omega arith;

@@ -8,23 +8,16 @@ use Rattle.std.proofs.lemmas.Nat.Bits.{bit_at-suc, bit_at-zero}
 use Rattle.std.proofs.lemmas.Bool.{or_cases, or_left, and_parts}
 use Rattle.std.proofs.lemmas.Slice.Eq.{bytes_eq-Decides}
 use Rattle.dv_value.specs.declared.value.Value.{Value}
-use Rattle.dv_value.specs.Tree.{Tree, document, Field, fields_of, list_of_fields, elements_of, list_of_elements}
+use Rattle.dv_value.specs.Tree.{Tree, document, Field, fields_of}
 use Rattle.dv_value.specs.Names.{value_under}
 use Rattle.dv_value.specs.View.{tree}
+use Rattle.dv_value.specs.Inner.TreeLaws.{fields_again}
 use Rattle.dv_candidates.specs.declared.places.Places.{Places}
 use Rattle.dv_candidates.specs.Candidates.{Candidate, step_from, whole}
 use Rattle.dv_candidates.specs.Inner.Fold.{PassesOne}
 use Rattle.dv_candidates.specs.Inner.Places.{has, passes_at, picks, IsWithin, IsBefore, Reaches}
 use Rattle.dv_candidates.proofs.Bits.{none}
 use Rattle.dv_candidates.proofs.Reach.{name_at, passes_at-within, passes_at-before, hits, missing-hits, hits-document, hits-plain}
-
-pub list_of_fields_of : (fs : List Field) → list_of_fields (fields_of fs) ≡ fs
-list_of_fields_of [] = refl
-list_of_fields_of (f ∷ fs) = ap (λ gs. f ∷ gs) (list_of_fields_of fs)
-
-pub list_of_elements_of : (vs : List Tree) → list_of_elements (elements_of vs) ≡ vs
-list_of_elements_of [] = refl
-list_of_elements_of (v ∷ vs) = ap (λ ws. v ∷ ws) (list_of_elements_of vs)
 
 pub picks-to : (k : ℕ) (o : Option ℕ) → picks k o ≡ true → o ≡ Some k
 picks-to k None h = absurd cc
@@ -181,7 +174,7 @@ module _ (names : List (List ℕ)) (s : Places) (fs : List Field) where
 
 module _ {names : List (List ℕ)} {s : Places} (fs : List Field) (before : IsBefore names s) where
   entered : (p : Candidate → Bool) (place : ℕ) → has s place ≡ true → hits p (drop place names) (Some (document (fields_of fs))) ≡ hits p (drop (suc place) names) (value_at names s fs place)
-  entered p place h = hits-document p names place (fields_of fs) (before.before place h) ∙ ap (λ gs. hits p (drop (suc place) names) (value_under (name_at names place) gs)) (list_of_fields_of fs)
+  entered p place h = hits-document p names place (fields_of fs) (before.before place h) ∙ ap (λ gs. hits p (drop (suc place) names) (value_under (name_at names place) gs)) (fields_again fs)
 
   pub there-whole : {passed : ℕ} {done : Places} (p : Candidate → Bool) → ReachesThere names s fs passed done p → Whole names s fs p
   there-whole p r = record {

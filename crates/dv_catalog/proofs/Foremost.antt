@@ -13,7 +13,7 @@ use Rattle.dv_keyed.specs.Inner.Ahead.{is_until}
 use Rattle.dv_keyed.specs.declared.before.Bar.{Bar}
 use Rattle.dv_index.specs.Inner.Ahead.{is_ahead}
 use Rattle.dv_order.specs.Key.{KeyTree, key_order}
-use Rattle.dv_order.specs.Inner.KeyLaws.{key_order_total}
+use Rattle.dv_order.specs.Inner.KeyLaws.{key_order_total, is-less, equal-from}
 use Rattle.dv_path.specs.declared.direction.Direction.{Direction}
 use Rattle.dv_path.specs.declared.direction.Direction.TheVariants.{Ascending, Descending}
 use Rattle.dv_path.specs.declared.sort_spec.SortPart.{SortPart}
@@ -28,10 +28,6 @@ abbrev Rows : Type 0
 Rows = List (List Field)
 
 -- ---- what stands before a bar stands before all that doesn't
-is-less : (o : Ordering) → is_lt o ≡ true → o ≡ Less
-is-less Less e = refl
-is-less Equal e = absurd cc
-is-less Greater e = absurd cc
 
 turned-back : (k l : KeyTree) → key_order k l ≡ Greater → key_order l k ≡ Less
 turned-back k l e = key_order_total.antisymm l k ∙ ap ordering_reverse e
@@ -97,11 +93,6 @@ where-until : (P : Type 0) (i : KeyTree) (until : Option (Bor KeyTree)) → is_u
 where-until P i None e h = absurd cc
 where-until P i (Some end) e h = h
 
-is-equal : (o : Ordering) → is_eq o ≡ true → o ≡ Equal
-is-equal Less e = absurd cc
-is-equal Equal e = refl
-is-equal Greater e = absurd cc
-
 both-true : (a b : Bool) → a && b ≡ true → (a ≡ true) × (b ≡ true)
 both-true true b e = (refl, e)
 both-true false b e = absurd cc
@@ -134,7 +125,7 @@ module _ (p : Part) (parts : List Part) (bar : Bar) (tied : IfSome bar.until (λ
   is-tied : (d : List Field) → ahead d ≡ true → is-first (key d) bar.key.now ≡ false → IsTied d
   is-tied d h behind =
       let parted = both-true (is_eq (key_order (key d) bar.key.now)) (is_until (id_key d) bar.until) (ap (λ b. b || (is_eq (key_order (key d) bar.key.now) && is_until (id_key d) bar.until)) (sym behind) ∙ h) in
-      (is-equal (key_order (key d) bar.key.now) parted.0, parted.1)
+      (equal-from (key_order (key d) bar.key.now) parted.0, parted.1)
 
   abbrev IsBehind : List Field → Type 0
   IsBehind e = (is-first (key e) bar.key.now ≡ false) × (is_eq (key_order (key e) bar.key.now) && is_until (id_key e) bar.until ≡ false)

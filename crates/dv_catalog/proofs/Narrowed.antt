@@ -2,71 +2,42 @@
 use Rattle.std.proofs.Common.{◌≡◌, ◌∙◌, ◌&&◌, ◌||◌, not, ℕ, zero, suc, Bool, true, false, cond, List, [], ◌∷◌, ◌++◌, map, filter, reverse, Option, None, Some, codes, slice_get, refl, ap, sym, append-nil}
 use Rattle.std.proofs.lemmas.List.{reverse-append}
 use Rattle.std.proofs.lemmas.List.Elements.{filter-append}
-use Rattle.std.proofs.lemmas.Slice.Eq.{bytes_eq-Decides}
-use Rattle.std.specs.List.{AllByRecursion, flat_map, list_any}
+use Rattle.std.proofs.Math.Bool.{or-false}
+use Rattle.std.specs.List.{AllByRecursion}
 use Rattle.std.specs.BTreeMap.Range.{range_contains}
 use Rattle.std.specs.Ordering.{is_eq, is_le, is_lt, ordering_reverse}
 use Rattle.std.specs.declared.cmp.Ordering.{Ordering}
 use Rattle.std.specs.declared.cmp.Ordering.TheVariants.{Less, Equal, Greater}
 use Rattle.std.specs.declared.ops.Bound.TheVariants.{Included}
-use Rattle.dv_value.specs.Names.{value_under}
 use Rattle.dv_value.specs.View.{tree}
 use Rattle.dv_value.specs.declared.value.Value.{Value}
-use Rattle.dv_value.specs.Tree.{Tree, Field, array, fields_of, list_of_fields}
+use Rattle.dv_value.specs.Tree.{Tree, Field}
 use Rattle.dv_order.specs.Key.{KeyTree, key_order, value}
 use Rattle.dv_order.specs.Inner.KeyLaws.{key_order_total}
 use Rattle.dv_order.specs.Order.{canon}
-use Rattle.dv_candidates.specs.Candidates.{Candidate, candidates, leaves, or_null, whole, with_elements}
+use Rattle.dv_candidates.specs.Candidates.{or_null}
 use Rattle.dv_path.specs.LeafKeys.{is_key_of, is_leaf_key, is_some_key, leaf_values}
 use Rattle.dv_path.specs.declared.direction.Direction.{Direction}
 use Rattle.dv_path.specs.declared.direction.Direction.TheVariants.{Ascending, Descending}
 use Rattle.dv_match.specs.Filter.{Condition, Members, among, equal}
 use Rattle.dv_match.specs.Match.{matches}
-use Rattle.dv_coll.specs.Collection.{HasId, IsNoArray, id_key}
+use Rattle.dv_coll.specs.Collection.{HasId, id_key}
 use Rattle.dv_keyed.specs.Choice.{chosen}
 use Rattle.dv_keyed.specs.Index.{IndexForm, id_form}
 use Rattle.dv_keyed.specs.Inner.Index.{IndexTree, form_of}
 use Rattle.dv_keyed.specs.Inner.Interval.{is_in_all}
 use Rattle.dv_keyed.specs.Inner.Keys.{has_key}
-use Rattle.dv_keyed.specs.Within.{has_within, is_within}
+use Rattle.dv_keyed.specs.Within.{has_within}
 use Rattle.dv_keyed.specs.Inner.Within.{covers}
+use Rattle.dv_keyed.specs.Inner.ListLaws.{paths-of-forms}
 use Rattle.dv_index.specs.Inner.InDirection.{in_direction}
+use Rattle.dv_index.specs.Inner.IdLaws.{MatchesAreWithin, OnlyKeysAreWithin, KeysAreWithin, leaves-id, id-covered}
 use Rattle.dv_catalog.specs.Inner.Equalities.{equals_in}
 
 abbrev Rows : Type 0
 Rows = List (List Field)
 
--- ---- what dv_keyed's laws say
-
-abbrev pub MatchesAreWithin : Type 0
-MatchesAreWithin = (form : Members) (paths : List (List (List ℕ))) (place : ℕ) (bounds : Condition) → chosen form paths ≡ Some (place, bounds) → (path : List (List ℕ)) × (slice_get paths place ≡ Some path) × ((d : List Field) → matches form d ≡ true → has_within bounds path d ≡ true)
-
-abbrev pub OnlyKeysAreWithin : Type 0
-OnlyKeysAreWithin = (form : Members) (path : List (List ℕ)) (d : List Field) (v : Tree) → ((l : KeyTree) → is_leaf_key l path d ≡ true → is_eq (key_order l (value (canon v))) ≡ true) → matches form d ≡ true → is_in_all (value (canon v)) path form ≡ true
-
-abbrev pub KeysAreWithin : Type 0
-KeysAreWithin = (bounds : Condition) (c : Candidate) → covers bounds (value (canon (or_null c))) ≡ is_within bounds c
-
 -- ---- the path `_id` leads to one value
-
-or-false : (a : Bool) → a || false ≡ a
-or-false true = refl
-or-false false = refl
-
-no-elements : (v : Tree) → IsNoArray v → flat_map with_elements (Some v ∷ []) ≡ Some v ∷ []
-no-elements (array vs) h = absurd h
-no-elements v h = refl
-
-leaves-id : (f : Field) (fs : List Field) → HasId (f ∷ fs) → leaves (f ∷ fs) (codes "_id" ∷ []) ≡ Some f.1 ∷ []
-unfolding leaves whole
-leaves-id f fs h =
-    ap (λ b. flat_map with_elements (flat_map (candidates []) (cond b (Some f.1) (value_under (codes "_id") (list_of_fields (fields_of fs))) ∷ []))) ((bytes_eq-Decides (codes "_id") f.0).1 (sym h.0)) ∙ no-elements f.1 h.1
-
--- its key is in the bounds of a plan, and in each range
-id-covered : KeysAreWithin → (c : Condition) (d : List Field) → HasId d → has_within c (codes "_id" ∷ []) d ≡ true → covers c (id_key d) ≡ true
-unfolding has_within
-id-covered law c [] h e = absurd h
-id-covered law c (f ∷ fs) h e = law c (Some f.1) ∙ sym (ap (list_any (is_within c)) (leaves-id f fs h) ∙ or-false (is_within c (Some f.1))) ∙ e
 
 pub id_in_all : OnlyKeysAreWithin → (form : Members) (d : List Field) → HasId d → matches form d ≡ true → is_in_all (id_key d) (codes "_id" ∷ []) form ≡ true
 unfolding is_leaf_key leaf_values
@@ -79,10 +50,6 @@ id_in_all law form (f ∷ fs) h e =
 only-path : (p q : List (List ℕ)) (n : ℕ) → slice_get (p ∷ []) n ≡ Some q → q ≡ p
 only-path p q zero e = cc
 only-path p q (suc n) e = absurd cc
-
-paths-of-forms : (xs : List IndexTree) → map (λ (x : IndexTree). x.path) xs ≡ map (λ (x : IndexForm). x.path) (map form_of xs)
-paths-of-forms [] = refl
-paths-of-forms (x ∷ xs) = ap (λ ps. x.path ∷ ps) (paths-of-forms xs)
 
 -- a key that the bounds cover is the key of one of the values, where they hold it equal to some
 covered-value : (c : Condition) (vs : List Tree) (k : KeyTree) → equals_in (Some (zero, c)) ≡ Some vs → covers c k ≡ true → is_some_key k vs ≡ true
@@ -105,7 +72,7 @@ equal_asked within keys form xs vs are asked d h e = by (chosen form paths) refl
     by (Some (n, c)) is some =
         let bounds = within form paths n c is in
         let path : bounds.0 ≡ codes "_id" ∷ [] = only-path (codes "_id" ∷ []) bounds.0 n (ap (λ ps. slice_get ps n) (sym one) ∙ bounds.1) in
-        covered-value c vs (id_key d) some (id-covered keys c d h (ap (λ p. has_within c p d) (sym path) ∙ bounds.2 d e))
+        covered-value c vs (id_key d) some (sym (id-covered keys c d h) ∙ ap (λ p. has_within c p d) (sym path) ∙ bounds.2 d e)
 
 -- to be among the keys of values is to be the key of one of them
 pub among_values : (k : KeyTree) (vs : List Value) → has_key k (map (λ v. value (canon (tree v))) vs) ≡ is_some_key k (map tree vs)

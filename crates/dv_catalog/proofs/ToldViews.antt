@@ -1,6 +1,5 @@
 -- What views are told of changes stood there.
-use Rattle.std.proofs.Common.{◌≡◌, inl, inr, ℕ, zero, suc, Bool, true, false, List, [], ◌∷◌, map, take, Option, None, Some, is_some, if◌then◌else◌, Result, Ok, Err, refl, sym, ap, subst, ◌∙◌, arith}
-use Rattle.std.specs.Prelude.{IfOk}
+use Rattle.std.proofs.Common.{◌≡◌, inl, inr, ℕ, zero, suc, Bool, true, false, List, [], ◌∷◌, map, take, Option, None, Some, is_some, if◌then◌else◌, refl, sym, ap, subst, ◌∙◌, arith}
 use Rattle.std.proofs.lemmas.List.{take-map, take_all}
 use Rattle.std.specs.FinMap as finite
 use Rattle.std.specs.List.{AllByRecursion}
@@ -14,10 +13,10 @@ use Rattle.dv_change.specs.declared.taking.Taken as taking
 use Rattle.dv_change.specs.Changes as rows
 use Rattle.dv_change.specs.Changes.{Positioned, at}
 use Rattle.dv_change.specs.Inner.Told.{change_told, changes_told}
-use Rattle.dv_coll.specs.Collection.{AreStanding, HasId, IsAscending, found, id_key, inserted, removed, replaced}
+use Rattle.dv_coll.specs.Collection.{AreStanding, HasId, found, id_key, inserted, removed, replaced}
 use Rattle.dv_order.specs.Key.{KeyTree, key_order}
 use Rattle.dv_views.specs.Changed.{documents_changed}
-use Rattle.dv_views.specs.Inner.Changed.{AreToldOf, IsMade, gone_each, gones_of}
+use Rattle.dv_views.specs.Inner.Changed.{AreToldOf, IsMade, gones_of}
 use Rattle.dv_views.specs.Inner.Views.{Views}
 use Rattle.dv_views.specs.Placed.{own_position, positioned}
 use Rattle.dv_catalog.specs.declared.effect.Updated.{Updated}
@@ -52,10 +51,6 @@ pub record OldLaws : Type 0 where
   pub keeps : KeepsOrder
   pub others : Others
   pub without : FoundWithout
-
-pub ok_then : {T E : Type 0} {P Q : T → Type 0} (r : Result T E) → IfOk r P → ((x : T) → P x → Q x) → IfOk r Q
-ok_then (Ok x) holds more = more x holds
-ok_then (Err e) holds more = tt
 
 module _ (laws : OldLaws) where
   -- documents behind a change stand at their own positions

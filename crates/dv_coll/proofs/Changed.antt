@@ -14,11 +14,11 @@ use Rattle.dv_value.specs.View.{tree}
 use Rattle.dv_value.specs.declared.field_change.FieldChange.{FieldChange}
 use Rattle.dv_value.specs.declared.field_change.FieldChange.TheVariants.{Set, Push}
 use Rattle.dv_order.specs.Key.{KeyTree, key_order, key_at, first_value}
-use Rattle.dv_order.specs.Inner.KeyLaws.{key_order_total}
+use Rattle.dv_order.specs.Inner.KeyLaws.{key_order_total, EqualKeysAreOne}
 use Rattle.dv_coll.specs.Collection.{HasId, id_key, has_key, found, replaced, with_field_changed_in}
 use Rattle.dv_coll.specs.Inner.Keyed.{IsKeyed, changed_under}
 use Rattle.dv_coll.proofs.Places.{Entries, lookup-found}
-use Rattle.dv_coll.proofs.Replaced.{EqualKeysAreOne, IsKeyed-put, first-id, values-set_value}
+use Rattle.dv_coll.proofs.Replaced.{IsKeyed-put, first-id, values-set_value}
 
 -- what is put back unchanged changes nothing
 pub put_same : (k : KeyTree) (es : Entries) (d : List Field) → lookup (is_at (key_order k)) es ≡ Some d → set_value (is_at (key_order k)) es d ≡ es

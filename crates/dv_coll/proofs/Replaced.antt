@@ -10,17 +10,13 @@ use Rattle.std.specs.Ordering.{is_eq}
 use Rattle.std.specs.Bool.{if◌then◌else◌}
 use Rattle.std.specs.Cmp.{Equal-is, alike_right}
 use Rattle.std.specs.declared.cmp.Ordering.TheVariants.{Less, Equal}
-use Rattle.dv_value.specs.Tree.{Tree, Field}
+use Rattle.dv_value.specs.Tree.{Field}
 use Rattle.dv_order.specs.Key.{KeyTree, key_order, key_at, first_value}
-use Rattle.dv_order.specs.Inner.KeyLaws.{key_order_total}
+use Rattle.dv_order.specs.Inner.KeyLaws.{key_order_total, EqualKeysAreOne}
 use Rattle.dv_coll.specs.Collection.{HasId, IsAscending, id_key, has_key, found, replaced}
 use Rattle.dv_coll.specs.Inner.Keyed.{IsKeyed}
 use Rattle.dv_coll.proofs.Places.{Entries, Follow, lookup-found}
 use Rattle.dv_coll.proofs.Removed.{AreApart, apart_behind}
-
--- what dv_order's law says of keys
-abbrev pub EqualKeysAreOne : Type 0
-EqualKeysAreOne = (v w : Option Tree) → key_order (key_at v) (key_at w) ≡ Equal → key_at v ≡ key_at w
 
 -- the key of a document's first value is that of its `_id`
 pub first-id : (d : List Field) → HasId d → key_at (first_value d) ≡ id_key d

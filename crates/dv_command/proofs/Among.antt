@@ -3,21 +3,14 @@ use Rattle.std.proofs.Common.{◌≡◌, true, false, List, [], ◌∷◌, lengt
 use Rattle.std.specs.List.{list_all}
 use Rattle.dv_value.specs.declared.value.Value.{Value}
 use Rattle.dv_value.specs.declared.value.Value.TheVariants.{Doc, Int32, Int64}
-use Rattle.dv_value.specs.Tree.{Tree, Field, elements_of, list_of_elements, fields_of, list_of_fields}
+use Rattle.dv_value.specs.Tree.{elements_of}
 use Rattle.dv_value.specs.View.{tree}
 use Rattle.dv_command.specs.Fields.{each_document, integer_in, check_read}
 use Rattle.dv_value.specs.Results.{◌>>=◌, each}
+use Rattle.dv_value.specs.Inner.TreeLaws.{fields_again}
 use Rattle.dv_refusal.specs.declared.refusal.Refusal.{Refusal}
 use Rattle.dv_refusal.specs.declared.refusal.Refusal.TheVariants.{TypeMismatch}
 use Rattle.dv_command.specs.Inner.DocumentsView.{is_document, is_integer, AreDocuments, documents_seen}
-
-pub same_fields : (fs : List Field) → list_of_fields (fields_of fs) ≡ fs
-same_fields [] = refl
-same_fields (f ∷ fs) = ap (λ (rest : List Field). f ∷ rest) (same_fields fs)
-
-pub same_elements : (vs : List Tree) → list_of_elements (elements_of vs) ≡ vs
-same_elements [] = refl
-same_elements (v ∷ vs) = ap (λ (rest : List Tree). v ∷ rest) (same_elements vs)
 
 pub all_documents : (vs : List Value) → list_all is_document vs ≡ true → AreDocuments vs
 all_documents [] e = tt
@@ -26,7 +19,7 @@ all_documents (v ∷ vs) e = absurd cc
 
 pub documents_all : (vs : List Value) → AreDocuments vs → each_document (elements_of (map tree vs)) ≡ Ok (documents_seen vs)
 documents_all [] h = refl
-documents_all (Doc d ∷ vs) h = rw (documents_all vs h, same_fields d) refl
+documents_all (Doc d ∷ vs) h = rw (documents_all vs h, fields_again d) refl
 documents_all (v ∷ vs) h = absurd h
 
 pub documents_not_all : (vs : List Value) → list_all is_document vs ≡ false → each_document (elements_of (map tree vs)) ≡ Err TypeMismatch

@@ -1,10 +1,11 @@
 -- What stands in fields is no longer than they are, and no list has more values than bytes.
-use Rattle.std.proofs.Common.{◌≡◌, ◌≤◌, ◌+◌, ℕ, suc, Bool, true, false, if◌then◌else◌, List, [], ◌∷◌, ◌++◌, length, decimal, length-append, Option, Some, refl, subst, arith}
+use Rattle.std.proofs.Common.{◌≡◌, ◌≤◌, ◌+◌, ℕ, suc, Bool, true, false, if◌then◌else◌, List, [], ◌∷◌, length, decimal, length-append, Option, Some, refl, subst, arith}
 use Rattle.std.specs.Str.{bytes_eq}
 use Rattle.dv_value.specs.Names.{value_under}
 use Rattle.dv_value.specs.Spelling.{kind_of, framed, element_spelling, payload, elements_spelling, spelling}
 use Rattle.dv_value.specs.Tree.{Tree, array, Elements, no_elements, element, Field, list_of_elements}
 use Rattle.dv_value.specs.declared.kind.Kind.{Kind}
+use Rattle.dv_value.specs.Inner.Spelled.{elements-element}
 
 -- what a field adds to a spelling
 abbrev pub FieldsAdd : Type 0
@@ -22,10 +23,6 @@ under_long adds name (f ∷ fs) v under =
 element_long : (kind : Kind) (name value : List ℕ) → 1 ≤ length (element_spelling kind name value)
 unfolding element_spelling
 element_long kind name value = omega arith
-
-elements-element : (i : ℕ) (v : Tree) (vs : Elements) → elements_spelling i (element v vs) ≡ element_spelling (kind_of v) (decimal i) (payload v) ++ elements_spelling (suc i) vs
-unfolding elements_spelling
-elements-element i v vs = refl
 
 element_more : (i : ℕ) (v : Tree) (vs : Elements) → length (elements_spelling i (element v vs)) ≡ length (element_spelling (kind_of v) (decimal i) (payload v)) + length (elements_spelling (suc i) vs)
 element_more i v vs = rw (elements-element i v vs, length-append) refl

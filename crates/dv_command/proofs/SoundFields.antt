@@ -6,7 +6,7 @@ use Rattle.std.specs.Prelude.{codes, ⊤}
 use Rattle.std.specs.Str.{IsUtf8, bytes_eq}
 use Rattle.dv_value.specs.Names.{value_under}
 use Rattle.dv_value.specs.Spelling.{IsValue, AreFields, AreElements, payload}
-use Rattle.dv_value.specs.Tree.{Tree, int32, int64, string, document, array, Fields, no_fields, field, Elements, no_elements, element, Field, fields_of, list_of_fields, elements_of, list_of_elements}
+use Rattle.dv_value.specs.Tree.{Tree, int32, int64, string, document, array, Fields, Elements, no_elements, element, Field, fields_of, list_of_fields, elements_of, list_of_elements}
 use Rattle.dv_pipe.specs.StageParsing as pipelines
 use Rattle.dv_pipe.specs.declared.stage.Stage.{Stage}
 use Rattle.dv_command.specs.Asked.{Find, find_in, first_batch_size, explained_by, ViewOn, ViewFields, view_fields_in, view_of, check_count, statement_limit}
@@ -19,6 +19,7 @@ use Rattle.dv_command.specs.Kinds as kinds
 use Rattle.dv_command.specs.Namespaces.{database_in, namespace, dotted, is_database_name, is_collection_name, longest_namespace}
 use Rattle.dv_refusal.specs.Refusals.{refused_by, pipeline_refusal}
 use Rattle.dv_value.specs.Results.{◌>>=◌, each}
+use Rattle.dv_value.specs.Inner.TreeLaws.{fields_back, elements_back, under_valid}
 use Rattle.dv_command.specs.Sound.{AreSpellable, IsIndexName, IsSoundPipeline}
 use Rattle.dv_command.specs.Inner.Sound.{AreValidLists, AreIds, AreIndexes, IsNamespace, IsSoundViewAsked}
 use Rattle.dv_command.proofs.Lengths.{array_long}
@@ -43,23 +44,11 @@ parsed refusal (Err fault) x is = absurd cc
 
 -- ---- what is read out of valid fields is valid
 
-one_valid : (f : Field) (b : Bool) (others : Option Tree) (v : Tree) → IsValue f.1 → (others ≡ Some v → IsValue v) → (if b then Some f.1 else others) ≡ Some v → IsValue v
-one_valid f true others v valid rest is = let same : f.1 ≡ v = cc in subst IsValue same valid
-one_valid f false others v valid rest is = rest is
-
-pub under_valid : (name : List ℕ) (fs : List Field) (v : Tree) → AreFields (fields_of fs) → value_under name fs ≡ Some v → IsValue v
-under_valid name [] v valid under = absurd cc
-under_valid name (f ∷ fs) v valid under = one_valid f (bytes_eq name f.0) (value_under name fs) v valid.3 (under_valid name fs v valid.4) under
-
-fields_again : (fs : Fields) → fields_of (list_of_fields fs) ≡ fs
-fields_again no_fields = refl
-fields_again (field name value fs) = ap (field name value) (fields_again fs)
-
 more_valid : (fs : Fields) (rest : Result (List (List Field)) Refusal) (ds : List (List Field)) → AreFields fs → ((es : List (List Field)) → rest ≡ Ok es → AreSpellable es)
     → (rest >>= λ es. Ok (list_of_fields fs ∷ es)) ≡ Ok ds → AreSpellable ds
 more_valid fs (Ok es) ds valid others is =
     let same : list_of_fields fs ∷ es ≡ ds = cc in
-    subst AreSpellable same (rw (fields_again fs) valid, others es refl)
+    subst AreSpellable same (rw (fields_back fs) valid, others es refl)
 more_valid fs (Err refusal) ds valid others is = absurd cc
 
 each_valid : (vs : Elements) (ds : List (List Field)) → AreElements vs → each_document vs ≡ Ok ds → AreSpellable ds
@@ -93,14 +82,10 @@ text_valid None c valid is = absurd cc
 text_valid (Some (string name)) c valid is = let same : name ≡ c = cc in subst IsUtf8 same (valid (string name) refl)
 text_valid (Some v) c valid is = absurd cc
 
-elements_again : (vs : Elements) → elements_of (list_of_elements vs) ≡ vs
-elements_again no_elements = refl
-elements_again (element value vs) = ap (element value) (elements_again vs)
-
 pub list_valid : (under : Option Tree) (list : List Tree) → ((v : Tree) → under ≡ Some v → IsValue v) → required array_field under ≡ Ok list → AreElements (elements_of list)
 list_valid None list valid is = absurd cc
 list_valid (Some (array vs)) list valid is =
-    let elements : AreElements (elements_of (list_of_elements vs)) = rw (elements_again vs) (valid (array vs) refl) in
+    let elements : AreElements (elements_of (list_of_elements vs)) = rw (elements_back vs) (valid (array vs) refl) in
     subst (λ (l : List Tree). AreElements (elements_of l)) (ends (list_of_elements vs) list is) elements
 list_valid (Some v) list valid is = absurd cc
 
@@ -137,7 +122,7 @@ integers_valid (v ∷ vs) ns valid is =
 pub document_valid : (under : Option Tree) (d : List Field) → ((v : Tree) → under ≡ Some v → IsValue v) → required document_in under ≡ Ok d → AreFields (fields_of d)
 document_valid None d valid is = absurd cc
 document_valid (Some (document fs)) d valid is =
-    let fields : AreFields (fields_of (list_of_fields fs)) = rw (fields_again fs) (valid (document fs) refl) in
+    let fields : AreFields (fields_of (list_of_fields fs)) = rw (fields_back fs) (valid (document fs) refl) in
     subst (λ (e : List Field). AreFields (fields_of e)) (ends (list_of_fields fs) d is) fields
 document_valid (Some v) d valid is = absurd cc
 

@@ -23,9 +23,10 @@ use Rattle.dv_command.specs.Kinds as kinds
 use Rattle.dv_command.specs.Namespaces.{database, namespace}
 use Rattle.dv_refusal.specs.Refusals.{update_refusal}
 use Rattle.dv_value.specs.Results.{each}
+use Rattle.dv_value.specs.Inner.TreeLaws.{under_valid}
 use Rattle.dv_command.specs.Inner.Sound.{AreValidLists, IsNamespace, IsSoundRequest, IsSoundUpdate}
 use Rattle.dv_command.proofs.Lengths.{FieldsAdd, under_long}
-use Rattle.dv_command.proofs.SoundFields.{beside_valid, count_valid, database_valid, document_valid, documents_valid, each_long, either_valid, ends, explained_valid, fields_valid, find_valid, id_valid, indexes_valid, integers_valid, list_long, list_valid, namespace_valid, parsed, pipeline_valid, succeeds, text_valid, under_valid, update_valid, view_valid}
+use Rattle.dv_command.proofs.SoundFields.{beside_valid, count_valid, database_valid, document_valid, documents_valid, each_long, either_valid, ends, explained_valid, fields_valid, find_valid, id_valid, indexes_valid, integers_valid, list_long, list_valid, namespace_valid, parsed, pipeline_valid, succeeds, text_valid, update_valid, view_valid}
 
 -- ---- each command
 

@@ -32,7 +32,7 @@ pub(crate) fn boolean_of(value: &Value) -> Result<bool, Refusal>
 }
 
 /// The document that a value is. Refused with `TypeMismatch` if it is another value.
-#[tactic(auto, using(crate::proofs::Among::same_fields))]
+#[tactic(auto, using(dv_value::specs::Inner::TreeLaws::fields_again))]
 pub(crate) fn document_of(value: &Value) -> Result<&Document, Refusal>
     ensures { Returns (λ document. document.now) (defined.document_in (tree value.now)) result }
 {
@@ -54,7 +54,7 @@ pub(crate) fn documents_of(value: &Value) -> Result<Documents<'_>, Refusal>
 }
 
 /// The list that an array is. Refused with `TypeMismatch` if it is another value.
-#[tactic(auto, using(crate::proofs::Among::same_elements))]
+#[tactic(auto, using(dv_value::specs::Inner::TreeLaws::elements_again))]
 pub(crate) fn array_of(value: &Value) -> Result<&List, Refusal>
     ensures { Returns (λ list. list.now) (defined.array_field (tree value.now)) result }
 {
@@ -110,7 +110,7 @@ pub(crate) fn only_first_of(value: &Value) -> Result<bool, Refusal>
 
 /// The document of an update that a value is. Refused with `FailedToParse` where it is an array, and with `TypeMismatch`
 /// where it is another value.
-#[tactic(auto, using(crate::proofs::Among::same_fields))]
+#[tactic(auto, using(dv_value::specs::Inner::TreeLaws::fields_again))]
 pub(crate) fn update_of(value: &Value) -> Result<&Document, Refusal>
     ensures { Returns (λ document. document.now) (defined.update_in (tree value.now)) result }
 {

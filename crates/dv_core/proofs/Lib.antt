@@ -1,4 +1,3 @@
-mod Lists
 mod Spellings
 pub mod Stored
 pub mod Statements

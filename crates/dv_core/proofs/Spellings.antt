@@ -4,6 +4,7 @@ use Rattle.std.proofs.lemmas.Fmt.{length-decimal-le}
 use Rattle.dv_value.specs.Tree.{Tree, int32, int64, string, document, array, Fields, Elements, no_elements, element, Field, fields_of, elements_of}
 use Rattle.dv_value.specs.Spelling.{kind_of, framed, counted, element_spelling, payload, spelling, fields_spelling, elements_spelling}
 use Rattle.dv_value.specs.declared.kind.Kind.{Kind}
+use Rattle.dv_value.specs.Inner.Spelled.{elements-element}
 
 length-framed : (elements : List ℕ) → length (framed elements) ≡ length elements + 5
 unfolding framed
@@ -53,10 +54,6 @@ length-array vs = length-framed (elements_spelling 0 vs)
 elements-nil : (i : ℕ) → length (elements_spelling i no_elements) ≡ 0
 unfolding elements_spelling
 elements-nil i = refl
-
-elements-element : (i : ℕ) (v : Tree) (vs : Elements) → elements_spelling i (element v vs) ≡ element_spelling (kind_of v) (decimal i) (payload v) ++ elements_spelling (suc i) vs
-unfolding elements_spelling
-elements-element i v vs = refl
 
 elements-more : (i : ℕ) (v : Tree) (vs : Elements) → length (elements_spelling i (element v vs)) ≡ length (payload v) + length (decimal i) + 2 + length (elements_spelling (suc i) vs)
 elements-more i v vs = rw (elements-element i v vs, length-append, length-element_spelling) refl

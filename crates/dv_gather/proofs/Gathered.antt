@@ -1,20 +1,16 @@
 -- The values by which a document is joined or found, by what its candidates are.
 use Rattle.std.proofs.Common.{◌≡◌, ℕ, List, [], ◌∷◌, map, refl, ap, sym, ◌∙◌, ◌||◌, false, Some, None, append-nil}
+use Rattle.std.proofs.Math.Bool.{or-false}
 use Rattle.std.specs.List.{flat_map}
 use Rattle.std.specs.Option.{unwrap_or}
 use Rattle.std.specs.Ordering.{is_eq}
-use Rattle.dv_value.specs.Tree.{Tree, Field, array, fields_of, list_of_fields}
+use Rattle.dv_value.specs.Tree.{Tree, Field, array}
 use Rattle.dv_order.specs.Order.{canon}
 use Rattle.dv_order.specs.Key.{KeyTree, value, key_order}
 use Rattle.dv_candidates.specs.Candidates.{Candidate, array_in, leaves, or_null, whole, with_elements}
 use Rattle.dv_path.specs.LeafKeys.{is_key_of, is_some_key, leaf_values}
 use Rattle.dv_gather.specs.Joining.{joined_by, local_values}
 use Rattle.dv_gather.specs.Inner.KeySets.{AreKeysOf}
-use Rattle.dv_gather.proofs.Lists.{or-false}
-
-pub fields_again : (fs : List Field) → list_of_fields (fields_of fs) ≡ fs
-fields_again [] = refl
-fields_again (f ∷ fs) = ap (λ gs. f ∷ gs) (fields_again fs)
 
 local-is : (c : Candidate) → local_values c ≡ unwrap_or (array_in c) (or_null c ∷ [])
 local-is None = refl

@@ -1,4 +1,3 @@
-pub mod Lists
 pub mod Gathered
 pub mod NamedAlike
 pub mod RowsAlike

@@ -14,19 +14,21 @@ use Rattle.std.proofs.lemmas.Cmp.{ranked}
 use Rattle.std.proofs.lemmas.List.{take-map}
 use Rattle.std.proofs.lemmas.List.Folds.{list_any-append}
 use Rattle.std.proofs.lemmas.Option.{slice_get_read}
+use Rattle.std.proofs.Math.Bool.{or-false, or_assoc}
 use Rattle.dv_value.specs.Tree.{Tree, Field}
 use Rattle.dv_value.specs.Names.{has_name, with_value_under}
+use Rattle.dv_value.specs.Inner.ListLaws.{cond-or}
 use Rattle.dv_row.specs.Inner.EachLaws.{drop-read}
 use Rattle.dv_order.specs.Order.{canon, order}
 use Rattle.dv_order.specs.Key.{KeyTree, value, key_order}
-use Rattle.dv_order.specs.Inner.KeyLaws.{key_order_total}
+use Rattle.dv_order.specs.Inner.KeyLaws.{key_order_total, equal-back}
 use Rattle.dv_path.specs.LeafKeys.{leaf_values}
 use Rattle.dv_gather.specs.Joining.{as_value, joined_by, matches}
 use Rattle.dv_gather.specs.Lookups.{set_field}
 use Rattle.dv_row.specs.Expressions.{with_field_behind}
 use Rattle.dv_gather.specs.Inner.KeySets.{AreKeysOf, any_key, referred}
 use Rattle.dv_gather.specs.Inner.Places.{ArePlaces, is_place, is_kept, is_under, is_found, item_passes_at, items_chosen, item_at, items_at}
-use Rattle.dv_gather.proofs.Lists.{or-false, or-assoc, cond-or, any-same, equal-back}
+use Rattle.dv_gather.specs.Inner.KeyLaws.{any-same}
 use Rattle.dv_gather.proofs.Shared.{matches-by_keys}
 
 abbrev pub member : List ℕ → ℕ → Bool
@@ -229,7 +231,7 @@ place-added ps n i was now within update =
     let p = get_or ps n 0 in
     let rest = is_place (drop (n + 1) ps) i in
     ap (λ b. b || rest) (update ∙ ap (λ b. cond b true was) (same-place p i) ∙ cond-or (p == i) was)
-    ∙ or-assoc was (p == i) rest
+    ∙ or_assoc was (p == i) rest
     ∙ ap (λ l. was || is_place l i) (sym (drop-read ps n p within (get-again ps n 0 within)))
   where
     get-again : (xs : List ℕ) (n d : ℕ) → n < length xs → get_or xs n d ≡ get_or xs n (get_or xs n d)

@@ -1,22 +1,18 @@
 -- Documents that share a value, by the keys of the values of one side.
-use Rattle.std.proofs.Common.{◌≡◌, ◌∙◌, ap, sym, refl, Bool, true, false, ◌||◌, List, [], ◌∷◌, filter, map, ℕ, zero, suc, ◌+◌, ◌<◌, ◌++◌, length, take, get_or, slice_get, add-one, ap₂, Some, if◌then◌else◌}
+use Rattle.std.proofs.Common.{◌≡◌, ◌∙◌, ap, sym, refl, Bool, true, false, ◌||◌, List, [], ◌∷◌, filter, map, ℕ, zero, suc, ◌+◌, ◌<◌, ◌++◌, length, take, get_or, slice_get, ap₂, Some, if◌then◌else◌}
 use Rattle.std.proofs.lemmas.List.{map-append}
-use Rattle.std.proofs.lemmas.Option.{slice_get_read}
 use Rattle.std.specs.List.{list_any}
 use Rattle.std.specs.Cmp.{eq_by_cmp_equiv}
 use Rattle.std.specs.Ordering.{is_eq}
 use Rattle.dv_value.specs.Tree.{Tree, Field}
+use Rattle.dv_value.specs.Inner.ListLaws.{same-truth, take-read}
 use Rattle.dv_order.specs.Order.{canon, order}
 use Rattle.dv_order.specs.Key.{KeyTree, value, key_order}
 use Rattle.dv_order.specs.Inner.KeyLaws.{key_order_total}
 use Rattle.dv_path.specs.LeafKeys.{is_key_of, is_some_key, leaf_values}
 use Rattle.dv_gather.specs.Joining.{is_equal_to_one, is_joined, joined_by, matches}
 use Rattle.dv_gather.specs.Inner.KeySets.{AreKeysOf, any_key}
-use Rattle.dv_gather.proofs.Lists.{same-truth, any-same}
-
--- equal keys are those of the same values
-alike : (k l : KeyTree) (vs : List Tree) → is_eq (key_order k l) ≡ true → is_some_key k vs ≡ is_some_key l vs
-alike k l vs e = any-same (is_key_of k) (is_key_of l) (λ v. (eq_by_cmp_equiv key_order_total).congr k l (value (canon v)) e) vs
+use Rattle.dv_gather.specs.Inner.KeyLaws.{alike, any-same}
 
 -- some item that passes
 record Some-of {X : Type 0} (p : X → Bool) (xs : List X) : Type 0 where
@@ -79,9 +75,6 @@ take-here : {X : Type 0} (xs : List X) (i : ℕ) (x : X) → slice_get xs i ≡ 
 take-here [] i x e = absurd cc
 take-here (z ∷ xs) zero x e = let same : z ≡ x = cc in ap (λ y. y ∷ []) same
 take-here (z ∷ xs) (suc i) x e = ap (λ l. z ∷ l) (take-here xs i x e)
-
-pub take-read : {X : Type 0} (xs : List X) (i : ℕ) (x : X) → i < length xs → x ≡ get_or xs i x → take (i + 1) xs ≡ take i xs ++ x ∷ []
-take-read xs i x within is = ap (λ n. take n xs) (add-one i) ∙ take-here xs i x (slice_get_read xs (length xs) i x refl within is)
 
 -- a list for a row more
 pub row-more : {X Y : Type 0} (f : X → Y) (xs : List X) (i : ℕ) (x : X) (ys new : List Y) (y : Y) → i < length xs → x ≡ get_or xs i x → ys ≡ map f (take i xs) → y ≡ f x → new ≡ ys ++ y ∷ [] → new ≡ map f (take (i + 1) xs)

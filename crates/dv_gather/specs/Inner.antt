@@ -15,3 +15,4 @@ pub mod TotalView
 pub mod Totals
 pub mod Valid
 pub mod Laws
+pub mod KeyLaws

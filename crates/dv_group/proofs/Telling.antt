@@ -2,6 +2,7 @@
 use Rattle.std.specs.Prelude.{◌≡◌, true, false, cond, [], ◌∷◌, Option, None, Some, refl}
 use Rattle.std.proofs.Common.{ap, sym, ◌∙◌}
 use Rattle.dv_order.specs.Key.{KeyTree}
+use Rattle.dv_order.specs.Inner.KeyLaws.{equal-back}
 use Rattle.dv_row.specs.Row.{Row}
 use Rattle.dv_change.specs.declared.position.Part.TheVariants.{Up}
 use Rattle.dv_change.specs.Changes.{Positioned, forget}
@@ -13,12 +14,12 @@ use Rattle.dv_group.specs.declared.shift.Shifts.{Shifts}
 use Rattle.dv_group.specs.declared.shift.Telling.{Telling}
 use Rattle.dv_group.specs.declared.shift.Telling.TheVariants.{Told, Untold}
 use Rattle.dv_group.specs.Inner.Members.{AreShifts, IsShiftAt, KeptGroups, are_one, group_members, is_key, put_some, set_at, with_row, with_shown}
-use Rattle.dv_group.proofs.Under.{back, shown-once}
+use Rattle.dv_group.proofs.Under.{shown-once}
 
 -- where two keys aren't equal, neither is that of the other
 other-apart : (key other : Option KeyTree) → are_one key other ≡ false → (l : KeyTree) → other ≡ Some l → is_key l key ≡ false
 other-apart None other apart l is = refl
-other-apart (Some k) other apart l is = back l k ∙ ap (is_key k) (sym is) ∙ apart
+other-apart (Some k) other apart l is = equal-back l k ∙ ap (is_key k) (sym is) ∙ apart
 
 key-apart : (key other : Option KeyTree) → are_one key other ≡ false → (k : KeyTree) → key ≡ Some k → is_key k other ≡ false
 key-apart key other apart k is = ap (λ o. are_one o other) (sym is) ∙ apart

@@ -4,11 +4,11 @@ use Rattle.std.proofs.Common.{ap, subst, sym, ◌∙◌}
 use Rattle.std.specs.declared.cmp.Ordering.{Ordering}
 use Rattle.std.specs.declared.cmp.Ordering.TheVariants.{Less, Equal, Greater}
 use Rattle.std.specs.BTreeMap.{BTreeMap, WritesThrough, get, insert_entry, is_at}
-use Rattle.std.specs.Cmp.{Equal-is, eq_by_cmp_equiv}
+use Rattle.std.specs.Cmp.{Equal-is}
 use Rattle.std.specs.Map.{lookup, remove_entry, set_value}
 use Rattle.std.specs.Ordering.{is_eq, match_ordering, ordering_reverse, ordering_then}
 use Rattle.dv_order.specs.Key.{KeyTree, key_order}
-use Rattle.dv_order.specs.Inner.KeyLaws.{key_order_total}
+use Rattle.dv_order.specs.Inner.KeyLaws.{key_order_total, equal-back}
 use Rattle.dv_row.specs.Row.{Row}
 use Rattle.dv_change.specs.declared.position.Part.TheVariants.{Up}
 use Rattle.dv_change.specs.Changes.{Positioned, forget}
@@ -27,9 +27,6 @@ use Rattle.dv_group.specs.declared.shift.Telling.TheVariants.{Told, Untold}
 use Rattle.dv_group.specs.Inner.Members.{AreBundles, IsKept, IsRowOf, IsShift, IsTold, KeptGroups, are_one, group_members, is_key, moved, put_some, rows_in, set_at, shown_of, with_shown}
 use Rattle.dv_group.proofs.Bundled.{set-over}
 
-pub back : (k l : KeyTree) → is_eq (key_order k l) ≡ is_eq (key_order l k)
-back k l = (eq_by_cmp_equiv key_order_total).symm k l
-
 -- under equal keys stands the same
 pub members-alike : (k l : KeyTree) → key_order k l ≡ Equal → (es : KeptGroups) → group_members k es ≡ group_members l es
 members-alike k l e es = ap rows_in (found es)
@@ -47,7 +44,7 @@ module _ (es fs : KeptGroups) (key : KeyTree) where
   -- one key's rows become others
   pub changed-under : (change : Positioned → Positioned) (new : Option Kept) → rows_in new ≡ change (group_members key es) → ((k : KeyTree) → lookup (is_at (key_order k)) fs ≡ cond (is_at (key_order key) k) new (lookup (is_at (key_order k)) es))
       → (k : KeyTree) → group_members k fs ≡ cond (is_eq (key_order k key)) (change (group_members k es)) (group_members k es)
-  changed-under change new is written k = ap rows_in (written k ∙ ap (λ b. cond b new (lookup (is_at (key_order k)) es)) (back key k)) ∙ by (is_eq (key_order k key)) refl
+  changed-under change new is written k = ap rows_in (written k ∙ ap (λ b. cond b new (lookup (is_at (key_order k)) es)) (equal-back key k)) ∙ by (is_eq (key_order k key)) refl
     where
       by : (b : Bool) → is_eq (key_order k key) ≡ b → rows_in (cond b new (lookup (is_at (key_order k)) es)) ≡ cond b (change (group_members k es)) (group_members k es)
       by true here = is ∙ ap change (sym (members-alike k key ((Equal-is (key_order k key)).0 here) es))
@@ -85,7 +82,7 @@ found-there m n key old new there writes = sym (writes.3 (rw (← there) refl)).
 one-key : (key other : Option KeyTree) → are_one key other ≡ true → (k : KeyTree) → is_key k key ≡ is_key k other
 one-key None other one k = cc
 one-key (Some a) None one k = cc
-one-key (Some a) (Some b) one k = back k a ∙ beside a b k ((Equal-is (key_order a b)).0 one) ∙ back b k
+one-key (Some a) (Some b) one k = equal-back k a ∙ beside a b k ((Equal-is (key_order a b)).0 one) ∙ equal-back b k
 
 -- the row of the group of a key comes once, where another key is equal
 pub shown-once : (g : Grouping) (es : KeptGroups) (key other : Option KeyTree) → are_one key other ≡ true → with_shown g (λ k. group_members k es) key [] ≡ shown_of g (λ k. group_members k es) key other

@@ -6,11 +6,11 @@ use Rattle.std.proofs.lemmas.Bool.{and_from, and_parts, not-false, not-true, or_
 use Rattle.std.proofs.lemmas.List.Folds.{list_any-append}
 use Rattle.dv_value.specs.Tree.{Field}
 use Rattle.dv_order.specs.Key.{KeyTree, key_order}
+use Rattle.dv_order.specs.Inner.KeyLaws.{equal-from}
 use Rattle.dv_coll.specs.Collection.{IsAscending, found, has_key, id_key, inserted, removed, replaced}
 use Rattle.dv_keyed.specs.Index.{IndexForm}
 use Rattle.dv_index.specs.Unique.{are_apart, are_broken, clashes, is_broken, is_key_taken, share_key}
 use Rattle.dv_index.proofs.Built.{IsElsewhere, elsewhere-later}
-use Rattle.dv_index.proofs.Lists.{equal-from}
 use Rattle.dv_index.proofs.Picked.{head-before, tail-ascends}
 use Rattle.dv_index.proofs.Shared.{any-false, share-back}
 

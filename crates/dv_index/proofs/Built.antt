@@ -8,9 +8,10 @@ use Rattle.std.proofs.lemmas.Slice.Eq.{bytes_eq-Decides}
 use Rattle.std.specs.declared.cmp.Ordering.TheVariants.{Equal}
 use Rattle.std.specs.Ordering.{is_eq}
 use Rattle.std.proofs.lemmas.Cmp.{tied_itself}
+use Rattle.std.proofs.Math.Bool.{or-false}
 use Rattle.dv_value.specs.Tree.{Field}
 use Rattle.dv_order.specs.Key.{KeyTree, key_order}
-use Rattle.dv_order.specs.Inner.KeyLaws.{key_order_total}
+use Rattle.dv_order.specs.Inner.KeyLaws.{key_order_total, equal-from}
 use Rattle.dv_coll.specs.Collection.{IsAscending, found, has_key, id_key, replaced}
 use Rattle.dv_index.specs.Inner.Change.{AreIndexesOf}
 use Rattle.dv_keyed.specs.Index.{IndexForm, id_form}
@@ -20,7 +21,6 @@ use Rattle.dv_index.specs.Inner.Indexed.{with_documents, with_indexes}
 use Rattle.dv_path.specs.LeafKeys.{is_leaf_key}
 use Rattle.dv_keyed.specs.Inner.Pairs.{Pair, has_pair}
 use Rattle.dv_index.specs.Inner.Search.{IsIndexOf, is_key_under}
-use Rattle.dv_index.proofs.Lists.{or-false, equal-from}
 use Rattle.dv_index.proofs.Picked.{Before, head-before, tail-ascends}
 
 -- ---- lists of indexes

@@ -1,23 +1,23 @@
 -- An index, where one document changes: the keys that it gains are added, and those that it has lost are taken out.
 use Rattle.std.proofs.Common.{◌≡◌, ◌∙◌, ℕ, List, ◌∷◌, refl, ap, sym, subst, Bool, true, false, cond, not, ◌||◌, ◌&&◌, Option, Some, None, filter}
-use Rattle.std.specs.List.{AllByRecursion, find, list_any}
+use Rattle.std.specs.List.{AllByRecursion, find}
 use Rattle.std.specs.Option.{IsSome, option_map}
 use Rattle.std.specs.Ordering.{is_eq}
 use Rattle.dv_value.specs.Tree.{Field}
 use Rattle.dv_order.specs.Key.{KeyTree, key_order}
-use Rattle.dv_order.specs.Inner.KeyLaws.{key_order_total}
+use Rattle.dv_order.specs.Inner.KeyLaws.{key_order_total, equal-back, equal-from}
 use Rattle.dv_coll.specs.Collection.{found, id_key, has_key as is_of, inserted, removed, replaced}
 use Rattle.dv_keyed.specs.Inner.Keys.{has_key}
 use Rattle.dv_keyed.specs.Inner.Pairs.{Pair, has_pair}
 use Rattle.dv_keyed.specs.Index.{IndexForm}
 use Rattle.dv_keyed.specs.Inner.Index.{IndexTree, form_of}
+use Rattle.dv_keyed.specs.Inner.PairLaws.{keys-left}
 use Rattle.dv_index.specs.Inner.Search.{IsIndexOf, is_key_under}
 use Rattle.dv_index.specs.Inner.Change.{IsChangeOf, IsFresh, changed_id, document_after, documents_after}
 use Rattle.dv_index.specs.declared.change.Change.{Change}
 use Rattle.dv_index.specs.declared.change.Change.TheVariants.{Insert, Replace, Remove}
-use Rattle.dv_index.proofs.Lists.{and-true, equal-back, equal-from}
 use Rattle.std.proofs.lemmas.Cmp.{tied_itself}
-use Rattle.std.proofs.lemmas.Map.Views.{any-filter_same}
+use Rattle.std.proofs.Math.Bool.{and-true}
 
 -- ---- what is found after a change, by the laws of collections
 abbrev pub InsertedIsFound : Type 0
@@ -48,20 +48,6 @@ found-after law₁ law₂ law₃ (Replace d) ds h f i = law₃ i d ds ∙ at (is
     at : (b : Bool) → is_eq (key_order i (id_key d)) ≡ b → cond b (option_map (λ e. d) (found i ds)) (found i ds) ≡ cond b (Some d) (found i ds)
     at true e = ap (option_map (λ (x : List Field). d)) (found-same i (id_key d) ds e) ∙ known (found (id_key d) ds) h.1
     at false e = refl
-
--- ---- the keys of a set that another hasn't
-same-member : (k l : KeyTree) (ks : List KeyTree) → is_eq (key_order k l) ≡ true → has_key k ks ≡ has_key l ks
-same-member k l ks e = ap (λ t. list_any t ks) (λ j m. is_eq (key_order_total.congr k l m (equal-from (key_order k l) e) j))
-
-swapped : (a b : Bool) → a && b ≡ b && a
-swapped true true = refl
-swapped true false = refl
-swapped false true = refl
-swapped false false = refl
-
-keys-left : (ks ls : List KeyTree) (k : KeyTree) → has_key k (filter (λ l. not (has_key l ls)) ks) ≡ has_key k ks && not (has_key k ls)
-keys-left ks ls k =
-    any-filter_same (λ l. is_eq (key_order k l)) (λ l. not (has_key l ls)) (not (has_key k ls)) (λ l e. ap not (sym (same-member k l ls e))) ks ∙ swapped (not (has_key k ls)) (has_key k ks)
 
 -- ---- one index
 not-both : (o n : Bool) → n && not o ≡ true → o ≡ false

@@ -8,8 +8,16 @@ use Rattle.dv_keyed.specs.Choice.{chosen}
 use Rattle.dv_index.specs.Indexed.{IndexedTree, documents_covered, paths_of}
 use Rattle.dv_keyed.specs.Within.{has_within}
 use Rattle.dv_index.specs.Search.{covered, covered_at}
-use Rattle.dv_index.proofs.Lists.{length-kept}
-use Rattle.dv_index.proofs.Gathered.{MatchesAreWithin}
+use Rattle.dv_index.specs.Inner.IdLaws.{MatchesAreWithin}
+
+-- no more are kept than there are
+pub length-kept : {X : Type 0} (p : X → Bool) (xs : List X) → length (filter p xs) ≤ length xs
+length-kept p [] = omega arith
+length-kept p (x ∷ xs) = at (p x) (length-kept p xs)
+  where
+    at : (b : Bool) → length (filter p xs) ≤ length xs → length (cond b (x ∷ filter p xs) (filter p xs)) ≤ length (x ∷ xs)
+    at true h = omega arith
+    at false h = omega arith
 
 -- where each that passes a test passes another, no fewer pass the other
 more-kept : {X : Type 0} (p q : X → Bool) → ((x : X) → p x ≡ true → q x ≡ true) → (xs : List X) → length (filter p xs) ≤ length (filter q xs)

@@ -3,12 +3,10 @@ use Rattle.std.proofs.Common.{◌≡◌, ◌∙◌, ◌≤◌, ◌<◌, ◌&&◌
 use Rattle.std.specs.List.{AllByRecursion, best_of, flat_map}
 use Rattle.std.specs.Option.{IfSome}
 use Rattle.std.specs.Ordering.{is_eq}
-use Rattle.std.specs.Str.{bytes_eq}
-use Rattle.std.proofs.lemmas.Bool.{or_left, or_right}
+use Rattle.std.proofs.lemmas.Bool.{or_left, or_right, and_parts}
 use Rattle.std.proofs.lemmas.Cmp.{tied_itself}
 use Rattle.std.proofs.lemmas.List.{map-append}
 use Rattle.std.proofs.lemmas.List.Folds.{list_any-append}
-use Rattle.std.proofs.lemmas.Slice.Eq.{bytes_eq-Decides}
 use Rattle.dv_value.specs.Tree.{Tree, Field, array, null, no_elements, element, list_of_elements}
 use Rattle.dv_order.specs.Order.{canon}
 use Rattle.dv_order.specs.Key.{KeyTree, value, key_at, key_order}
@@ -18,7 +16,6 @@ use Rattle.dv_candidates.specs.Candidates.{Candidate, leaves, or_null, whole, wi
 use Rattle.dv_path.specs.LeafKeys.{is_key_of, is_leaf_key, is_some_key, leaf_values}
 use Rattle.dv_path.specs.SortKey.{earliest, keys_of, sort_key, stands_first}
 use Rattle.dv_coll.specs.Collection.{IsAscending, found, id_key}
-use Rattle.dv_keyed.specs.Choice.{same_path}
 use Rattle.dv_keyed.specs.declared.before.Bar.{Bar}
 use Rattle.dv_keyed.specs.Inner.Ahead.{leaf_sorted_by, stands_ahead}
 use Rattle.dv_match.specs.Filter.{Members}
@@ -26,12 +23,12 @@ use Rattle.dv_match.specs.Match.{matches}
 use Rattle.dv_keyed.specs.Inner.Index.{IndexTree}
 use Rattle.dv_keyed.specs.Inner.Interval.{is_in_all}
 use Rattle.dv_keyed.specs.Inner.Pairs.{IsOnlyKey, has_pair}
+use Rattle.dv_keyed.specs.Inner.ListLaws.{some-same}
 use Rattle.dv_index.specs.Inner.Ahead.{LeadsSomewhere, is_ahead}
 use Rattle.dv_index.specs.Inner.Search.{IsIndexOf, is_key_under}
-use Rattle.dv_index.proofs.Lists.{both}
+use Rattle.dv_index.specs.Inner.IdLaws.{OnlyKeysAreWithin}
 use Rattle.dv_index.proofs.Picked.{all-found}
-use Rattle.dv_index.proofs.Places.{some-same}
-use Rattle.dv_index.proofs.Gathered.{OnlyKeysAreWithin, narrowed}
+use Rattle.dv_index.proofs.Gathered.{narrowed}
 
 -- ---- the key by which a candidate is sorted is that of a leaf of it, or stands for the empty array
 -- the best of some keys is one of them
@@ -133,7 +130,7 @@ module _ (law : OnlyKeysAreWithin) (ms : Members) (index : IndexTree) (path : Li
   module _ (gathered : AreGathered) (ds : List (List Field)) (holds : IsIndexOf index ds) where
     one-gathered : (d : List Field) → found (id_key d) ds ≡ Some d → matches ms d && is_ahead (path, direction) bar d ≡ true → among-ids (id_key d) ≡ true
     one-gathered d there e =
-        let passes = both (matches ms d) (is_ahead (path, direction) bar d) e in
+        let passes = and_parts (matches ms d) (is_ahead (path, direction) bar d) e in
         let leaf = leaf-sorted d path direction (somewhere d passes.0 passes.1) in
         let held : (l : KeyTree) → is_leaf_key l index.path d ≡ true → has_pair l (id_key d) index.pairs ≡ true = λ l own. holds.has l (id_key d) ∙ ap (is_key_under l index.path) there ∙ own in
         gathered (sort_key d path direction) (id_key d) passes.1
@@ -166,17 +163,6 @@ leads-behind law ms path direction bar never d match ahead nowhere =
     let behind = never (law ms path d null (λ l own. let wrong : true ≡ false = sym own ∙ no-leaf l path d nowhere in absurd cc) match) (id_key d) in
     let wrong : true ≡ false = sym ahead ∙ ap (λ k. stands_ahead direction bar k (id_key d)) (sorted-as-null d path direction nowhere) ∙ behind in
     absurd cc
-
--- ---- paths whose components are the same
-pub one-path : (p q : List (List ℕ)) → same_path p q ≡ true → p ≡ q
-one-path [] [] e = refl
-one-path [] (y ∷ ys) e = absurd cc
-one-path (x ∷ xs) [] e = absurd cc
-one-path (x ∷ xs) (y ∷ ys) e =
-    let parts = both (bytes_eq x y) (same_path xs ys) e in
-    let first : x ≡ y = (bytes_eq-Decides x y).0 parts.0 in
-    let rest = one-path xs ys parts.1 in
-    cc
 
 -- ---- a list of one
 pub one-alone : {X : Type 0} (xs : List X) → 1 ≤ length xs → length xs < 2 → (x : X) × (xs ≡ x ∷ [])

@@ -1,54 +1,43 @@
 -- Documents whose `_id`s are gathered by their keys: among them are all that match a filter.
 use Rattle.std.proofs.Common.{◌≡◌, ◌∙◌, ◌↔◌, ℕ, List, [], ◌∷◌, map, refl, ap, sym, Bool, true, false, cond, Some, filter, slice_get}
-use Rattle.std.specs.List.{AllByRecursion, flat_map, list_any}
+use Rattle.std.specs.List.{AllByRecursion}
 use Rattle.std.specs.Prelude.{codes}
 use Rattle.std.specs.Option.{option_map}
-use Rattle.std.specs.Str.{bytes_eq}
-use Rattle.std.specs.Ordering.{is_eq}
-use Rattle.std.proofs.lemmas.Slice.Eq.{bytes_eq-Decides}
-use Rattle.dv_value.specs.Names.{value_under}
-use Rattle.dv_value.specs.Tree.{Tree, Field, array, fields_of, list_of_fields}
+use Rattle.dv_value.specs.Tree.{Tree, Field}
+use Rattle.dv_value.specs.Inner.ListLaws.{same-truth}
 use Rattle.dv_order.specs.Order.{canon}
-use Rattle.dv_order.specs.Key.{KeyTree, value, key_order}
-use Rattle.dv_candidates.specs.Candidates.{Candidate, candidates, leaves, or_null, whole, with_elements}
+use Rattle.dv_order.specs.Key.{KeyTree, value}
 use Rattle.dv_path.specs.LeafKeys.{is_leaf_key}
 use Rattle.dv_match.specs.Filter.{Condition, Members}
 use Rattle.dv_match.specs.Match.{matches}
-use Rattle.dv_coll.specs.Collection.{HasId, IsAscending, IsNoArray, found, id_key}
+use Rattle.dv_coll.specs.Collection.{HasId, IsAscending, found, id_key}
 use Rattle.dv_keyed.specs.Choice.{chosen}
-use Rattle.dv_keyed.specs.Inner.Decided.{HasKeyBetween, HasKeyWithin, HasOneKey, IsClosed, is_one_condition}
+use Rattle.dv_keyed.specs.Inner.Decided.{HasKeyBetween, HasKeyWithin, HasOneKey, IsClosed, IsDecided, MatchesBetween, is_one_condition}
 use Rattle.dv_keyed.specs.Inner.Index.{IndexTree}
-use Rattle.dv_keyed.specs.Inner.Interval.{is_between, is_in_all}
+use Rattle.dv_keyed.specs.Inner.Interval.{is_in_all}
 use Rattle.dv_keyed.specs.declared.interval.Interval.{Interval}
 use Rattle.dv_keyed.specs.Inner.Pairs.{IsOnlyKey, has_pair}
-use Rattle.dv_keyed.specs.Within.{has_within, is_within}
+use Rattle.dv_keyed.specs.Within.{has_within}
 use Rattle.dv_keyed.specs.Inner.Within.{covers}
+use Rattle.dv_keyed.specs.Inner.ListLaws.{some-same}
 use Rattle.dv_index.specs.Inner.Search.{IsIndexOf, is_key_under}
-use Rattle.dv_index.proofs.Lists.{or-false}
+use Rattle.dv_index.specs.Inner.IdLaws.{MatchesAreWithin, OnlyKeysAreWithin, KeysAreWithin, id-covered}
 use Rattle.dv_index.proofs.Picked.{all-found}
-use Rattle.dv_index.proofs.Places.{path-at, some-same}
+use Rattle.dv_index.proofs.Places.{path-at}
 
 -- ---- what dv_keyed's laws say
-abbrev pub MatchesAreWithin : Type 0
-MatchesAreWithin = (filter : Members) (paths : List (List (List ℕ))) (place : ℕ) (bounds : Condition) → chosen filter paths ≡ Some (place, bounds) → (path : List (List ℕ)) × (slice_get paths place ≡ Some path) × ((d : List Field) → matches filter d ≡ true → has_within bounds path d ≡ true)
-
-abbrev pub OnlyKeysAreWithin : Type 0
-OnlyKeysAreWithin = (filter : Members) (path : List (List ℕ)) (d : List Field) (v : Tree) → ((l : KeyTree) → is_leaf_key l path d ≡ true → is_eq (key_order l (value (canon v))) ≡ true) → matches filter d ≡ true → is_in_all (value (canon v)) path filter ≡ true
 
 abbrev pub LeavesHaveKeys : Type 0
 LeavesHaveKeys = (bounds : Condition) (path : List (List ℕ)) (d : List Field) → (has_within bounds path d ≡ true) ↔ ((v : Tree) × (covers bounds (value (canon v)) ≡ true) × (is_leaf_key (value (canon v)) path d ≡ true))
-
-abbrev pub KeysAreWithin : Type 0
-KeysAreWithin = (bounds : Condition) (c : Candidate) → covers bounds (value (canon (or_null c))) ≡ is_within bounds c
 
 abbrev pub KeysAreOfLeaves : Type 0
 KeysAreOfLeaves = (bounds : Condition) (path : List (List ℕ)) (d : List Field) (k : KeyTree) → covers bounds k ≡ true → is_leaf_key k path d ≡ true → has_within bounds path d ≡ true
 
 abbrev pub EndsDecide : Type 0
-EndsDecide = (ends : Interval) (path : List (List ℕ)) (filter : Members) (d : List Field) → IsClosed ends path filter → HasOneKey path d → (matches filter d ≡ true) ↔ ((k : KeyTree) × (is_between ends k ≡ true) × (is_leaf_key k path d ≡ true))
+EndsDecide = (ends : Interval) (path : List (List ℕ)) (filter : Members) (d : List Field) → IsClosed ends path filter → HasOneKey path d → MatchesBetween ends path filter d
 
 abbrev pub BoundsDecide : Type 0
-BoundsDecide = (filter : Members) (paths : List (List (List ℕ))) (place : ℕ) (bounds : Condition) (path : List (List ℕ)) (d : List Field) → is_one_condition filter ≡ true → chosen filter paths ≡ Some (place, bounds) → slice_get paths place ≡ Some path → matches filter d ≡ has_within bounds path d
+BoundsDecide = (filter : Members) (paths : List (List (List ℕ))) (place : ℕ) (bounds : Condition) (path : List (List ℕ)) (d : List Field) → is_one_condition filter ≡ true → IsDecided filter paths place bounds path d
 
 pub decided-within : BoundsDecide → (ms : Members) (xs : List IndexTree) (place : ℕ) (c : Condition) (x : IndexTree) (d : List Field) → is_one_condition ms ≡ true → chosen ms (map (λ (i : IndexTree). i.path) xs) ≡ Some (place, c) → slice_get xs place ≡ Some x → matches ms d ≡ has_within c x.path d
 decided-within law ms xs place c x d one e there = law ms (map (λ (i : IndexTree). i.path) xs) place c x.path d one e (path-at xs place ∙ ap (option_map (λ (i : IndexTree). i.path)) there)
@@ -70,11 +59,6 @@ narrowed among-ids test P h (d ∷ ds) all = at (among-ids (id_key d)) (test d) 
     at false true e f rest = absurd (let there = h d all.0 f in cc)
     at false false e f rest = rest
 
-both-ways : (a b : Bool) → (a ≡ true → b ≡ true) → (b ≡ true → a ≡ true) → a ≡ b
-both-ways true b there back = sym (there refl)
-both-ways false true there back = back refl
-both-ways false false there back = refl
-
 pub same-kept : (p q : List Field → Bool) (P : List Field → Type 0) → ((d : List Field) → P d → p d ≡ q d) → (ds : List (List Field)) → AllByRecursion P ds → filter p ds ≡ filter q ds
 same-kept p q P same [] all = refl
 same-kept p q P same (d ∷ ds) all = let rest = same-kept p q P same ds all.1 in λ j. cond (same d all.0 j) (d ∷ rest j) (rest j)
@@ -90,17 +74,7 @@ between-all law index ends ms closed alone among-ids gathered ds holds ascending
     one : (d : List Field) → found (id_key d) ds ≡ Some d → among-ids (id_key d) ≡ matches ms d
     one d there =
         let by-ends = law ends index.path ms d closed (λ k l of-k of-l. alone l (id_key d) (held d there l ∙ of-l) k (held d there k ∙ of-k)) in
-        both-ways (among-ids (id_key d)) (matches ms d) (λ e. let u = (gathered (id_key d)).0 e in by-ends.1 (u.0, u.1, sym (held d there u.0) ∙ u.2)) (λ e. let u = by-ends.0 e in (gathered (id_key d)).1 (u.0, u.1, held d there u.0 ∙ u.2))
-
--- ---- the path `_id`
-no-elements : (v : Tree) → IsNoArray v → flat_map with_elements (Some v ∷ []) ≡ Some v ∷ []
-no-elements (array vs) h = absurd h
-no-elements v h = refl
-
-pub leaves-id : (f : Field) (fs : List Field) → HasId (f ∷ fs) → leaves (f ∷ fs) (codes "_id" ∷ []) ≡ Some f.1 ∷ []
-unfolding leaves whole
-leaves-id f fs h =
-    ap (λ b. flat_map with_elements (flat_map (candidates []) (cond b (Some f.1) (value_under (codes "_id") (list_of_fields (fields_of fs))) ∷ []))) ((bytes_eq-Decides (codes "_id") f.0).1 (sym h.0)) ∙ no-elements f.1 h.1
+        same-truth (among-ids (id_key d)) (matches ms d) (λ e. let u = (gathered (id_key d)).0 e in by-ends.1 (u.0, u.1, sym (held d there u.0) ∙ u.2)) (λ e. let u = by-ends.0 e in (gathered (id_key d)).1 (u.0, u.1, held d there u.0 ∙ u.2))
 
 -- ---- the keys of `_id`s that stand beside keys in the bounds are those of all documents that have a leaf there
 module _ (law : LeavesHaveKeys) (index : IndexTree) (c : Condition) (among-ids : KeyTree → Bool) (gathered : (k i : KeyTree) → covers c k ≡ true → has_pair k i index.pairs ≡ true → among-ids i ≡ true) where
@@ -117,16 +91,12 @@ module _ (law : LeavesHaveKeys) (index : IndexTree) (c : Condition) (among-ids :
   -- and where there are no others, no other document is gathered
   pub gathered-only : KeysAreOfLeaves → ((i : KeyTree) → among-ids i ≡ true → HasKeyWithin c i index.pairs) → (ds : List (List Field)) → IsIndexOf index ds → IsAscending ds → filter (λ d. among-ids (id_key d)) ds ≡ filter (has_within c index.path) ds
   gathered-only of-leaves only ds holds ascending =
-      same-kept (λ d. among-ids (id_key d)) (has_within c index.path) (λ d. found (id_key d) ds ≡ Some d) (λ d there. both-ways (among-ids (id_key d)) (has_within c index.path d) (λ e. within d there (only (id_key d) e)) (id-gathered ds holds d there)) ds (all-found ds ascending)
+      same-kept (λ d. among-ids (id_key d)) (has_within c index.path) (λ d. found (id_key d) ds ≡ Some d) (λ d there. same-truth (among-ids (id_key d)) (has_within c index.path d) (λ e. within d there (only (id_key d) e)) (id-gathered ds holds d there)) ds (all-found ds ascending)
     where
       within : (d : List Field) → found (id_key d) ds ≡ Some d → HasKeyWithin c (id_key d) index.pairs → has_within c index.path d ≡ true
       within d there w = of-leaves c index.path d w.0 w.1 (sym (holds.has w.0 (id_key d) ∙ ap (is_key_under w.0 index.path) there) ∙ w.2)
 
 -- ---- the index on `_id` has the `_id`s alone
-id-covered : KeysAreWithin → (c : Condition) (d : List Field) → HasId d → has_within c (codes "_id" ∷ []) d ≡ covers c (id_key d)
-unfolding has_within
-id-covered law c [] h = absurd h
-id-covered law c (f ∷ fs) h = ap (list_any (is_within c)) (leaves-id f fs h) ∙ or-false (is_within c (Some f.1)) ∙ sym (law c (Some f.1))
 
 pub only-ids : KeysAreWithin → (c : Condition) (ds : List (List Field)) → AllByRecursion HasId ds → filter (λ d. covers c (id_key d)) ds ≡ filter (has_within c (codes "_id" ∷ [])) ds
 only-ids law c ds identified = same-kept (λ d. covers c (id_key d)) (has_within c (codes "_id" ∷ [])) HasId (λ d h. sym (id-covered law c d h)) ds identified

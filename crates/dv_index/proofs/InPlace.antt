@@ -8,10 +8,12 @@ use Rattle.std.proofs.lemmas.Bool.{or_parts}
 use Rattle.std.proofs.lemmas.Slice.Eq.{bytes_eq-Decides}
 use Rattle.dv_value.specs.FieldChange.{with_found_pushed, with_field_changed}
 use Rattle.dv_value.specs.Names.{has_name, value_under, with_value_under}
-use Rattle.dv_value.specs.Tree.{Tree, array, Field, fields_of, list_of_fields, elements_of, list_of_elements}
+use Rattle.dv_value.specs.Tree.{Tree, array, Field, elements_of, list_of_elements}
 use Rattle.dv_value.specs.View.{tree}
 use Rattle.dv_value.specs.declared.field_change.FieldChange.{FieldChange}
 use Rattle.dv_value.specs.declared.field_change.FieldChange.TheVariants.{Set, Push}
+use Rattle.dv_value.specs.Inner.ListLaws.{any-map}
+use Rattle.dv_value.specs.Inner.TreeLaws.{fields_again}
 use Rattle.dv_order.specs.Key.{KeyTree, key_order}
 use Rattle.dv_candidates.specs.Candidates.{candidates, leaves, or_null, whole, with_elements}
 use Rattle.dv_path.specs.LeafKeys.{is_leaf_key, is_some_key, leaf_values}
@@ -23,7 +25,6 @@ use Rattle.dv_index.specs.Inner.Search.{IsIndexOf, is_key_under}
 use Rattle.dv_index.specs.Inner.Through.{leads_through, any_leads_through}
 use Rattle.dv_index.proofs.Changed.{ReplacedIsFound, found-same}
 use Rattle.dv_index.proofs.FieldChanged.{LeavesKey, FoundHas, FoundBegins}
-use Rattle.dv_index.proofs.Lists.{any-map}
 
 -- ---- the value under another name
 module _ (other name : List ℕ) (apart : bytes_eq other name ≡ false) where
@@ -53,17 +54,13 @@ module _ (other name : List ℕ) (apart : bytes_eq other name ≡ false) where
   value-apart (Set v) fs = set-apart (tree v) (has_name name fs) fs
   value-apart (Push v) fs = pushed-apart (tree v) (value_under name fs) fs
 
-fields-again : (fs : List Field) → list_of_fields (fields_of fs) ≡ fs
-fields-again [] = refl
-fields-again (f ∷ fs) = ap (λ gs. f ∷ gs) (fields-again fs)
-
 -- ---- the keys under a path
 whole-apart : (name : List ℕ) (path : List (List ℕ)) → leads_through name path ≡ false → (c : FieldChange) (d : List Field) → whole (with_field_changed name c d) path ≡ whole d path
 unfolding whole
 whole-apart name [] apart c d = absurd cc
 whole-apart name (first ∷ names) apart c d =
     ap (λ o. flat_map (candidates names) (o ∷ []))
-    (ap (value_under first) (fields-again (with_field_changed name c d)) ∙ value-apart first name apart c d ∙ ap (value_under first) (sym (fields-again d)))
+    (ap (value_under first) (fields_again (with_field_changed name c d)) ∙ value-apart first name apart c d ∙ ap (value_under first) (sym (fields_again d)))
 
 key-apart : (name : List ℕ) (path : List (List ℕ)) → leads_through name path ≡ false → (c : FieldChange) (d : List Field) (k : KeyTree) → is_leaf_key k path (with_field_changed name c d) ≡ is_leaf_key k path d
 unfolding is_leaf_key leaf_values leaves

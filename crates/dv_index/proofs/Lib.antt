@@ -1,4 +1,3 @@
-pub mod Lists
 pub mod Picked
 pub mod Built
 pub mod Places

@@ -10,12 +10,12 @@ use Rattle.std.proofs.lemmas.Cmp.{alike_right, tied_itself}
 use Rattle.dv_value.specs.Tree.{Field, Tree}
 use Rattle.dv_value.specs.View.{tree}
 use Rattle.dv_value.specs.declared.value.Value.{Value}
+use Rattle.dv_value.specs.Inner.ListLaws.{any-map}
 use Rattle.dv_order.specs.Order.{canon}
 use Rattle.dv_order.specs.Key.{KeyTree, key_order, value}
-use Rattle.dv_order.specs.Inner.KeyLaws.{key_order_total}
+use Rattle.dv_order.specs.Inner.KeyLaws.{key_order_total, equal-back, equal-from}
 use Rattle.dv_path.specs.LeafKeys.{is_key_of, is_some_key}
 use Rattle.dv_coll.specs.Collection.{IsAscending, id_key, has_key, found}
-use Rattle.dv_index.proofs.Lists.{any-map, equal-back, equal-from}
 
 abbrev pub now : Bor KeyTree → KeyTree
 now x = x.now

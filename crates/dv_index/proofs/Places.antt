@@ -5,11 +5,9 @@ use Rattle.std.specs.Option.{option_map}
 use Rattle.dv_value.specs.Tree.{Field}
 use Rattle.dv_index.specs.Inner.Change.{AreIndexesOf, IsIndexAt}
 use Rattle.dv_keyed.specs.Index.{IndexForm}
-use Rattle.dv_keyed.specs.Inner.Index.{IndexTree, BeginsWithId, form_of}
+use Rattle.dv_keyed.specs.Inner.Index.{IndexTree, BeginsWithId}
+use Rattle.dv_keyed.specs.Inner.ListLaws.{some-same}
 use Rattle.dv_index.specs.Inner.Search.{IsIndexOf}
-
-pub some-same : {X : Type 0} (x y : X) → Some x ≡ Some y → x ≡ y
-some-same x y e = cc
 
 behind : (xs : List IndexTree) (n : ℕ) (x : IndexTree) (ds : List (List Field)) → AllByRecursion (λ y. IsIndexOf y ds) xs → slice_get xs n ≡ Some x → IsIndexOf x ds
 behind [] n x ds h e = absurd cc
@@ -26,7 +24,3 @@ pub path-at : (xs : List IndexTree) (place : ℕ) → slice_get (map (λ (x : In
 path-at [] place = refl
 path-at (x ∷ xs) zero = refl
 path-at (x ∷ xs) (suc n) = path-at xs n
-
-pub paths-of-forms : (xs : List IndexTree) → map (λ (x : IndexTree). x.path) xs ≡ map (λ (x : IndexForm). x.path) (map form_of xs)
-paths-of-forms [] = refl
-paths-of-forms (x ∷ xs) = ap (λ ps. x.path ∷ ps) (paths-of-forms xs)

@@ -5,23 +5,13 @@ use Rattle.std.specs.Ordering.{is_eq}
 use Rattle.std.proofs.lemmas.Bool.{or_left, or_right}
 use Rattle.std.proofs.lemmas.Cmp.{tied_itself}
 use Rattle.dv_value.specs.Tree.{Field, Tree}
+use Rattle.dv_value.specs.Inner.ListLaws.{same-truth}
 use Rattle.dv_order.specs.Key.{KeyTree, key_order, value}
-use Rattle.dv_order.specs.Inner.KeyLaws.{key_order_total}
+use Rattle.dv_order.specs.Inner.KeyLaws.{key_order_total, equal-from}
 use Rattle.dv_order.specs.Order.{canon}
 use Rattle.dv_path.specs.LeafKeys.{is_key_of, is_leaf_key, is_some_key, leaf_values}
 use Rattle.dv_index.specs.Unique.{share_key}
-use Rattle.dv_index.proofs.Lists.{equal-from}
-
-pub bool-alike : (a b : Bool) → (a ≡ true → b ≡ true) → (b ≡ true → a ≡ true) → a ≡ b
-bool-alike true b f g = sym (f refl)
-bool-alike false true f g = g refl
-bool-alike false false f g = refl
-
-pub or-shuffled : (a b c d : Bool) → (a || b) || (c || d) ≡ (a || c) || (b || d)
-or-shuffled true b c d = refl
-or-shuffled false true true d = refl
-or-shuffled false true false d = refl
-or-shuffled false false c d = refl
+use Rattle.dv_keyed.specs.Inner.ListLaws.{or-shuffled}
 
 -- ---- tests of lists
 module _ {X : Type 0} where
@@ -43,7 +33,7 @@ module _ {X : Type 0} where
       at false is f rest = or_right (q x) (list_any q xs) (rest f)
 
   pub any-false : (p q : X → Bool) → ((x : X) → p x ≡ true → q x ≡ true) → (xs : List X) → list_any q xs ≡ false → list_any p xs ≡ false
-  any-false p q h xs e = bool-alike (list_any p xs) false (λ some. sym e ∙ any-weaker p q h xs some) (λ no. absurd cc)
+  any-false p q h xs e = same-truth (list_any p xs) false (λ some. sym e ∙ any-weaker p q h xs some) (λ no. absurd cc)
 
   pub any-or : (p q : X → Bool) (xs : List X) → list_any (λ x. p x || q x) xs ≡ list_any p xs || list_any q xs
   any-or p q [] = refl
@@ -79,4 +69,4 @@ share-from path d e k here there =
 
 pub share-back : (path : List (List ℕ)) (d e : List Field) → share_key path d e ≡ share_key path e d
 share-back path d e =
-    bool-alike (share_key path d e) (share_key path e d) (λ h. let k = share-both path d e h in share-from path e d k.0 k.2 k.1) (λ h. let k = share-both path e d h in share-from path d e k.0 k.2 k.1)
+    same-truth (share_key path d e) (share_key path e d) (λ h. let k = share-both path d e h in share-from path e d k.0 k.2 k.1) (λ h. let k = share-both path e d h in share-from path d e k.0 k.2 k.1)

@@ -1,53 +1,26 @@
 -- Pairs of keys that stand under another `_id`, and the documents that have these keys.
-use Rattle.std.proofs.Common.{◌≡◌, ◌∙◌, inl, inr, ℕ, List, [], ◌∷◌, refl, ap, sym, Bool, true, false, cond, not, ◌||◌, ◌&&◌, filter, Option, Some, None}
+use Rattle.std.proofs.Common.{◌≡◌, ◌∙◌, inl, inr, ℕ, List, [], ◌∷◌, refl, ap, sym, Bool, true, false, cond, not, ◌||◌, ◌&&◌, Option, Some, None}
 use Rattle.std.specs.List.{AllByRecursion, list_any}
 use Rattle.std.specs.Ordering.{is_eq}
 use Rattle.std.proofs.lemmas.Bool.{and_from, and_parts, or_cases, or_left, or_right}
 use Rattle.std.proofs.lemmas.Cmp.{alike_right, tied_itself}
+use Rattle.std.proofs.Math.Bool.{and-true, and_comm}
 use Rattle.dv_value.specs.Tree.{Field}
+use Rattle.dv_value.specs.Inner.ListLaws.{same-truth}
 use Rattle.dv_order.specs.Key.{KeyTree, key_order}
-use Rattle.dv_order.specs.Inner.KeyLaws.{key_order_total}
+use Rattle.dv_order.specs.Inner.KeyLaws.{key_order_total, equal-back, equal-from}
 use Rattle.dv_path.specs.LeafKeys.{is_leaf_key}
 use Rattle.dv_coll.specs.Collection.{IsAscending, found, has_key as is_of, id_key}
 use Rattle.dv_keyed.specs.Inner.Keys.{has_key}
 use Rattle.dv_keyed.specs.Inner.Pairs.{Pair, has_pair, is_pair_of, is_under_another, pairs_without}
+use Rattle.dv_keyed.specs.Inner.PairLaws.{same-key, same-id}
+use Rattle.dv_keyed.specs.Inner.ListLaws.{any-and, any-kept}
 use Rattle.dv_index.specs.Inner.Search.{is_key_under}
 use Rattle.dv_index.specs.Unique.{are_apart, is_key_taken, share_key}
-use Rattle.dv_index.proofs.Lists.{and-true, equal-back, equal-from}
 use Rattle.dv_index.proofs.Picked.{all-found}
-use Rattle.dv_index.proofs.Shared.{any-or, any-weaker, bool-alike, leaf-same, share-both, share-from, some-of}
+use Rattle.dv_index.proofs.Shared.{any-or, any-weaker, leaf-same, share-both, share-from, some-of}
 
 -- ---- pairs that are gone
-any-and : {X : Type 0} (a : Bool) (p : X → Bool) (xs : List X) → list_any (λ x. a && p x) xs ≡ a && list_any p xs
-any-and true p xs = refl
-any-and false p [] = refl
-any-and false p (x ∷ xs) = any-and false p xs
-
--- keys that stand beside each other have the same pairs
-same-key : (k l id : KeyTree) (ps : List Pair) → is_eq (key_order k l) ≡ true → has_pair k id ps ≡ has_pair l id ps
-same-key k l id ps e = ap (λ t. list_any t ps) (λ j p. is_eq (key_order_total.congr k l p.0 (equal-from (key_order k l) e) j) && is_eq (key_order id p.1))
-
--- and so `_id`s
-same-id : (k i id : KeyTree) (ps : List Pair) → is_eq (key_order i id) ≡ true → has_pair k i ps ≡ has_pair k id ps
-same-id k i id ps e = ap (λ t. list_any t ps) (λ j p. is_eq (key_order k p.0) && is_eq (key_order_total.congr i id p.1 (equal-from (key_order i id) e) j))
-
-any-kept : {X : Type 0} (r q : X → Bool) (xs : List X) → list_any q (filter r xs) ≡ list_any (λ x. r x && q x) xs
-any-kept r q [] = refl
-any-kept r q (x ∷ xs) = at (r x) (any-kept r q xs)
-  where
-    at : (b : Bool) → list_any q (filter r xs) ≡ list_any (λ y. r y && q y) xs → list_any q (cond b (x ∷ filter r xs) (filter r xs)) ≡ (b && q x) || list_any (λ y. r y && q y) xs
-    at true e = ap (λ b. q x || b) e
-    at false e = e
-
-swapped : (a b : Bool) → a && b ≡ b && a
-swapped true true = refl
-swapped true false = refl
-swapped false true = refl
-swapped false false = refl
-
-pub none-gone : (ps : List Pair) → pairs_without [] ps ≡ ps
-none-gone [] = refl
-none-gone (p ∷ ps) = ap (λ qs. p ∷ qs) (none-gone ps)
 
 -- where a key's pair is told by a pair, the one is gone where the other is
 gone-alike : (gone : List Pair) (k i : KeyTree) (p : Pair) → not (has_pair p.0 p.1 gone) && is_pair_of k i p ≡ not (has_pair k i gone) && is_pair_of k i p
@@ -58,14 +31,14 @@ gone-alike gone k i p = at (is_pair_of k i p) refl
 
     at : (b : Bool) → is_pair_of k i p ≡ b → not (has_pair p.0 p.1 gone) && b ≡ not (has_pair k i gone) && b
     at true e = ap (λ c. not c && true) (same e)
-    at false e = swapped (not (has_pair p.0 p.1 gone)) false ∙ swapped false (not (has_pair k i gone))
+    at false e = and_comm (not (has_pair p.0 p.1 gone)) false ∙ and_comm false (not (has_pair k i gone))
 
 pub has-left : (gone ps : List Pair) (k i : KeyTree) → has_pair k i (pairs_without gone ps) ≡ has_pair k i ps && not (has_pair k i gone)
 has-left gone ps k i =
     any-kept (λ p. not (has_pair p.0 p.1 gone)) (is_pair_of k i) ps
     ∙ ap (λ t. list_any t ps) (λ j p. gone-alike gone k i p j)
     ∙ any-and (not (has_pair k i gone)) (is_pair_of k i) ps
-    ∙ swapped (not (has_pair k i gone)) (has_pair k i ps)
+    ∙ and_comm (not (has_pair k i gone)) (has_pair k i ps)
 
 -- ---- pairs, by what they are of
 each-paired : (ps qs : List Pair) → ((k i : KeyTree) → has_pair k i qs ≡ true → has_pair k i ps ≡ true) → AllByRecursion (λ p. has_pair p.0 p.1 ps ≡ true) qs
@@ -132,7 +105,7 @@ module _ (path : List (List ℕ)) (d : List Field) (ds : List (List Field)) (asc
   -- a key of the document stands under another `_id` where a document under another `_id` has it
   pub under-is-taken : (keys : List KeyTree) (id : KeyTree) → ((k : KeyTree) → has_key k keys ≡ is_leaf_key k path d) → id ≡ id_key d → is_under_another (λ k. has_key k keys) id ps ≡ is_key_taken path d ds
   under-is-taken keys id are is =
-      (λ j. is_under_another (λ k. are k j) (is j) ps) ∙ bool-alike (is_under_another leaf (id_key d) ps) (is_key_taken path d ds) to-document to-pair
+      (λ j. is_under_another (λ k. are k j) (is j) ps) ∙ same-truth (is_under_another leaf (id_key d) ps) (is_key_taken path d ds) to-document to-pair
 
 -- ---- pairs of the documents before this one
 -- a document has a key of some of these pairs
@@ -153,7 +126,7 @@ module _ (path : List (List ℕ)) (d : List Field) (ps qs : List Pair) (more : (
   by-pair e rs k i there here = passes-pair (λ p. is_leaf_key p.0 path e) k i (λ p same other. sym (leaf-same path e k p.0 same) ∙ here) rs there
 
   more-has : (e : List Field) → has-some path qs e ≡ has-some path ps e || share_key path d e
-  more-has e = bool-alike (has-some path qs e) (has-some path ps e || share_key path d e) there back
+  more-has e = same-truth (has-some path qs e) (has-some path ps e || share_key path d e) there back
     where
       there : has-some path qs e ≡ true → has-some path ps e || share_key path d e ≡ true
       there h =
@@ -188,7 +161,7 @@ module _ (path : List (List ℕ)) (d : List Field) (ps qs : List Pair) (more : (
 
 -- and aren't, where it isn't
 not-apart-from : (path : List (List ℕ)) (d : List Field) (ps : List Pair) (ds : List (List Field)) → has-some path ps d ≡ true → are_apart path (d ∷ ds) && not (list_any (has-some path ps) (d ∷ ds)) ≡ false
-not-apart-from path d ps ds taken = ap (λ b. are_apart path (d ∷ ds) && not (b || list_any (has-some path ps) ds)) taken ∙ swapped (are_apart path (d ∷ ds)) false
+not-apart-from path d ps ds taken = ap (λ b. are_apart path (d ∷ ds) && not (b || list_any (has-some path ps) ds)) taken ∙ and_comm (are_apart path (d ∷ ds)) false
 
 pub broken-by : (path : List (List ℕ)) (d : List Field) (ps : List Pair) (ds all : List (List Field)) (unique : Bool) → ((k i : KeyTree) → has_pair k i ps ≡ true → is_eq (key_order i (id_key d)) ≡ false) → unique && is_under_another (λ k. is_leaf_key k path d) (id_key d) ps ≡ true
     → (unique ≡ true → are_apart path all ≡ are_apart path (d ∷ ds) && not (list_any (has-some path ps) (d ∷ ds))) → unique && not (are_apart path all) ≡ true

@@ -4,6 +4,7 @@ use Rattle.std.specs.List.{AllByRecursion}
 use Rattle.std.specs.Option.{option_map}
 use Rattle.std.specs.Ordering.{is_eq}
 use Rattle.std.proofs.lemmas.List.Folds.{list_any-append}
+use Rattle.std.proofs.Math.Bool.{or-false}
 use Rattle.dv_value.specs.Tree.{Field}
 use Rattle.dv_order.specs.Key.{KeyTree, key_order}
 use Rattle.dv_path.specs.LeafKeys.{is_leaf_key}
@@ -13,13 +14,13 @@ use Rattle.dv_keyed.specs.Index.{IndexForm}
 use Rattle.dv_keyed.specs.Inner.Index.{BeginsWithId, IndexTree, form_of}
 use Rattle.dv_keyed.specs.Inner.Keys.{has_key}
 use Rattle.dv_keyed.specs.Inner.Pairs.{Pair, has_pair, is_pair_of, is_under_another, pairs_without}
+use Rattle.dv_keyed.specs.Inner.PairLaws.{none-gone}
+use Rattle.dv_keyed.specs.Inner.ListLaws.{or-shuffled}
 use Rattle.dv_index.specs.Inner.Search.{IsIndexOf, is_key_under}
 use Rattle.dv_index.specs.Unique.{clashes, is_key_taken, replacing_clashes}
 use Rattle.dv_index.proofs.Built.{IsElsewhere, still-apart}
 use Rattle.dv_index.proofs.Changed.{ReplacedIsFound, found-same}
-use Rattle.dv_index.proofs.Lists.{or-false}
-use Rattle.dv_index.proofs.Shared.{or-shuffled}
-use Rattle.dv_index.proofs.Taken.{has-left, under-is-taken, none-gone}
+use Rattle.dv_index.proofs.Taken.{has-left, under-is-taken}
 
 -- ---- indexes one after the other
 pub first-by-itself : (x : IndexForm) (xs : List IndexForm) (es ds : List (List Field)) → replacing_clashes (x ∷ xs) es ds ≡ replacing_clashes (x ∷ []) es ds || replacing_clashes xs es ds

@@ -3,6 +3,7 @@ use Rattle.std.proofs.Common.{Bor, ◌≡◌, ◌∙◌, ℕ, zero, suc, List, [
 use Rattle.std.specs.List.{AllByRecursion}
 use Rattle.std.proofs.lemmas.List.{map-append, reverse-append, take-map}
 use Rattle.std.proofs.lemmas.List.Elements.{filter-append}
+use Rattle.std.proofs.Math.Bool.{or-false}
 use Rattle.dv_value.specs.Tree.{Field}
 use Rattle.dv_candidates.specs.Candidates.{or_null}
 use Rattle.dv_path.specs.declared.direction.Direction.{Direction}
@@ -14,8 +15,8 @@ use Rattle.dv_coll.specs.Collection.{HasId, id_key}
 use Rattle.dv_order.specs.Key.{KeyTree}
 use Rattle.dv_keyed.specs.Inner.Interval.{is_in_all}
 use Rattle.dv_index.specs.Inner.InDirection.{in_direction}
-use Rattle.dv_index.proofs.Gathered.{OnlyKeysAreWithin, leaves-id, narrowed}
-use Rattle.dv_index.proofs.Lists.{or-false}
+use Rattle.dv_index.specs.Inner.IdLaws.{OnlyKeysAreWithin, leaves-id}
+use Rattle.dv_index.proofs.Gathered.{narrowed}
 use Rattle.dv_index.proofs.Picked.{not_true}
 
 -- the `_id` of a document that matches is in all bounds

@@ -7,3 +7,4 @@ pub mod View
 pub mod Indexed
 pub mod Change
 pub mod Examples
+pub mod IdLaws

@@ -62,9 +62,6 @@ under-like k l index same = ap (λ o. unwrap_or o []) (there index.under.entries
     there [] = refl
     there (e ∷ es) = λ i. cond ((eq_by_cmp_equiv key_order_total).congr k l e.0 same i) (Some e.1) (there es i)
 
-pub key-back : (k l : KeyTree) → is_eq (key_order k l) ≡ is_eq (key_order l k)
-key-back k l = (eq_by_cmp_equiv key_order_total).symm k l
-
 -- ---- one key
 
 pub under-put : {A : Type 0} (b : Bool) (v : A) (o : Option A) (none : A) → unwrap_or (cond b (Some v) o) none ≡ cond b v (unwrap_or o none)

@@ -6,6 +6,7 @@ use Rattle.std.specs.Cmp.{eq_by_cmp_equiv}
 use Rattle.std.specs.List.{list_any}
 use Rattle.std.specs.Ordering.{is_eq}
 use Rattle.dv_value.specs.Tree.{Field, Tree, array, elements_of}
+use Rattle.dv_value.specs.Inner.ListLaws.{same-truth}
 use Rattle.dv_order.specs.Order.{canon, order}
 use Rattle.dv_order.specs.Key.{KeyTree, key_order, value}
 use Rattle.dv_order.specs.Inner.KeyLaws.{key_order_total}
@@ -14,6 +15,7 @@ use Rattle.dv_path.specs.LeafKeys.{is_key_of, is_some_key, leaf_values}
 use Rattle.dv_gather.specs.declared.lookup.Lookup.{Lookup}
 use Rattle.dv_gather.specs.Joining.{as_value, is_equal_to_one, is_joined, joined_by, matches}
 use Rattle.dv_gather.specs.Lookups.{joined_row, set_field}
+use Rattle.dv_gather.specs.Inner.KeyLaws.{alike, any-same}
 use Rattle.dv_change.specs.Changes.{Positioned, forget}
 use Rattle.dv_join.specs.Inner.Indexed.{has_any}
 use Rattle.dv_join.specs.Inner.Turning.{has_foreign, has_local, if_any}
@@ -44,22 +46,9 @@ passing {X = X} p (x ∷ xs) e = by (p x) refl (passing p xs)
         let there : Passing p xs = rest (ap (λ b. b || list_any p xs) (sym is) ∙ e) in
         record { one = there.one; passes = there.passes; among = λ q h. or-right (q x) (list_any q xs) (there.among q h) }
 
-any-same : {X : Type 0} (p q : X → Bool) → ((x : X) → p x ≡ q x) → (xs : List X) → list_any p xs ≡ list_any q xs
-any-same p q same [] = refl
-any-same p q same (x ∷ xs) = λ i. same x i || any-same p q same xs i
-
--- equal keys are those of the same values
-alike : (k l : KeyTree) (vs : List Tree) → is_eq (key_order k l) ≡ true → is_some_key k vs ≡ is_some_key l vs
-alike k l vs e = any-same (is_key_of k) (is_key_of l) (λ v. (eq_by_cmp_equiv key_order_total).congr k l (value (canon v)) e) vs
-
 -- a key of a value is one of others exactly where it is equal to one of them
 keys-as-values : (v : Tree) (ws : List Tree) → is_some_key (value (canon v)) ws ≡ is_equal_to_one ws v
 keys-as-values v ws = any-same (is_key_of (value (canon v))) (λ w. is_eq (order v w)) (λ w. ap is_eq (order_of_canon v w)) ws
-
-same-truth : (a b : Bool) → (a ≡ true → b ≡ true) → (b ≡ true → a ≡ true) → a ≡ b
-same-truth true b to from = sym (to refl)
-same-truth false true to from = from refl
-same-truth false false to from = refl
 
 -- the key of some value on both sides
 record Shared (vs ws : List Tree) : Type 0 where

@@ -6,12 +6,11 @@ use Rattle.std.specs.declared.cmp.Ordering.{Ordering}
 use Rattle.std.specs.declared.cmp.Ordering.TheVariants.{Less, Equal, Greater}
 use Rattle.dv_value.specs.Tree.{Tree}
 use Rattle.dv_order.specs.Key.{KeyTree, no_element, value, key_order}
-use Rattle.dv_order.specs.Inner.KeyLaws.{key_order_total}
+use Rattle.dv_order.specs.Inner.KeyLaws.{key_order_total, equal-from}
 use Rattle.dv_path.specs.SortKey.{stands_first}
 use Rattle.dv_path.specs.declared.direction.Direction.{Direction}
 use Rattle.dv_keyed.specs.declared.before.Bar.{Bar}
 use Rattle.dv_keyed.specs.Inner.Ahead.{is_until, stands_ahead}
-use Rattle.dv_keyed.proofs.Lists.{equal-from}
 use Rattle.dv_keyed.specs.Inner.Pairs.{Pair, has_pair}
 
 pub by-kind : (P : KeyTree → Type 0) → P no_element → ((v : Tree) → P (value v)) → (k : KeyTree) → P k

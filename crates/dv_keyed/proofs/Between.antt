@@ -7,15 +7,16 @@ use Rattle.std.specs.declared.cmp.Ordering.TheVariants.{Less, Equal, Greater}
 use Rattle.std.specs.declared.ops.Bound.{Bound}
 use Rattle.std.specs.declared.ops.Bound.TheVariants.{Included, Excluded}
 use Rattle.std.proofs.lemmas.Cmp.{alike_right}
+use Rattle.std.proofs.lemmas.Bool.{and_parts}
 use Rattle.dv_order.specs.Key.{KeyTree, key_order}
-use Rattle.dv_order.specs.Inner.KeyLaws.{key_order_total}
+use Rattle.dv_order.specs.Inner.KeyLaws.{key_order_total, is-less}
 use Rattle.dv_match.specs.declared.form.Member as memory
 use Rattle.dv_match.specs.declared.form.Condition as held
 use Rattle.dv_match.specs.Filter.{Members, conditions_of, members_of, filters_of}
 use Rattle.dv_match.specs.View.{condition, member}
 use Rattle.dv_keyed.proofs.Ends.{not-greater}
-use Rattle.dv_keyed.proofs.Lists.{both, drop-step}
 use Rattle.dv_keyed.specs.Inner.Interval.{is_in_all, is_in_bounds, is_in_each, is_in_member, is_in_filters}
+use Rattle.dv_keyed.specs.Inner.ListLaws.{drop-step}
 
 not-so : (b : Bool) → not b ≡ true → b ≡ false
 not-so true e = absurd cc
@@ -25,8 +26,8 @@ not-so false e = refl
 module _ (low high next-low next-high other-low other-high : Bound KeyTree) (k : KeyTree) where
   pub narrowed : (is_from_start key_order low k ≡ true → is_from_start key_order other-low k ≡ true → is_from_start key_order next-low k ≡ true) → (is_past_end key_order high k ≡ false → is_past_end key_order other-high k ≡ false → is_past_end key_order next-high k ≡ false) → range_contains key_order low high k ≡ true → range_contains key_order other-low other-high k ≡ true → range_contains key_order next-low next-high k ≡ true
   narrowed raised lowered e f =
-      let was = both (is_from_start key_order low k) (not (is_past_end key_order high k)) e in
-      let is = both (is_from_start key_order other-low k) (not (is_past_end key_order other-high k)) f in
+      let was = and_parts (is_from_start key_order low k) (not (is_past_end key_order high k)) e in
+      let is = and_parts (is_from_start key_order other-low k) (not (is_past_end key_order other-high k)) f in
       λ j. raised was.0 is.0 j && not (lowered (not-so (is_past_end key_order high k) was.1) (not-so (is_past_end key_order other-high k) is.1) j)
 
 -- ---- no key between ends that stand the wrong way round
@@ -51,11 +52,6 @@ turned-less : (o : Ordering) → is_le (ordering_reverse o) ≡ false → o ≡ 
 turned-less Less e = refl
 turned-less Equal e = absurd cc
 turned-less Greater e = absurd cc
-
-is-less : (o : Ordering) → is_lt o ≡ true → o ≡ Less
-is-less Less e = refl
-is-less Equal e = absurd cc
-is-less Greater e = absurd cc
 
 turned-round : (o : Ordering) → is_le o ≡ false → is_gt o ≡ false → ⊥
 turned-round Less e f = absurd cc
@@ -88,7 +84,7 @@ none-inside low high a b k start end wrong =
 module _ {X : Type 0} (all : List X → Bool) (one : X → Bool) (more : (x : X) (xs : List X) → all (x ∷ xs) ≡ one x && all xs) (xs : List X) (i : ℕ) where
   pub next-passes : (x : X) → i < length xs → x ≡ get_or xs i x → all (drop i xs) ≡ true → (one x ≡ true) × (all (drop (i + 1) xs) ≡ true)
   next-passes x within is e =
-      both (one x) (all (drop (i + 1) xs)) (sym (ap all (drop-step xs i x within is) ∙ more x (drop (i + 1) xs)) ∙ e)
+      and_parts (one x) (all (drop (i + 1) xs)) (sym (ap all (drop-step xs i x within is) ∙ more x (drop (i + 1) xs)) ∙ e)
 
 pub more-conditions : (k : KeyTree) (c : held.Condition) (cs : List held.Condition) → is_in_each k (conditions_of (map condition (c ∷ cs))) ≡ is_in_bounds k (condition c) && is_in_each k (conditions_of (map condition cs))
 more-conditions k c cs = refl

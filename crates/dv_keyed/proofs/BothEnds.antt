@@ -1,5 +1,5 @@
 -- Two ranges whose values are of one class, and the ends between which the keys stand that are in both.
-use Rattle.std.proofs.Common.{◌≡◌, ◌∙◌, ◌<◌, ◌==◌, ◌&&◌, ℕ, refl, ap, sym, Bool, true, false, not, arith}
+use Rattle.std.proofs.Common.{◌≡◌, ◌∙◌, ◌<◌, ◌==◌, ◌&&◌, refl, ap, sym, Bool, false, not, arith}
 use Rattle.std.proofs.lemmas.Cmp.{ranked}
 use Rattle.std.specs.Cmp.{nat_cmp_is}
 use Rattle.std.specs.BTreeMap.Range.{range_contains}
@@ -8,6 +8,7 @@ use Rattle.std.specs.declared.cmp.Ordering.{Ordering}
 use Rattle.std.specs.declared.cmp.Ordering.TheVariants.{Less, Equal, Greater}
 use Rattle.std.specs.declared.ops.Bound.TheVariants.{Included, Excluded}
 use Rattle.std.proofs.lemmas.Bool.{eq-eqb}
+use Rattle.std.proofs.Math.Bool.{and-false}
 use Rattle.dv_value.specs.Tree.{Tree}
 use Rattle.dv_order.specs.Order.{canon, class}
 use Rattle.dv_order.specs.Key.{KeyTree, no_element, value, key_class, key_order}
@@ -16,10 +17,6 @@ use Rattle.dv_match.specs.declared.range.Range.TheVariants.{Above, AtLeast, Belo
 use Rattle.dv_match.specs.Filter.{in_range}
 use Rattle.dv_keyed.specs.Inner.Within.{covers}
 use Rattle.dv_keyed.proofs.Ends.{LowerClassesStandFirst, class-canon}
-
-and-false : (a : Bool) → a && false ≡ false
-and-false true = refl
-and-false false = refl
 
 -- an order turned round
 lt-turned : (o : Ordering) → is_lt (ordering_reverse o) ≡ is_gt o

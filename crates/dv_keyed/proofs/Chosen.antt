@@ -1,10 +1,9 @@
 -- The first condition in a filter, where a loop has come to one of its parts.
-use Rattle.std.proofs.Common.{◌≡◌, ◌∙◌, ℕ, zero, suc, ◌+◌, ◌<◌, ◌≤◌, get_or, length, arith, List, [], ◌∷◌, map, drop, drop_of_length-le, refl, ap, sym, Bool, Option, Some, None, add-one}
+use Rattle.std.proofs.Common.{◌≡◌, ◌∙◌, ℕ, suc, ◌+◌, ◌<◌, ◌≤◌, get_or, length, List, [], ◌∷◌, map, drop, drop_of_length-le, refl, ap, sym, Bool, Option, Some, None, add-one}
 use Rattle.std.proofs.Math.Seq.{drop-cons}
 use Rattle.std.specs.Option.{option_map, option_or}
 use Rattle.dv_match.specs.declared.form.Member as memory
 use Rattle.dv_match.specs.Filter.{Condition, Members, members_of, filters_of}
-use Rattle.dv_match.specs.Inner.Filter.{member_weight, members_weight, filters_weight}
 use Rattle.dv_match.specs.View.{member}
 use Rattle.dv_keyed.specs.Choice.{first_in, first_in_member, first_in_all}
 
@@ -50,13 +49,3 @@ module _ (test : Condition → Bool) (path : List (List ℕ)) where
   pub more-filters : (f : Members) (fs : List Members) → of-filters (f ∷ fs) ≡ option_or (first_in test path f) (of-filters fs)
   unfolding first_in_all
   more-filters f fs = refl
-
-pub member-weighs : (ms : List memory.Member) (i : ℕ) (m : memory.Member) → i < length ms → m ≡ get_or ms i m → member_weight (member m) ≤ members_weight (members_of (map member ms))
-member-weighs [] i m within is = absurd (omega arith)
-member-weighs (n ∷ ms) zero m within is = omega (arith, ap (λ x. member_weight (member x)) is)
-member-weighs (n ∷ ms) (suc i) m within is = omega (arith, member-weighs ms i m (omega arith) is)
-
-pub filter-weighs : (fs : List Members) (i : ℕ) (f : Members) → i < length fs → f ≡ get_or fs i f → members_weight f < filters_weight (filters_of fs)
-filter-weighs [] i f within is = absurd (omega arith)
-filter-weighs (g ∷ fs) zero f within is = omega (arith, ap members_weight is)
-filter-weighs (g ∷ fs) (suc i) f within is = omega (arith, filter-weighs fs i f (omega arith) is)

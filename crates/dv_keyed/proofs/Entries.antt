@@ -9,20 +9,17 @@ use Rattle.std.specs.declared.cmp.Ordering.TheVariants.{Less, Equal, Greater}
 use Rattle.std.specs.Ordering.{is_eq}
 use Rattle.std.proofs.lemmas.List.Folds.{list_any-append}
 use Rattle.std.proofs.lemmas.Map.Keys.{sorted_head, sorted_tail}
+use Rattle.std.proofs.Math.Bool.{or-false}
 use Rattle.dv_order.specs.Key.{KeyTree, key_order}
-use Rattle.dv_order.specs.Inner.KeyLaws.{key_order_total}
+use Rattle.dv_order.specs.Inner.KeyLaws.{key_order_total, equal-back, equal-from}
 use Rattle.dv_keyed.specs.Inner.Ids.{has_in, is_another}
 use Rattle.dv_keyed.specs.Inner.Keys.{has_key}
 use Rattle.dv_keyed.specs.Inner.Pairs.{Pair, has_another_at, has_pair, pairs_of}
-use Rattle.dv_keyed.proofs.Lists.{any-map, or-false, equal-back, equal-from}
+use Rattle.dv_keyed.specs.Inner.ListLaws.{any-and}
+use Rattle.dv_value.specs.Inner.ListLaws.{any-map}
 
 abbrev pub Entry : Type 0
 Entry = KeyTree × List KeyTree
-
-pub any-and : {X : Type 0} (a : Bool) (p : X → Bool) (xs : List X) → list_any (λ x. a && p x) xs ≡ a && list_any p xs
-any-and true p xs = refl
-any-and false p [] = refl
-any-and false p (x ∷ xs) = any-and false p xs
 
 -- some `_id` under a key passes a test
 abbrev pub some-at : KeyTree → (KeyTree → Bool) → List Pair → Bool

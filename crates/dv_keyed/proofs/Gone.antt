@@ -1,38 +1,14 @@
 -- Keys, one after the other, that are looked for under another `_id`, in pairs that aren't gone.
-use Rattle.std.proofs.Common.{◌≡◌, ◌∙◌, List, [], ◌∷◌, refl, ap, sym, Bool, true, false, cond, not, ◌||◌, ◌&&◌, filter}
+use Rattle.std.proofs.Common.{◌≡◌, ◌∙◌, List, [], ◌∷◌, refl, ap, sym, Bool, true, false, not, ◌||◌, ◌&&◌}
+use Rattle.std.proofs.Math.Bool.{and-true, and_comm}
 use Rattle.std.specs.List.{list_any}
 use Rattle.std.specs.Ordering.{is_eq}
 use Rattle.dv_order.specs.Key.{KeyTree, key_order}
+use Rattle.dv_order.specs.Inner.KeyLaws.{equal-back}
 use Rattle.dv_keyed.specs.Inner.Keys.{has_key}
 use Rattle.dv_keyed.specs.Inner.Pairs.{Pair, has_another_at, has_pair, is_under_another, pairs_without}
-use Rattle.dv_keyed.proofs.Entries.{any-and}
-use Rattle.dv_keyed.proofs.Lists.{equal-back}
-use Rattle.dv_keyed.proofs.Noted.{and-true}
-use Rattle.dv_keyed.proofs.Several.{same-key}
-
-any-kept : {X : Type 0} (r q : X → Bool) (xs : List X) → list_any q (filter r xs) ≡ list_any (λ x. r x && q x) xs
-any-kept r q [] = refl
-any-kept r q (x ∷ xs) = at (r x) (any-kept r q xs)
-  where
-    at : (b : Bool) → list_any q (filter r xs) ≡ list_any (λ y. r y && q y) xs → list_any q (cond b (x ∷ filter r xs) (filter r xs)) ≡ (b && q x) || list_any (λ y. r y && q y) xs
-    at true e = ap (λ b. q x || b) e
-    at false e = e
-
-swapped : (a b : Bool) → a && b ≡ b && a
-swapped true true = refl
-swapped true false = refl
-swapped false true = refl
-swapped false false = refl
-
-pub none-gone : (ps : List Pair) → pairs_without [] ps ≡ ps
-none-gone [] = refl
-none-gone (p ∷ ps) = ap (λ qs. p ∷ qs) (none-gone ps)
-
-or-shuffled : (a b c d : Bool) → (a || b) || (c || d) ≡ (a || c) || (b || d)
-or-shuffled true b c d = refl
-or-shuffled false true true d = refl
-or-shuffled false true false d = refl
-or-shuffled false false c d = refl
+use Rattle.dv_keyed.specs.Inner.PairLaws.{same-key}
+use Rattle.dv_keyed.specs.Inner.ListLaws.{any-and, any-kept, or-shuffled}
 
 any-swap : {X Y : Type 0} (r : X → Y → Bool) (xs : List X) (ys : List Y) → list_any (λ x. list_any (λ y. r x y) ys) xs ≡ list_any (λ y. list_any (λ x. r x y) xs) ys
 any-swap {Y = Y} r [] ys = sym (never ys)
@@ -59,12 +35,12 @@ module _ (keys : List KeyTree) (id : KeyTree) (gone ps : List Pair) where
       at false e = refl
 
   turned : (h n g : Bool) → (n && g) && h ≡ g && (h && n)
-  turned true n g = and-true (n && g) ∙ swapped n g
-  turned false n g = swapped (n && g) false ∙ swapped false g
+  turned true n g = and-true (n && g) ∙ and_comm n g
+  turned false n g = and_comm (n && g) false ∙ and_comm false g
 
   gathered : (p : Pair) → list_any (λ k. is_eq (key_order k p.0) && (other p && not (has_pair p.0 p.1 gone))) keys ≡ not (has_pair p.0 p.1 gone) && (has_key p.0 keys && other p)
   gathered p =
-      ap (λ t. list_any t keys) (λ j k. ((ap (λ b. b && (other p && not (has_pair p.0 p.1 gone))) (equal-back k p.0)) ∙ swapped (is_eq (key_order p.0 k)) (other p && not (has_pair p.0 p.1 gone))) j)
+      ap (λ t. list_any t keys) (λ j k. ((ap (λ b. b && (other p && not (has_pair p.0 p.1 gone))) (equal-back k p.0)) ∙ and_comm (is_eq (key_order p.0 k)) (other p && not (has_pair p.0 p.1 gone))) j)
       ∙ any-and (other p && not (has_pair p.0 p.1 gone)) (λ k. is_eq (key_order p.0 k)) keys
       ∙ turned (has_key p.0 keys) (other p) (not (has_pair p.0 p.1 gone))
 

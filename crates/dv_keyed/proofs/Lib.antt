@@ -1,4 +1,3 @@
-pub mod Lists
 pub mod Ends
 pub mod Entries
 pub mod Several
@@ -16,5 +15,4 @@ pub mod Only
 pub mod Bars
 pub mod Copied
 pub mod Packed
-pub mod Left
 pub mod Gone

@@ -4,12 +4,12 @@ use Rattle.std.specs.Ordering.{is_eq}
 use Rattle.std.proofs.lemmas.Bool.{or_left, or_right}
 use Rattle.std.proofs.lemmas.Cmp.{alike_right}
 use Rattle.std.proofs.lemmas.List.Folds.{list_any-append}
+use Rattle.std.proofs.Math.Bool.{or-false, and-true}
 use Rattle.dv_order.specs.Key.{KeyTree, key_order}
-use Rattle.dv_order.specs.Inner.KeyLaws.{key_order_total}
+use Rattle.dv_order.specs.Inner.KeyLaws.{key_order_total, equal-from}
 use Rattle.dv_keyed.specs.Inner.Keys.{has_key}
 use Rattle.dv_keyed.specs.Inner.Pairs.{AreNoted, IsOnlyKey, Pair, has_pair}
-use Rattle.dv_keyed.proofs.Lists.{equal-from, or-false}
-use Rattle.dv_keyed.proofs.Several.{same-id}
+use Rattle.dv_keyed.specs.Inner.PairLaws.{same-id}
 
 either-way : {T E P Q G : Type 0} (r : Result T E) → OnOk r P → OnErr r Q → (P → G) → (Q → G) → G
 either-way (Ok x) p q f g = f p
@@ -32,10 +32,6 @@ noted-still several more ps qs h grown kept i out k there l also = h i (grown i 
 not-first : (a b : Bool) → a || b ≡ false → a ≡ false
 not-first true b e = e
 not-first false b e = refl
-
-pub and-true : (a : Bool) → a && true ≡ a
-and-true true = refl
-and-true false = refl
 
 pub less-kept : (a b : Bool) → a && b ≡ true → a ≡ true
 less-kept true b e = refl

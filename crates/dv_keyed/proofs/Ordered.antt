@@ -13,12 +13,13 @@ use Rattle.std.proofs.lemmas.List.Sorted.{list_any-IsPermutation}
 use Rattle.dv_value.specs.Tree.{Tree}
 use Rattle.dv_value.specs.View.{tree}
 use Rattle.dv_value.specs.declared.value.Value.{Value}
+use Rattle.dv_value.specs.Inner.ListLaws.{any-map}
 use Rattle.dv_order.specs.Key.{KeyTree, key_order, value}
 use Rattle.dv_order.specs.Order.{canon}
-use Rattle.dv_order.specs.Inner.KeyLaws.{key_order_total}
+use Rattle.dv_order.specs.Inner.KeyLaws.{key_order_total, equal-from}
 use Rattle.dv_path.specs.LeafKeys.{is_key_of, is_some_key}
 use Rattle.dv_keyed.specs.Inner.Keys.{has_key}
-use Rattle.dv_keyed.proofs.Lists.{any-map, any-one-more, equal-from}
+use Rattle.dv_keyed.specs.Inner.ListLaws.{any-one-more}
 
 abbrev pub now : Bor KeyTree → KeyTree
 now x = x.now

@@ -11,7 +11,7 @@ use Rattle.dv_keyed.specs.Inner.Keys.{has_key}
 use Rattle.dv_keyed.specs.Inner.Pairs.{Pair, has_pair}
 use Rattle.dv_keyed.specs.Inner.Decided.{HasKeyWithin}
 use Rattle.dv_keyed.specs.Inner.Within.{covers}
-use Rattle.dv_keyed.proofs.Several.{same-key}
+use Rattle.dv_keyed.specs.Inner.PairLaws.{same-key}
 
 module _ (p : KeyTree → Bool) where
   -- a key of the list that passes a test

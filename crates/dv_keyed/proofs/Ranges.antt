@@ -10,11 +10,11 @@ use Rattle.std.proofs.lemmas.Bool.{or_left, or_right}
 use Rattle.std.proofs.lemmas.List.Elements.{filter-append}
 use Rattle.std.proofs.lemmas.List.Folds.{list_any-append}
 use Rattle.dv_order.specs.Key.{KeyTree, key_order}
-use Rattle.dv_order.specs.Inner.KeyLaws.{key_order_total}
+use Rattle.dv_order.specs.Inner.KeyLaws.{key_order_total, equal-from}
 use Rattle.dv_keyed.specs.Inner.Keys.{has_key}
 use Rattle.dv_keyed.specs.Inner.Pairs.{Pair, has_pair, has_id, is_pair_of, pairs_of}
-use Rattle.dv_keyed.proofs.Lists.{any-map, equal-from}
 use Rattle.dv_keyed.proofs.Entries.{Entry}
+use Rattle.dv_value.specs.Inner.ListLaws.{any-map}
 
 -- the `_id`s of the pairs of one key, and of the others
 pub ids-of-entry : (i : KeyTree) (e : Entry) (es : List Entry) → has_id i (pairs_of (e ∷ es)) ≡ has_key i e.1 || has_id i (pairs_of es)

@@ -1,12 +1,14 @@
 -- Pairs of several keys with one `_id`, added or taken out one after the other.
-use Rattle.std.proofs.Common.{Result, Ok, Err, OnErr, ◌≡◌, ℕ, zero, suc, List, [], ◌∷◌, map, take, refl, ap, sym, ◌∙◌, Bool, true, false, cond, not, ◌||◌, ◌&&◌, filter, Bor}
+use Rattle.std.proofs.Common.{Result, Ok, Err, OnErr, ◌≡◌, ℕ, zero, suc, List, [], ◌∷◌, map, take, refl, ap, sym, ◌∙◌, Bool, true, false, not, ◌||◌, ◌&&◌, filter, Bor}
+use Rattle.std.proofs.Math.Bool.{and-false, and_comm}
+use Rattle.std.proofs.lemmas.Map.Views.{any-filter_same}
 use Rattle.std.specs.List.{list_any}
 use Rattle.std.specs.Ordering.{is_eq}
 use Rattle.dv_order.specs.Key.{KeyTree, key_order}
-use Rattle.dv_order.specs.Inner.KeyLaws.{key_order_total}
 use Rattle.dv_keyed.specs.Inner.Keys.{has_key}
 use Rattle.dv_keyed.specs.Inner.Pairs.{Pair, has_pair}
-use Rattle.dv_keyed.proofs.Lists.{any-map, equal-from}
+use Rattle.dv_keyed.specs.Inner.PairLaws.{same-key, same-id}
+use Rattle.dv_value.specs.Inner.ListLaws.{any-map}
 
 pub on-err : {T E P : Type 0} (r : Result T E) → P → OnErr r P
 on-err (Ok x) p = tt
@@ -56,27 +58,9 @@ pub keys-lent : (k : KeyTree) (ls : List (Bor KeyTree)) → list_any (λ l. is_e
 keys-lent k ls = sym (any-map (λ l. is_eq (key_order k l)) (λ (l : Bor KeyTree). l.now) ls)
 
 -- ---- the keys whose pairs aren't there
-and-false : (a : Bool) → a && false ≡ false
-and-false true = refl
-and-false false = refl
 
 pub any-filter : (p q : KeyTree → Bool) (b : Bool) → ((l : KeyTree) → p l ≡ true → q l ≡ b) → (ls : List KeyTree) → list_any p (filter q ls) ≡ list_any p ls && b
-any-filter p q b agree [] = refl
-any-filter p q b agree (l ∷ ls) = one (q l) (p l) (filter q ls) (list_any p ls) (any-filter p q b agree ls) (agree l) refl
-  where
-    one : (a x : Bool) (rest : List KeyTree) (r : Bool) → list_any p rest ≡ r && b → (x ≡ true → a ≡ b) → p l ≡ x → list_any p (cond a (l ∷ rest) rest) ≡ (x || r) && b
-    one true true rest r e h is = ap (λ c. c || list_any p rest) is ∙ h refl
-    one true false rest r e h is = ap (λ c. c || list_any p rest) is ∙ e
-    one false true rest r e h is = e ∙ ap (λ c. r && c) (sym (h refl)) ∙ and-false r ∙ h refl
-    one false false rest r e h is = e
-
--- keys that stand beside each other have the same pairs
-pub same-key : (k l id : KeyTree) (ps : List Pair) → is_eq (key_order k l) ≡ true → has_pair k id ps ≡ has_pair l id ps
-same-key k l id ps e = ap (λ t. list_any t ps) (λ j p. is_eq (key_order_total.congr k l p.0 (equal-from (key_order k l) e) j) && is_eq (key_order id p.1))
-
--- and so `_id`s
-pub same-id : (k i id : KeyTree) (ps : List Pair) → is_eq (key_order i id) ≡ true → has_pair k i ps ≡ has_pair k id ps
-same-id k i id ps e = ap (λ t. list_any t ps) (λ j p. is_eq (key_order k p.0) && is_eq (key_order_total.congr i id p.1 (equal-from (key_order i id) e) j))
+any-filter p q b agree ls = any-filter_same p q b agree ls ∙ and_comm b (list_any p ls)
 
 fresh-keys : (ks : List KeyTree) (ps : List Pair) (id k : KeyTree) → has_key k (filter (λ l. not (has_pair l id ps)) ks) ≡ has_key k ks && not (has_pair k id ps)
 fresh-keys ks ps id k =

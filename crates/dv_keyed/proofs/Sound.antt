@@ -2,17 +2,15 @@
 use Rattle.std.proofs.Common.{◌≡◌, ◌∙◌, ◌↔◌, ◌⊎◌, inl, inr, ℕ, suc, ◌+◌, arith, List, [], ◌∷◌, map, refl, ap, sym, Bool, true, false, cond, ◌&&◌, ◌||◌, ◌==◌, Option, Some, None, slice_get}
 use Rattle.std.specs.List.{list_any}
 use Rattle.std.specs.Option.{option_map, option_or}
-use Rattle.std.specs.Str.{bytes_eq}
 use Rattle.std.specs.Ordering.{is_eq, is_ne}
 use Rattle.std.specs.declared.cmp.Ordering.TheVariants.{Equal}
-use Rattle.std.proofs.lemmas.Slice.Eq.{bytes_eq-Decides}
 use Rattle.std.proofs.Math.Bool.{and-true}
-use Rattle.std.proofs.lemmas.Bool.{or_left, or_right}
+use Rattle.std.proofs.lemmas.Bool.{or_left, or_right, and_parts}
 use Rattle.std.proofs.lemmas.Cmp.{tied_itself}
 use Rattle.dv_value.specs.Tree.{Tree, Field}
 use Rattle.dv_order.specs.Order.{canon, class, order}
 use Rattle.dv_order.specs.Key.{KeyTree, no_element, value, key_class, key_order}
-use Rattle.dv_order.specs.Inner.KeyLaws.{key_order_total, no_class, no_class_back}
+use Rattle.dv_order.specs.Inner.KeyLaws.{key_order_total, no_class, no_class_back, equal-from}
 use Rattle.dv_candidates.specs.Candidates.{Candidate, leaves, or_null, whole}
 use Rattle.dv_path.specs.LeafKeys.{is_key_of, is_leaf_key, is_some_key, leaf_values}
 use Rattle.dv_match.specs.declared.range.Range.{Range}
@@ -21,29 +19,16 @@ use Rattle.dv_match.specs.Filter.{Member, all_of, any_of, none_of, at_path, Memb
 use Rattle.dv_match.specs.Match.{stands, matches, matches_member, matches_all, meets_all, meets}
 use Rattle.dv_keyed.specs.Choice.{is_point, is_bound, same_path, first_of, first_in, first_in_member, first_in_all, first_place, chosen}
 use Rattle.dv_keyed.proofs.Ends.{class-canon}
-use Rattle.dv_keyed.proofs.Lists.{both, equal-from}
 use Rattle.dv_keyed.specs.Inner.Decided.{HasOneKey, IsClosed, IsClosedUnder, is_one_condition, is_one_under}
 use Rattle.dv_keyed.specs.Inner.Interval.{is_between}
 use Rattle.dv_keyed.specs.declared.interval.Interval.{Interval}
 use Rattle.dv_keyed.specs.Within.{is_within, has_within}
 use Rattle.dv_keyed.specs.Inner.Within.{stands_so, covers}
-
-pub some-same : {X : Type 0} (x y : X) → Some x ≡ Some y → x ≡ y
-some-same x y e = cc
+use Rattle.dv_keyed.specs.Inner.ListLaws.{one-path, some-same}
 
 either-or : {X : Type 0} (o p : Option X) (x : X) → option_or o p ≡ Some x → (o ≡ Some x) ⊎ (p ≡ Some x)
 either-or None p x e = inr e
 either-or (Some y) p x e = inl e
-
-pub one-path : (p q : List (List ℕ)) → same_path p q ≡ true → p ≡ q
-one-path [] [] e = refl
-one-path [] (y ∷ ys) e = absurd cc
-one-path (x ∷ xs) [] e = absurd cc
-one-path (x ∷ xs) (y ∷ ys) e =
-    let parts = both (bytes_eq x y) (same_path xs ys) e in
-    let first : x ≡ y = (bytes_eq-Decides x y).0 parts.0 in
-    let rest = one-path xs ys parts.1 in
-    cc
 
 -- a condition that passes a test and is met
 abbrev Found : (Condition → Bool) → List (List ℕ) → Condition → List Field → Type 0
@@ -55,7 +40,7 @@ chosen-condition test no_conditions c ws ls e h = absurd cc
 chosen-condition test (more_conditions x cs) c ws ls e h = at (test x) refl e (chosen-condition test cs c ws ls)
   where
     parts : (meets x ws ls ≡ true) × (meets_all cs ws ls ≡ true)
-    parts = both (meets x ws ls) (meets_all cs ws ls) h
+    parts = and_parts (meets x ws ls) (meets_all cs ws ls) h
 
     at : (b : Bool) → test x ≡ b → cond b (Some x) (first_of test cs) ≡ Some c → (first_of test cs ≡ Some c → meets_all cs ws ls ≡ true → (test c ≡ true) × (meets c ws ls ≡ true)) → (test c ≡ true) × (meets c ws ls ≡ true)
     at true f g rest = let same : x ≡ c = cc in (ap test (sym same) ∙ f, ap (λ y. meets y ws ls) (sym same) ∙ parts.0)
@@ -73,7 +58,7 @@ mutual
   pub found-in : (test : Condition → Bool) (path : List (List ℕ)) (c : Condition) (d : List Field) (ms : Members) → first_in test path ms ≡ Some c → matches ms d ≡ true → Found test path c d
   found-in test path c d no_members e h = absurd cc
   found-in test path c d (more_members m ms) e h =
-      let parts = both (matches_member m d) (matches ms d) h in
+      let parts = and_parts (matches_member m d) (matches ms d) h in
       elim (either-or (first_in_member test path m) (first_in test path ms) c e) [ inl here ↦ found-in-member test path c d m here parts.0 | inr later ↦ found-in test path c d ms later parts.1 ]
 
   found-in-member : (test : Condition → Bool) (path : List (List ℕ)) (c : Condition) (d : List Field) (m : Member) → first_in_member test path m ≡ Some c → matches_member m d ≡ true → Found test path c d
@@ -85,7 +70,7 @@ mutual
   found-in-all : (test : Condition → Bool) (path : List (List ℕ)) (c : Condition) (d : List Field) (fs : Filters) → first_in_all test path fs ≡ Some c → matches_all fs d ≡ true → Found test path c d
   found-in-all test path c d no_filters e h = absurd cc
   found-in-all test path c d (more_filters f fs) e h =
-      let parts = both (matches f d) (matches_all fs d) h in
+      let parts = and_parts (matches f d) (matches_all fs d) h in
       elim (either-or (first_in test path f) (first_in_all test path fs) c e) [ inl here ↦ found-in test path c d f here parts.0 | inr later ↦ found-in-all test path c d fs later parts.1 ]
 
 -- ---- the index at the chosen place
@@ -266,7 +251,7 @@ module _ (law : (v w : Tree) → key_order (value (canon v)) (value (canon w)) �
     closed-under : (ends : Interval) (path : List (List ℕ)) (m : Member) (d : List Field) → IsClosedUnder ends path m → HasOneKey path d → (matches (more_members m no_members) d ≡ true) ↔ ((k : KeyTree) × (is_between ends k ≡ true) × (is_leaf_key k path d ≡ true))
     closed-under ends path (at_path p (more_conditions c (more_conditions e no_conditions))) d is one =
         let met : matches (two p c e) d ≡ has_within c path d && has_within e path d = matches-two p c e d ∙ (λ j. meets c (whole d (is.0 j)) (leaves d (is.0 j)) && meets e (whole d (is.0 j)) (leaves d (is.0 j))) ∙ (λ j. met-bound c path d is.1.0 j && met-bound e path d is.1.1 j) in
-        (λ m. let within = both (has_within c path d) (has_within e path d) (sym met ∙ m) in in-both ends path c e d is.1.2 one within.0 within.1, λ u. let covered = both (covers c u.0) (covers e u.0) (sym (is.1.2 u.0) ∙ u.1) in met ∙ (λ j. of-a-leaf c path d u.0 covered.0 u.2 j && of-a-leaf e path d u.0 covered.1 u.2 j))
+        (λ m. let within = and_parts (has_within c path d) (has_within e path d) (sym met ∙ m) in in-both ends path c e d is.1.2 one within.0 within.1, λ u. let covered = and_parts (covers c u.0) (covers e u.0) (sym (is.1.2 u.0) ∙ u.1) in met ∙ (λ j. of-a-leaf c path d u.0 covered.0 u.2 j && of-a-leaf e path d u.0 covered.1 u.2 j))
     closed-under ends path (at_path p no_conditions) d is one = absurd is.1
     closed-under ends path (at_path p (more_conditions c no_conditions)) d is one = absurd is.1
     closed-under ends path (at_path p (more_conditions c (more_conditions e (more_conditions f cs)))) d is one = absurd is.1

@@ -9,3 +9,5 @@ pub mod Ahead
 pub mod Interval
 pub mod Decided
 pub mod Examples
+pub mod ListLaws
+pub mod PairLaws

@@ -3,12 +3,12 @@ use Rattle.std.proofs.Common.{Bor, ◌≡◌, ◌∙◌, ◌∷◌, ap, ap₂, s
 use Rattle.dv_value.specs.declared.value.Value.{Value}
 use Rattle.dv_value.specs.Tree.{Tree, array, elements_of}
 use Rattle.dv_value.specs.View.{tree}
+use Rattle.dv_value.specs.Inner.TreeLaws.{elements_again}
 use Rattle.dv_candidates.specs.declared.candidate.Candidate as memory
 use Rattle.dv_candidates.specs.declared.candidate.Candidate.TheVariants.{Found}
 use Rattle.dv_candidates.specs.Candidates.{with_elements}
 use Rattle.dv_candidates.specs.View.{seen}
 use Rattle.dv_match.specs.Match.{has_size, elements_in}
-use Rattle.dv_match.proofs.Items.{elements_again}
 use Rattle.std.specs.Prelude.{ℕ, length, ◌==◌}
 
 module _ (c : memory.Candidate) (value : Bor Value) (at : c ≡ Found value) (l : List Tree) (is : value.now ≡ Value.Array l) where

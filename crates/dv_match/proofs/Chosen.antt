@@ -17,10 +17,11 @@ use Rattle.std.proofs.lemmas.Map.Keys.{Less-from_sorted}
 use Rattle.dv_value.specs.Tree.{Tree}
 use Rattle.dv_value.specs.View.{tree}
 use Rattle.dv_value.specs.declared.value.Value.{Value}
+use Rattle.dv_value.specs.Inner.ListLaws.{any-map}
 use Rattle.dv_order.specs.Order.{order}
 use Rattle.dv_order.specs.Inner.TotalOrder.{order_total}
+use Rattle.dv_order.specs.Inner.KeyLaws.{equal-from}
 use Rattle.dv_match.specs.Inner.Choices.{value_order, Ascend, RespectsEqual, AreChoicesInOrder, IsPlaceOf}
-use Rattle.dv_match.proofs.Items.{any-map}
 
 abbrev pub stands_before : Value → Value → Bool
 stands_before v w = is_lt (value_order v w)
@@ -33,11 +34,6 @@ ranked = ranks_by order_total tree
 
 total : IsTotalOrder value_order
 total = on_total tree order_total
-
-equal-from : (o : Ordering) → is_eq o ≡ true → o ≡ Equal
-equal-from Less e = cc
-equal-from Equal e = refl
-equal-from Greater e = cc
 
 or-twice : (a b : Bool) → a || b ≡ a || (a || b)
 or-twice true b = refl

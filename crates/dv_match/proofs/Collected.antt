@@ -1,6 +1,5 @@
 -- Parts that are parsed one after the other.
-use Rattle.std.proofs.Common.{◌≡◌, ◌∙◌, ap, sym, refl, List, [], ◌∷◌, ◌++◌, ℕ, zero, suc, ◌+◌, add-one, drop, map, Some, None, slice_get, Result, Ok, Err, append_assoc, append-nil, Option, ◌==◌, false, ◌<◌, ◌≤◌, length, get_or, arith, ◌⊎◌, inl, inr}
-use Rattle.std.specs.Option.{option_map}
+use Rattle.std.proofs.Common.{◌≡◌, ◌∙◌, ap, sym, refl, List, [], ◌∷◌, ◌++◌, ℕ, zero, suc, ◌+◌, add-one, drop, map, Some, None, slice_get, Result, Ok, Err, append_assoc, append-nil, ◌==◌, false, ◌<◌, ◌≤◌, length, get_or, arith, ◌⊎◌, inl, inr}
 use Rattle.std.proofs.lemmas.List.{map-append}
 use Rattle.std.proofs.lemmas.Option.{slice_get_read}
 use Rattle.dv_match.specs.declared.fault.FilterFault.TheVariants.{NoMemory}
@@ -11,6 +10,7 @@ use Rattle.dv_match.specs.declared.fault.FilterFault.{FilterFault}
 use Rattle.dv_match.specs.Filter.{Member, Members, members_of, more_members, filters_of, more_filters, Condition, conditions_of, more_conditions}
 use Rattle.dv_match.specs.Parsing.{member_named, filter_in, filter_of, filters_in, each_filter, conditions_in, operators_in, operator_named, condition_by, negated_in, test_in}
 use Rattle.dv_value.specs.Results.{◌>>=◌, Gives}
+use Rattle.dv_value.specs.Inner.ListLaws.{none-past}
 
 abbrev pub collected : {X Y : Type 0} → (X → Result Y FilterFault) → List X → Result (List Y) FilterFault
 collected f [] = Ok []
@@ -85,11 +85,6 @@ unfolding each_filter
 filters-collected [] = refl
 filters-collected (v ∷ vs) = tied (filter_of_value v) (collected filter_of_value vs) (each_filter (elements_of (map tree vs))) more_filters filters_of (filters-collected vs) (λ y ys. refl)
 
-none-past : {X : Type 0} (xs : List X) (i : ℕ) → length xs ≤ i → slice_get xs i ≡ None
-none-past [] i h = refl
-none-past (x ∷ xs) zero h = absurd (omega arith)
-none-past (x ∷ xs) (suc i) h = none-past xs i (omega arith)
-
 -- the three lists of parts, where a part is refused and where none is left
 module _ (fs : List Field) (i : ℕ) (ms : List Member) (so-far : collected member_of_field fs ≡ after ms (collected member_of_field (drop i fs))) where
   pub filter-fault : (f : Field) (e : FilterFault) → Some f ≡ slice_get fs i → member_of_field f ≡ Err e → filter_in (fields_of fs) ≡ Err e
@@ -125,10 +120,6 @@ pub within-some : {X : Type 0} (xs : List X) (i : ℕ) (x : X) → Some x ≡ sl
 within-some [] i x e = absurd cc
 within-some (y ∷ ys) zero x e = omega arith
 within-some (y ∷ ys) (suc i) x e = omega (arith, within-some ys i x e)
-
-pub none-of : {X Y : Type 0} (f : X → Y) (r : Option X) (o : Option Y) → option_map f r ≡ o → ((x : X) → r ≡ Some x → ⊥) → o ≡ None
-none-of f None o e h = sym e
-none-of f (Some x) o e h = absurd (h x refl)
 
 pub gives-fault : {X Y Y' : Type 0} (view : X → Y) (r : Result X FilterFault) (e : FilterFault) (parsed : Result Y' FilterFault) (whole : Result Y FilterFault) → r ≡ Err e → (e ≡ NoMemory) ⊎ (parsed ≡ Err e) → (parsed ≡ Err e → whole ≡ Err e) → Gives NoMemory view r whole
 gives-fault view r e parsed whole is (inl m) f = rw is (inl m)

@@ -1,5 +1,6 @@
 -- Lists of one.
 use Rattle.std.proofs.Common.{◌≡◌, ◌∙◌, ap, ap₂, refl, Bool, true, false, List, [], ◌∷◌, not, ◌||◌, ◌&&◌, codes, Ok}
+use Rattle.std.proofs.Math.Bool.{and-true}
 use Rattle.std.specs.List.{list_any}
 use Rattle.dv_value.specs.Tree.{Tree, Field}
 use Rattle.dv_candidates.specs.Candidates.{Candidate, whole, leaves}
@@ -34,10 +35,6 @@ among_none wholes parts = any-none parts
 pub nor_one : (f : Members) (d : List Field) → matches_member (none_of (more_filters f no_filters)) d ≡ not (matches f d)
 unfolding matches_member matches_any
 nor_one f d = ap not (or-none (matches f d))
-
-and-true : (a : Bool) → a && true ≡ a
-and-true true = refl
-and-true false = refl
 
 pub interval : (r s : Range) (v w : Tree) (wholes : List Candidate) (c : Candidate) → meets_all (more_conditions (in_range r v) (more_conditions (in_range s w) no_conditions)) wholes (c ∷ []) ≡ (is_in_range r v c && is_in_range s w c)
 unfolding meets_all meets

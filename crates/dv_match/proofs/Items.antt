@@ -1,21 +1,14 @@
 -- What some or every item of a list is, where a loop has come to one of them.
 use Rattle.std.proofs.Common.{◌≡◌, ℕ, zero, suc, ◌<◌, ◌≤◌, List, [], ◌∷◌, length, map, take, take_all, get_or, refl, ap, sym, ◌∙◌, arith, Bool, true, false, ◌||◌, ◌&&◌}
+use Rattle.std.proofs.Math.Bool.{and-false}
 use Rattle.std.specs.List.{list_any, list_all}
 use Rattle.dv_value.specs.declared.value.Value.{Value}
 use Rattle.dv_value.specs.View.{tree}
-use Rattle.dv_value.specs.Tree.{Tree, Field, elements_of, list_of_elements, fields_of, list_of_fields}
+use Rattle.dv_value.specs.Inner.ListLaws.{any-map}
 
 pub or-true : (a : Bool) → a || true ≡ true
 or-true true = refl
 or-true false = refl
-
-pub and-false : (a : Bool) → a && false ≡ false
-and-false true = refl
-and-false false = refl
-
-pub and-true : (a : Bool) → a && true ≡ a
-and-true true = refl
-and-true false = refl
 
 pub any-at : {X : Type 0} (p : X → Bool) (xs : List X) (i : ℕ) (x : X) → i < length xs → x ≡ get_or xs i x → p x ≡ true → list_any p xs ≡ true
 any-at p [] i x within is h = absurd (omega arith)
@@ -29,10 +22,6 @@ all-at p (y ∷ ys) (suc i) x within is h = ap (λ b. p y && b) (all-at p ys i x
 
 pub whole-list : {X : Type 0} (i : ℕ) (xs : List X) → length xs ≤ i → xs ≡ take i xs
 whole-list i xs end = sym (take_all i xs end)
-
-pub any-map : {X Y : Type 0} (p : Y → Bool) (view : X → Y) (xs : List X) → list_any p (map view xs) ≡ list_any (λ x. p (view x)) xs
-any-map p view [] = refl
-any-map p view (x ∷ xs) = ap (λ b. p (view x) || b) (any-map p view xs)
 
 pub all-map : {X Y : Type 0} (p : Y → Bool) (view : X → Y) (xs : List X) → list_all p (map view xs) ≡ list_all (λ x. p (view x)) xs
 all-map p view [] = refl
@@ -57,14 +46,6 @@ module _ {X Y : Type 0} (p : Y → Bool) (view : X → Y) (xs : List X) (ys : Li
 
   pub all-over : length xs ≤ i → list_all (λ x. p (view x)) (take i xs) ≡ true → list_all p ys ≡ true
   all-over end h = seen-all ∙ ap (list_all (λ x. p (view x))) (sym (take_all i xs end)) ∙ h
-
-pub elements_again : (vs : List Tree) → list_of_elements (elements_of vs) ≡ vs
-elements_again [] = refl
-elements_again (v ∷ vs) = ap (λ ws. v ∷ ws) (elements_again vs)
-
-pub fields_again : (fs : List Field) → list_of_fields (fields_of fs) ≡ fs
-fields_again [] = refl
-fields_again (f ∷ fs) = ap (λ gs. f ∷ gs) (fields_again fs)
 
 pub length-seen : (vs : List Value) → length (map tree vs) ≡ length vs
 length-seen [] = refl

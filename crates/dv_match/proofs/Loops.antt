@@ -9,9 +9,9 @@ use Rattle.dv_match.specs.declared.form.Test as tests
 use Rattle.dv_match.specs.declared.form.Test.TheVariants as kinds
 use Rattle.dv_value.specs.declared.value.Value.{Value}
 use Rattle.dv_value.specs.View.{tree}
-use Rattle.dv_match.proofs.Items.{fields_again}
+use Rattle.dv_value.specs.Inner.TreeLaws.{fields_again}
 use Rattle.dv_match.specs.Filter.{Members, members_of, filters_of, conditions_of}
-use Rattle.dv_match.specs.Inner.Filter.{member_weight, members_weight, filters_weight, condition_weight, conditions_weight}
+use Rattle.dv_match.specs.Inner.Filter.{condition_weight, conditions_weight}
 use Rattle.dv_match.specs.Match.{matches, matches_member, matches_all, matches_any, meets, meets_all, passes}
 use Rattle.dv_match.specs.View.{member, condition, test}
 
@@ -34,16 +34,6 @@ pub meets-each : (cs : List conditions.Condition) (wholes parts : List Candidate
 unfolding meets_all
 meets-each [] wholes parts = refl
 meets-each (c ∷ cs) wholes parts = ap (λ b. meets (condition c) wholes parts && b) (meets-each cs wholes parts)
-
-pub member-weighs : (ms : List memory.Member) (i : ℕ) (m : memory.Member) → i < length ms → m ≡ get_or ms i m → member_weight (member m) ≤ members_weight (members_of (map member ms))
-member-weighs [] i m within is = absurd (omega arith)
-member-weighs (n ∷ ms) zero m within is = omega (arith, ap (λ x. member_weight (member x)) is)
-member-weighs (n ∷ ms) (suc i) m within is = omega (arith, member-weighs ms i m (omega arith) is)
-
-pub filter-weighs : (fs : List Members) (i : ℕ) (f : Members) → i < length fs → f ≡ get_or fs i f → members_weight f < filters_weight (filters_of fs)
-filter-weighs [] i f within is = absurd (omega arith)
-filter-weighs (g ∷ fs) zero f within is = omega (arith, ap members_weight is)
-filter-weighs (g ∷ fs) (suc i) f within is = omega (arith, filter-weighs fs i f (omega arith) is)
 
 pub condition-weighs : (cs : List conditions.Condition) (i : ℕ) (c : conditions.Condition) → i < length cs → c ≡ get_or cs i c → condition_weight (condition c) ≤ conditions_weight (conditions_of (map condition cs))
 condition-weighs [] i c within is = absurd (omega arith)

@@ -8,3 +8,4 @@ pub mod FilterCode
 pub mod PathFault
 pub mod ViewFalls
 pub mod Parsing
+pub mod FilterLaws

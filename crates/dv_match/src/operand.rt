@@ -44,7 +44,7 @@ fn is_operator_list(value: &Value) -> bool
 }
 
 /// The values of an array.
-#[tactic(auto, using(crate::proofs::Items::elements_again))]
+#[tactic(auto, using(dv_value::specs::Inner::TreeLaws::elements_again))]
 pub(crate) fn choices_of(value: &Value) -> Result<Choices, FilterFault>
     ensures { Gives no_memory (λ choices. choices) result (defined.values_in (tree value.now)) }
 {
@@ -55,7 +55,7 @@ pub(crate) fn choices_of(value: &Value) -> Result<Choices, FilterFault>
 }
 
 /// The values of an array, none of which is an operator list.
-#[tactic(auto, using(crate::proofs::Items::elements_again))]
+#[tactic(auto, using(dv_value::specs::Inner::TreeLaws::elements_again))]
 pub(crate) fn plain_choices_of(value: &Value) -> Result<Choices, FilterFault>
     ensures { Gives no_memory (λ choices. choices) result (defined.plain_values (tree value.now)) }
 {

@@ -3,11 +3,12 @@ use Rattle.std.proofs.Common.{◌≡◌, ℕ, zero, suc, ◌+◌, ◌<◌, List,
 use Rattle.std.specs.Int.{w32, to_le_bytes}
 use Rattle.std.specs.List.{AllByRecursion}
 use Rattle.dv_value.specs.Spelling.{IsBytes}
+use Rattle.dv_value.specs.Inner.ByteLaws.{IsBytes-take, IsBytes-drop}
 use Rattle.dv_message.specs.Bytes.{BringsBytes, IsByteSplit}
 use Rattle.dv_message.specs.Sections.{Section, body, named, sized, row_spelling, section_spelling, sections_spelling, number_after}
 use Rattle.dv_message.specs.Message.{Message, StreamFront, unfinished, closing, whole, stream_front, split}
 use Rattle.dv_message.proofs.Fronts.{front_shows}
-use Rattle.dv_message.proofs.Bytes.{IsBytes-take, IsBytes-drop, IsBytes-front, IsBytes-behind}
+use Rattle.dv_message.proofs.Bytes.{IsBytes-front, IsBytes-behind}
 use Rattle.dv_message.proofs.Together.{sections_spelled}
 use Rattle.dv_message.proofs.Streams.{following_shorter, split_unfinished, split_closing, split_whole}
 

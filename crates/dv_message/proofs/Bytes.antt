@@ -1,21 +1,11 @@
 -- Bytes, and numbers in four of them.
-use Rattle.std.proofs.Common.{◌≡◌, ℕ, zero, suc, ◌+◌, ◌≤◌, ◌<◌, ◌^◌, List, [], ◌∷◌, ◌++◌, length, get_or, take, drop, refl, sym, ap, subst, ◌∙◌, arith, inl, inr}
+use Rattle.std.proofs.Common.{◌≡◌, ℕ, zero, suc, ◌+◌, ◌≤◌, ◌<◌, ◌^◌, List, [], ◌∷◌, ◌++◌, length, get_or, take, drop, refl, sym, ap, subst, ◌∙◌, arith}
 use Rattle.std.specs.Int.{w32, from_le_bytes, to_le_bytes}
-use Rattle.std.proofs.lemmas.Bool.{cases_lt}
-use Rattle.std.proofs.lemmas.List.{length-take, length-take-le, length-drop, get_or-drop, get_or-take, get_or_past, take_at, drop_at, drop-append-le, take-append-le}
+use Rattle.std.proofs.lemmas.List.{length-take-le, length-drop, take_at, drop_at, drop-append-le, take-append-le}
 use Rattle.std.proofs.lemmas.Nat.{le_bytes_4}
 use Rattle.dv_value.specs.Spelling.{IsBytes}
+use Rattle.dv_value.specs.Inner.ByteLaws.{IsBytes-take, IsBytes-drop}
 use Rattle.dv_message.specs.Sections.{number_after}
-
-pub IsBytes-take : (n : ℕ) (bytes : List ℕ) → IsBytes bytes → IsBytes (take n bytes)
-IsBytes-take n bytes h i =
-    elim (cases_lt i n) [
-      | inl lt ↦ rw (get_or-take n bytes i 0 lt) (h i)
-      | inr le ↦ rw (get_or_past (take n bytes) i 0 (omega (arith, length-take n bytes))) (omega arith)
-    ]
-
-pub IsBytes-drop : (n : ℕ) (bytes : List ℕ) → IsBytes bytes → IsBytes (drop n bytes)
-IsBytes-drop n bytes h i = rw get_or-drop (h (n + i))
 
 pub IsBytes-behind : (a b : List ℕ) → IsBytes (a ++ b) → IsBytes b
 IsBytes-behind a b h = subst IsBytes (drop_at a b (length a) refl) (IsBytes-drop (length a) (a ++ b) h)

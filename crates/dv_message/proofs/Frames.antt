@@ -9,8 +9,9 @@ use Rattle.std.proofs.lemmas.Nat.{from_le_bytes-to_le_bytes_4}
 use Rattle.dv_value.specs.Names.{has_zero}
 use Rattle.dv_bson.specs.Reading.{cut_at_zero, onto_name}
 use Rattle.dv_value.specs.Spelling.{IsBytes}
+use Rattle.dv_value.specs.Inner.ByteLaws.{IsBytes-drop}
 use Rattle.dv_message.specs.Sections.{Section, body, named, sized, row_spelling, section_spelling, is_framed, is_section, number_after, section_frame, section_documents, section_under, section_named, section_of, followed, section_by, section_at}
-use Rattle.dv_message.proofs.Bytes.{IsBytes-drop, IsBytes-behind, IsBytes-front, four, number_same}
+use Rattle.dv_message.proofs.Bytes.{IsBytes-behind, IsBytes-front, four, number_same}
 use Rattle.dv_message.proofs.Rows.{Advances, IsSpelledBy, row_spelled, row_found}
 
 -- ---- frames

@@ -1,67 +1,22 @@
 -- Names: where they end, and whether two are equal.
-use Rattle.std.proofs.Common.{◌≡◌, ℕ, suc, ◌+◌, ◌-◌, Bool, true, false, ◌||◌, not, cond, ltb, ◌==◌, if◌then◌else◌, List, [], ◌∷◌, ◌++◌, length, take, drop, Option, Some, None, Bor, refl, sym, ap, ◌∙◌, arith, add-one, inl, inr}
-use Rattle.std.specs.Prelude.{position, option_map}
+use Rattle.std.proofs.Common.{◌≡◌, ℕ, ◌+◌, ◌-◌, Bool, true, false, ◌||◌, not, List, [], ◌∷◌, ◌++◌, Bor, refl, sym, ap, ◌∙◌, arith}
 use Rattle.std.specs.BTreeMap.{is_at}
 use Rattle.std.specs.BTreeSet.{insert_key}
 use Rattle.std.specs.Cmp.Lexicographic.{slice_cmp}
 use Rattle.std.specs.Ordering.{nat_cmp, is_eq, match_ordering}
 use Rattle.std.specs.declared.cmp.Ordering.{Ordering}
 use Rattle.std.specs.declared.cmp.Ordering.TheVariants.{Less, Equal, Greater}
-use Rattle.std.specs.List.{list_any, position_or_len}
-use Rattle.std.specs.Str.{bytes_eq, is_utf8, IsUtf8}
+use Rattle.std.specs.List.{list_any}
+use Rattle.std.specs.Str.{bytes_eq}
 use Rattle.std.proofs.Math.Bool.{and-false}
-use Rattle.std.proofs.lemmas.Bool.{cases_lt, lt-ltb, le-ltb, and_parts, or_parts}
-use Rattle.std.proofs.lemmas.Bool.Decides.{same_from_decides}
-use Rattle.std.proofs.lemmas.List.{append-nil, take_all, length-drop}
+use Rattle.std.proofs.lemmas.Bool.{and_parts, or_parts}
+use Rattle.std.proofs.lemmas.List.{append-nil}
 use Rattle.std.proofs.lemmas.List.Folds.{list_any-append}
 use Rattle.std.proofs.lemmas.Slice.Eq.{bytes_eq-Decides}
 use Rattle.std.proofs.lemmas.Map.Text.{is_eq-slice_cmp}
-use Rattle.std.proofs.lemmas.Str.{IsUtf8-from_is_utf8}
-use Rattle.dv_bson.specs.Reading.{cut_at_zero, onto_name}
 use Rattle.dv_message.specs.Sections.{Section, body, named, body_count, are_distinct, names_among}
 use Rattle.dv_message.proofs.Frames.{not_true}
-
--- ---- the end of a name
-
-abbrev place_behind : Bool → ℕ → ℕ
-place_behind here k = cond (not here) (1 + k) 0
-
-abbrev cut_at : List ℕ → ℕ → Option (List ℕ × List ℕ)
-cut_at bytes k = option_map (λ i. (take i bytes, drop (suc i) bytes)) (cond (ltb k (length bytes)) (Some k) None)
-
-cut_behind : (b : ℕ) (bytes : List ℕ) (k : ℕ) → onto_name b (cut_at bytes k) ≡ cut_at (b ∷ bytes) (suc k)
-cut_behind b bytes k =
-    elim (cases_lt k (length bytes)) [
-      | inl lt ↦ let here : ltb k (length bytes) ≡ true = lt-ltb _ _ lt in let above : ltb (suc k) (suc (length bytes)) ≡ true = lt-ltb _ _ (omega arith) in rw (here, above) refl
-      | inr le ↦ let here : ltb k (length bytes) ≡ false = le-ltb _ _ le in let above : ltb (suc k) (suc (length bytes)) ≡ false = le-ltb _ _ (omega arith) in rw (here, above) refl
-    ]
-
-cut_by_place : (bytes : List ℕ) → cut_at_zero bytes ≡ cut_at bytes (position_or_len (λ b. b == 0) bytes)
-unfolding cut_at_zero
-cut_by_place [] = refl
-cut_by_place (b ∷ bytes) =
-    let k = position_or_len (λ b. b == 0) bytes in
-    let one : suc k ≡ 1 + k = omega arith in
-    let front : ltb 0 (suc (length bytes)) ≡ true = lt-ltb _ _ (omega arith) in
-    elim (b == 0) as (λ here. (if here then Some ([], bytes) else onto_name b (cut_at_zero bytes)) ≡ cut_at (b ∷ bytes) (place_behind here k)) [
-      | true ↦ rw front refl
-      | false ↦ ap (onto_name b) (cut_by_place bytes) ∙ cut_behind b bytes k ∙ ap (cut_at (b ∷ bytes)) one
-    ]
-
-pub cut_none : (bytes : List ℕ) → None ≡ position (λ b. b == 0) bytes → None ≡ cut_at_zero bytes
-cut_none bytes e = ap (option_map (λ i. (take i bytes, drop (suc i) bytes))) e ∙ sym (cut_by_place bytes)
-
-pub cut_some : (bytes : List ℕ) (i : ℕ) → Some i ≡ position (λ b. b == 0) bytes → Some (take i bytes, take (length bytes - (i + 1)) (drop (i + 1) bytes)) ≡ cut_at_zero bytes
-cut_some bytes i e =
-    let whole : take (length bytes - suc i) (drop (suc i) bytes) ≡ drop (suc i) bytes = take_all (length bytes - suc i) (drop (suc i) bytes) (omega (arith, length-drop (suc i) bytes)) in
-    rw (add-one, whole) (ap (option_map (λ i. (take i bytes, drop (suc i) bytes))) e ∙ sym (cut_by_place bytes))
-
-not_text : (b : Bool) (bytes : List ℕ) → is_utf8 bytes ≡ b → (IsUtf8 bytes → ⊥) → b ≡ false
-not_text true bytes e refuted = absurd (refuted (IsUtf8-from_is_utf8 bytes e))
-not_text false bytes e refuted = refl
-
-pub is_utf8-false : (bytes : List ℕ) → (IsUtf8 bytes → ⊥) → is_utf8 bytes ≡ false
-is_utf8-false bytes refuted = not_text (is_utf8 bytes) bytes refl refuted
+use Rattle.dv_value.specs.Inner.ByteLaws.{bytes_eq-symmetric}
 
 -- ---- names in a set
 
@@ -114,9 +69,6 @@ module _ (name : List ℕ) (k : Bor (List ℕ)) where
   kept_inserted (x ∷ kept) = inserted_by x kept (slice_cmp nat_cmp k.now x.now) refl (kept_inserted kept)
 
 -- ---- names apart
-
-bytes_eq-symmetric : (a b : List ℕ) → bytes_eq a b ≡ bytes_eq b a
-bytes_eq-symmetric a b = same_from_decides _ _ (bytes_eq-Decides a b) ((λ e. sym ((bytes_eq-Decides b a).0 e)), λ e. (bytes_eq-Decides b a).1 (sym e))
 
 apart_last : (names : List (List ℕ)) (name : List ℕ) → are_distinct names ≡ true → list_any (bytes_eq name) names ≡ false → are_distinct (names ++ name ∷ []) ≡ true
 apart_last [] name apart none = refl

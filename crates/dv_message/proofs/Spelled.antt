@@ -5,10 +5,11 @@ use Rattle.std.proofs.lemmas.Bool.{le-ltb, or_from, eq-eqb, not_from_true}
 use Rattle.std.proofs.lemmas.List.{length-append, length-take-le, length-drop, take-append-drop, take_at, drop_at, drop-drop}
 use Rattle.std.proofs.lemmas.Nat.{from_le_bytes-to_le_bytes_4}
 use Rattle.dv_value.specs.Spelling.{IsBytes}
+use Rattle.dv_value.specs.Inner.ByteLaws.{IsBytes-take, IsBytes-drop}
 use Rattle.dv_message.specs.Sections.{Section, number_after, sections_spelling, sections_in}
 use Rattle.dv_message.specs.Message.{Message, message_with, IsMessage, whole, message_spelling, front_by, stream_front, has_checksum, has_unknown_flag}
 use Rattle.dv_message.proofs.Fronts.{front_shows, chain-fails}
-use Rattle.dv_message.proofs.Bytes.{IsBytes-take, IsBytes-drop, four, number_below, number_same}
+use Rattle.dv_message.proofs.Bytes.{four, number_below, number_same}
 use Rattle.dv_message.proofs.Together.{sections_spelled, sections_found, sections_long}
 
 abbrev glue : (a b c d e f : List ℕ) → List ℕ

@@ -1,15 +1,13 @@
 -- The worked examples, computed.
-use Rattle.std.proofs.Common.{◌≡◌, ℕ, true, ltb, List, [], ◌∷◌, ◌++◌, refl, lit<}
+use Rattle.std.proofs.Common.{◌≡◌, true, [], ◌∷◌, ◌++◌, refl, lit<}
 use Rattle.std.specs.List.{list_all}
-use Rattle.std.specs.Str.{is_utf8, IsAscii}
-use Rattle.std.proofs.lemmas.Bool.{ltb-true, and_parts}
-use Rattle.std.proofs.lemmas.Str.{is_utf8-from_IsUtf8, IsUtf8-from_ascii}
-use Rattle.std.proofs.lemmas.Str.Ascii.{IsAscii-nil, IsAscii-cons}
+use Rattle.std.specs.Str.{is_utf8}
 use Rattle.dv_bson.specs.Reading.{cut_at_zero}
 use Rattle.dv_message.specs.Sections.{body, named, sized, is_section, are_sections, row_within, each_in, section_frame, section_at, sections_in}
 use Rattle.dv_message.specs.Message.{stream_front, split_within, split}
 use Rattle.dv_message.proofs.Together.{sections_found, sections_refused}
 use Rattle.dv_message.specs.Inner.Examples.{Are, AreNone, empty_document, nothing_under, HeaderExamples, SectionExamples}
+use Rattle.dv_value.specs.Inner.ByteLaws.{is_text}
 
 pub headers : HeaderExamples
 unfolding split split_within stream_front sections_in each_in row_within section_at section_frame
@@ -33,14 +31,6 @@ headers = record {
   bits_above = refl;
   checksum_first = refl;
 }
-
-is_ascii_text : (bytes : List ℕ) → list_all (λ b. ltb b 128) bytes ≡ true → IsAscii bytes
-is_ascii_text [] all = IsAscii-nil
-is_ascii_text (b ∷ bytes) all = let parts = and_parts (ltb b 128) (list_all (λ c. ltb c 128) bytes) all in IsAscii-cons b bytes (ltb-true b 128 parts.0) (is_ascii_text bytes parts.1)
-
--- text below 128 is UTF-8
-is_text : (bytes : List ℕ) → list_all (λ b. ltb b 128) bytes ≡ true → is_utf8 bytes ≡ true
-is_text bytes all = is_utf8-from_IsUtf8 bytes (IsUtf8-from_ascii bytes (is_ascii_text bytes all))
 
 d_text : is_utf8 (100 ∷ []) ≡ true
 d_text = is_text (100 ∷ []) refl

@@ -7,8 +7,8 @@ use Rattle.dv_value.specs.Names.{value_under}
 use Rattle.dv_value.specs.Tree.{Tree, array, Field, elements_of}
 use Rattle.dv_value.specs.View.{tree}
 use Rattle.dv_value.specs.declared.value.Value.{Value}
+use Rattle.dv_value.specs.Inner.TreeLaws.{fields_again, elements_again}
 use Rattle.dv_path.specs.Expression.{component_entered, expression, expr}
-use Rattle.dv_path.proofs.Items.{list_of_fields_of, list_of_elements_of}
 
 pub take_one_more : {X : Type 0} (xs : List X) (i : ℕ) (x : X) → i < length xs → x ≡ get_or xs i x → take (i + 1) xs ≡ take i xs ++ x ∷ []
 take_one_more [] i x within is = absurd (omega arith)
@@ -26,12 +26,12 @@ filter-one f y o e = ap (λ p. filter_map (λ q. q) (p ∷ [])) e
 pub expr-first : (names : List (List ℕ)) (fs : List Field) (name : List ℕ) → 0 < length names → name ≡ get_or names 0 name → option_and_then (expression (drop 1 names)) (value_under name fs) ≡ expr fs names
 unfolding expr
 expr-first [] fs name some is = absurd (omega arith)
-expr-first (n ∷ names) fs name some is = ap (λ m. option_and_then (expression names) (value_under m fs)) is ∙ ap (λ gs. option_and_then (expression names) (value_under n gs)) (sym (list_of_fields_of fs))
+expr-first (n ∷ names) fs name some is = ap (λ m. option_and_then (expression names) (value_under m fs)) is ∙ ap (λ gs. option_and_then (expression names) (value_under n gs)) (sym (fields_again fs))
 
 -- one component on from a value
 module _ (path rest : List (List ℕ)) (name : List ℕ) (v : Value) (is : path ≡ name ∷ rest) where
   pub expression-document : (d : List Field) → v ≡ Value.Doc d → expression path (tree v) ≡ option_and_then (expression rest) (value_under name d)
-  expression-document d e = ap (λ p. expression p (tree v)) is ∙ ap (λ w. expression (name ∷ rest) (tree w)) e ∙ ap (λ fs. option_and_then (expression rest) (value_under name fs)) (list_of_fields_of d)
+  expression-document d e = ap (λ p. expression p (tree v)) is ∙ ap (λ w. expression (name ∷ rest) (tree w)) e ∙ ap (λ fs. option_and_then (expression rest) (value_under name fs)) (fields_again d)
 
   pub expression-array : (l : List Tree) → v ≡ Value.Array l → expression path (tree v) ≡ Some (array (elements_of (filter_map (component_entered (expression rest) name) l)))
-  expression-array l e = ap (λ p. expression p (tree v)) is ∙ ap (λ w. expression (name ∷ rest) (tree w)) e ∙ ap (λ vs. Some (array (elements_of (filter_map (component_entered (expression rest) name) vs)))) (list_of_elements_of l)
+  expression-array l e = ap (λ p. expression p (tree v)) is ∙ ap (λ w. expression (name ∷ rest) (tree w)) e ∙ ap (λ vs. Some (array (elements_of (filter_map (component_entered (expression rest) name) vs)))) (elements_again l)

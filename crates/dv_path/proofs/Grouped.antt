@@ -6,6 +6,7 @@ use Rattle.dv_value.specs.Names.{value_under}
 use Rattle.dv_value.specs.Removing.{without_each}
 use Rattle.dv_value.specs.View.{tree}
 use Rattle.dv_value.specs.declared.value.Value.{Value}
+use Rattle.dv_value.specs.Inner.TreeLaws.{fields_again, elements_again}
 use Rattle.dv_path.specs.Apart.{AreApart, IsApartFrom, AreAllApart, remove_each}
 use Rattle.dv_path.specs.Inner.Apart.{fields_alone, leading_further}
 use Rattle.dv_candidates.specs.Candidates.{Candidate}
@@ -19,7 +20,6 @@ use Rattle.dv_path.specs.Removing.{changed_at, remove_field, remove_element, lef
 use Rattle.dv_path.proofs.Fielded.{field-missing, field-again}
 use Rattle.dv_path.proofs.Parting.{left_of, field-left, field-twice, stays}
 use Rattle.dv_path.proofs.Together.{fields-first}
-use Rattle.dv_path.proofs.Items.{list_of_fields_of, list_of_elements_of}
 
 -- ---- one field, again and again
 
@@ -120,14 +120,14 @@ unfolding remove
 inside-document [] fs some = refl
 inside-document ([] ∷ ps) fs some = absurd some
 inside-document ((a ∷ p) ∷ ps) fs some =
-    ap (λ gs. left_of_each ps (document (fields_of (remove_field (left_behind p) a gs)))) (list_of_fields_of fs)
+    ap (λ gs. left_of_each ps (document (fields_of (remove_field (left_behind p) a gs)))) (fields_again fs)
     ∙ inside-document ps (remove_field (left_behind p) a fs) some
 
 pub inside-array : (ps : List (List (List ℕ))) (vs : List Tree) → AreSome ps → left_of_each ps (array (elements_of vs)) ≡ array (elements_of (remove_each_element vs ps))
 inside-array [] vs some = refl
 inside-array ([] ∷ ps) vs some = absurd some
 inside-array ((a ∷ p) ∷ ps) vs some =
-    ap (λ ws. left_of_each ps (array (elements_of (remove_element (left_behind p) (index_of a) ws)))) (list_of_elements_of vs)
+    ap (λ ws. left_of_each ps (array (elements_of (remove_element (left_behind p) (index_of a) ws)))) (elements_again vs)
     ∙ inside-array ps (remove_element (left_behind p) (index_of a) vs) some
 
 -- ---- groups that part, and how much is in them

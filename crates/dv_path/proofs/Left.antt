@@ -7,21 +7,22 @@ use Rattle.dv_value.specs.Tree.{Tree, Field, fields_of, elements_of}
 use Rattle.dv_value.specs.View.{tree}
 use Rattle.dv_value.specs.Inner.Weight.{field_weighs_less, value_weighs_less}
 use Rattle.dv_value.specs.Names.{begins_with_dollar}
+use Rattle.dv_value.specs.Inner.ListLaws.{slice_get_seen, drop_item}
 use Rattle.dv_path.specs.Names.{has_dot, is_dotted, are_fields_dotted, are_elements_dotted}
-use Rattle.dv_path.proofs.Items.{drop_at, none_there, slice_get_seen}
+use Rattle.dv_path.proofs.Items.{none_there}
 
 pub are_fields_dotted-drop : (fs : List Field) (place : ℕ) (name : List ℕ) (value : Tree) → Some (name, value) ≡ slice_get fs place
     → are_fields_dotted (fields_of (drop place fs)) ≡ (has_dot name || is_dotted value || are_fields_dotted (fields_of (drop (place + 1) fs)))
-are_fields_dotted-drop fs place name value here = ap (λ (rest : List Field). are_fields_dotted (fields_of rest)) (drop_at fs place (name, value) (sym here))
+are_fields_dotted-drop fs place name value here = ap (λ (rest : List Field). are_fields_dotted (fields_of rest)) (drop_item fs place (name, value) (sym here))
 
 pub has_dollar-drop : (fs : List Field) (place : ℕ) (name : List ℕ) (value : Tree) → Some (name, value) ≡ slice_get fs place
     → list_any (λ (f : Field). begins_with_dollar f.0) (drop place fs) ≡ (begins_with_dollar name || list_any (λ (f : Field). begins_with_dollar f.0) (drop (place + 1) fs))
-has_dollar-drop fs place name value here = ap (list_any (λ (f : Field). begins_with_dollar f.0)) (drop_at fs place (name, value) (sym here))
+has_dollar-drop fs place name value here = ap (list_any (λ (f : Field). begins_with_dollar f.0)) (drop_item fs place (name, value) (sym here))
 
 pub are_elements_dotted-drop : (values : List Value) (vs : List Tree) (place : ℕ) (value : Value) → map tree values ≡ vs → place < length values → value ≡ slice_index_or values place value
     → are_elements_dotted (elements_of (drop place vs)) ≡ (is_dotted (tree value) || are_elements_dotted (elements_of (drop (place + 1) vs)))
 are_elements_dotted-drop values vs place value seen within is =
-    ap (λ (rest : List Tree). are_elements_dotted (elements_of rest)) (drop_at vs place (tree value) (slice_get_seen tree values vs place value seen within is))
+    ap (λ (rest : List Tree). are_elements_dotted (elements_of rest)) (drop_item vs place (tree value) (slice_get_seen tree values vs place value seen within is))
 
 pub no_elements_left : (values : List Value) (vs : List Tree) (place : ℕ) → map tree values ≡ vs → length values ≤ place → are_elements_dotted (elements_of (drop place vs)) ≡ false
 no_elements_left values vs place seen past = ap (λ (rest : List Tree). are_elements_dotted (elements_of rest)) (drop_of_length-le vs (rw (← seen, length-map) past))

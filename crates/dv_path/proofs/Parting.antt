@@ -5,6 +5,7 @@ use Rattle.std.specs.Str.{bytes_eq}
 use Rattle.std.proofs.lemmas.Slice.Eq.{bytes_eq-Decides}
 use Rattle.dv_value.specs.Tree.{Tree, document, array, null, Field, fields_of, list_of_fields, elements_of, list_of_elements}
 use Rattle.dv_value.specs.Names.{value_under}
+use Rattle.dv_value.specs.Inner.TreeLaws.{fields_again, elements_again}
 use Rattle.dv_candidates.specs.declared.fault.PathFault.{PathFault}
 use Rattle.dv_candidates.specs.declared.fault.PathFault.TheVariants.{IndexTooLarge}
 use Rattle.dv_path.specs.Apart.{AreApart}
@@ -15,7 +16,6 @@ use Rattle.dv_path.specs.Removing.{changed_at, remove_field, remove_element, lef
 use Rattle.dv_path.specs.Slots.{slot_of, element_slot, slot_behind, slot}
 use Rattle.dv_path.proofs.Fielded.{field-at, field-other, field-missing, differ}
 use Rattle.dv_path.proofs.Indexed.{same-place}
-use Rattle.dv_path.proofs.Items.{list_of_fields_of, list_of_elements_of}
 
 -- ---- results
 
@@ -179,10 +179,10 @@ slot-behind-left [] q h c = absurd h
 slot-behind-left (a ∷ p) [] h c = absurd h
 slot-behind-left (a ∷ p) (b ∷ q) h None = refl
 slot-behind-left (a ∷ p) (b ∷ q) h (Some (document fs)) =
-    ap (λ gs. slot_behind q (slot_of (value_under b gs))) (list_of_fields_of (remove_field (left_behind p) a (list_of_fields fs)))
+    ap (λ gs. slot_behind q (slot_of (value_under b gs))) (fields_again (remove_field (left_behind p) a (list_of_fields fs)))
     ∙ same-field p q a b h (slot-behind-left p q) (list_of_fields fs)
 slot-behind-left (a ∷ p) (b ∷ q) h (Some (array vs)) =
-    ap (λ ws. slot_behind q (element_slot (index_of b) ws)) (list_of_elements_of (remove_element (left_behind p) (index_of a) (list_of_elements vs)))
+    ap (λ ws. slot_behind q (element_slot (index_of b) ws)) (elements_again (remove_element (left_behind p) (index_of a) (list_of_elements vs)))
     ∙ same-index p q a b h (slot-behind-left p q) (index_of a) (index_of b) refl refl (list_of_elements vs)
 slot-behind-left (a ∷ p) (b ∷ q) h (Some v) = refl
 
@@ -191,9 +191,9 @@ unfolding remove slot
 slot_apart fields [] q h = absurd h
 slot_apart fields (a ∷ p) [] h = absurd h
 slot_apart fields (a ∷ p) (b ∷ q) h =
-    ap (λ gs. slot_behind q (slot_of (value_under b gs))) (list_of_fields_of (remove_field (left_behind p) a fields))
+    ap (λ gs. slot_behind q (slot_of (value_under b gs))) (fields_again (remove_field (left_behind p) a fields))
     ∙ same-field p q a b h (slot-behind-left p q) fields
-    ∙ ap (λ gs. slot_behind q (slot_of (value_under b gs))) (sym (list_of_fields_of fields))
+    ∙ ap (λ gs. slot_behind q (slot_of (value_under b gs))) (sym (fields_again fields))
 
 -- ---- values that are put
 
@@ -238,10 +238,10 @@ module _ (p q : List (List ℕ)) (a b : List ℕ) (v : Tree) (h : (a ≢ b) ⊎ 
       ∙ element-by (nat_lt j (length vs) || nat_le j 100000) i j ia ib vs
 
 in-document : (p : List (List ℕ)) (a : List ℕ) (r : Result (List Field) PathFault) → result_map (λ fs. document (fields_of fs)) (result_map (remove_field (left_behind p) a) r) ≡ result_map (left_of (a ∷ p)) (result_map (λ fs. document (fields_of fs)) r)
-in-document p a r = map-both (λ fs. document (fields_of fs)) (remove_field (left_behind p) a) (left_of (a ∷ p)) (λ fs. document (fields_of fs)) (λ fs. ap (λ gs. document (fields_of (remove_field (left_behind p) a gs))) (sym (list_of_fields_of fs))) r
+in-document p a r = map-both (λ fs. document (fields_of fs)) (remove_field (left_behind p) a) (left_of (a ∷ p)) (λ fs. document (fields_of fs)) (λ fs. ap (λ gs. document (fields_of (remove_field (left_behind p) a gs))) (sym (fields_again fs))) r
 
 in-array : (p : List (List ℕ)) (a : List ℕ) (r : Result (List Tree) PathFault) → result_map (λ vs. array (elements_of vs)) (result_map (remove_element (left_behind p) (index_of a)) r) ≡ result_map (left_of (a ∷ p)) (result_map (λ vs. array (elements_of vs)) r)
-in-array p a r = map-both (λ vs. array (elements_of vs)) (remove_element (left_behind p) (index_of a)) (left_of (a ∷ p)) (λ vs. array (elements_of vs)) (λ vs. ap (λ ws. array (elements_of (remove_element (left_behind p) (index_of a) ws))) (sym (list_of_elements_of vs))) r
+in-array p a r = map-both (λ vs. array (elements_of vs)) (remove_element (left_behind p) (index_of a)) (left_of (a ∷ p)) (λ vs. array (elements_of vs)) (λ vs. ap (λ ws. array (elements_of (remove_element (left_behind p) (index_of a) ws))) (sym (elements_again vs))) r
 
 pub put-behind-left : (p q : List (List ℕ)) (v : Tree) → AreApart p q → (c : Candidate) → put_behind q v (option_and_then (left_behind p) c) ≡ result_map (left_of p) (put_behind q v c)
 put-behind-left [] q v h c = absurd h
@@ -250,11 +250,11 @@ put-behind-left (a ∷ p) (b ∷ q) v h None =
     ap (result_map (λ fs. document (fields_of fs))) (field-put p q a b v h (put-behind-left p q v) [])
     ∙ in-document p a (put_field (put_behind q v) b [])
 put-behind-left (a ∷ p) (b ∷ q) v h (Some (document fs)) =
-    ap (λ gs. result_map (λ fs. document (fields_of fs)) (put_field (put_behind q v) b gs)) (list_of_fields_of (remove_field (left_behind p) a (list_of_fields fs)))
+    ap (λ gs. result_map (λ fs. document (fields_of fs)) (put_field (put_behind q v) b gs)) (fields_again (remove_field (left_behind p) a (list_of_fields fs)))
     ∙ ap (result_map (λ fs. document (fields_of fs))) (field-put p q a b v h (put-behind-left p q v) (list_of_fields fs))
     ∙ in-document p a (put_field (put_behind q v) b (list_of_fields fs))
 put-behind-left (a ∷ p) (b ∷ q) v h (Some (array vs)) =
-    ap (λ ws. result_map (λ vs. array (elements_of vs)) (put_element (put_behind q v) (index_of b) ws)) (list_of_elements_of (remove_element (left_behind p) (index_of a) (list_of_elements vs)))
+    ap (λ ws. result_map (λ vs. array (elements_of vs)) (put_element (put_behind q v) (index_of b) ws)) (elements_again (remove_element (left_behind p) (index_of a) (list_of_elements vs)))
     ∙ ap (result_map (λ vs. array (elements_of vs))) (element-put p q a b v h (put-behind-left p q v) (index_of a) (index_of b) refl refl (list_of_elements vs))
     ∙ in-array p a (put_element (put_behind q v) (index_of b) (list_of_elements vs))
 put-behind-left (a ∷ p) (b ∷ q) v h (Some w) = refl

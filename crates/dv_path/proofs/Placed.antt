@@ -1,8 +1,9 @@
 -- What is put, and what is taken away, component by component.
 use Rattle.std.proofs.Common.{◌≡◌, ◌∙◌, ℕ, zero, suc, ◌<◌, Bool, true, false, ◌||◌, nat_lt, nat_le, List, [], ◌∷◌, ◌++◌, length, get_or, drop, Option, Some, None, slice_get, Result, Ok, Err, refl, ap, sym, subst, arith, append-nil, option_and_then, if◌then◌else◌}
 use Rattle.std.specs.Option.{unwrap_or}
-use Rattle.dv_value.specs.Tree.{Tree, document, array, null, Field, Fields, no_fields, field, fields_of, list_of_fields, Elements, no_elements, element, elements_of, list_of_elements}
+use Rattle.dv_value.specs.Tree.{Tree, document, array, null, Field, fields_of, list_of_fields, elements_of, list_of_elements}
 use Rattle.dv_value.specs.Names.{value_under}
+use Rattle.dv_value.specs.Inner.TreeLaws.{fields_again, elements_again, fields_back, elements_back}
 use Rattle.dv_candidates.specs.declared.fault.PathFault.{PathFault}
 use Rattle.dv_candidates.specs.declared.fault.PathFault.TheVariants.{NotViable, IndexTooLarge}
 use Rattle.std.proofs.lemmas.Bool.{lt-ltb}
@@ -13,7 +14,6 @@ use Rattle.dv_candidates.specs.Path.{index_of}
 use Rattle.dv_path.specs.Slots.{Slot, taken, free, blocked, slot_of, element_slot, next_slot, slot_behind, slot}
 use Rattle.dv_path.specs.Placing.{field_with, put, put_behind, put_element, put_field, result_map, with_element, with_field}
 use Rattle.dv_path.specs.Removing.{changed_at, remove_field, remove_element, left_behind, remove}
-use Rattle.dv_path.proofs.Items.{list_of_fields_of, list_of_elements_of}
 use Rattle.std.specs.Str.{bytes_eq}
 use Rattle.dv_path.proofs.Fielded.{differ, field-other, field-at, field-missing, field-again, element-at, changed-missing, changed-same}
 
@@ -45,7 +45,7 @@ fields-slotted : (inner : Candidate → Result Tree PathFault) (name : List ℕ)
 fields-slotted inner name fs t e =
     let made = mapped (λ gs. document (fields_of gs)) (put_field inner name fs) t e in
     let put = field-slotted inner name fs made.0 made.1 in
-    (put.0, put.1, put.2, ap (λ d. next_slot name (taken d)) (sym made.2) ∙ ap (λ gs. slot_of (value_under name gs)) (list_of_fields_of made.0) ∙ put.3)
+    (put.0, put.1, put.2, ap (λ d. next_slot name (taken d)) (sym made.2) ∙ ap (λ gs. slot_of (value_under name gs)) (fields_again made.0) ∙ put.3)
 
 -- one component on from what was put stands what was put further on
 step-slotted : (names : List (List ℕ)) (name : List ℕ) (v : Tree) (c : Candidate) (t : Tree) → put_behind (name ∷ names) v c ≡ Ok t → (d : Candidate) × (u : Tree) × (put_behind names v d ≡ Ok u) × (next_slot name (taken t) ≡ taken u)
@@ -54,7 +54,7 @@ step-slotted names name v (Some (document fs)) t e = fields-slotted (put_behind 
 step-slotted names name v (Some (array vs)) t e =
     let made = mapped (λ ws. array (elements_of ws)) (put_element (put_behind names v) (index_of name) (list_of_elements vs)) t e in
     let put = element-slotted (put_behind names v) (index_of name) (list_of_elements vs) made.0 made.1 in
-    (put.0, put.1, put.2, ap (λ d. next_slot name (taken d)) (sym made.2) ∙ ap (element_slot (index_of name)) (list_of_elements_of made.0) ∙ put.3)
+    (put.0, put.1, put.2, ap (λ d. next_slot name (taken d)) (sym made.2) ∙ ap (element_slot (index_of name)) (elements_again made.0) ∙ put.3)
 step-slotted names name v (Some w) t e = absurd cc
 
 behind-slotted : (names : List (List ℕ)) (v : Tree) (c : Candidate) (t : Tree) → put_behind names v c ≡ Ok t → slot_behind names (taken t) ≡ taken v
@@ -68,7 +68,7 @@ pub slot_put : (fields : List Field) (name : List ℕ) (names : List (List ℕ))
 unfolding put slot
 slot_put fields name names v after e =
     let put = field-slotted (put_behind names v) name fields after e in
-    ap (λ gs. slot_behind names (slot_of (value_under name gs))) (list_of_fields_of after) ∙ ap (slot_behind names) put.3 ∙ behind-slotted names v put.0 put.1 put.2
+    ap (λ gs. slot_behind names (slot_of (value_under name gs))) (fields_again after) ∙ ap (slot_behind names) put.3 ∙ behind-slotted names v put.0 put.1 put.2
 
 missing-plain : (names : List (List ℕ)) → HasNoArray names None
 missing-plain [] = tt
@@ -83,7 +83,7 @@ fields-found names name v fs t e further =
     let made = mapped (λ gs. document (fields_of gs)) (put_field (put_behind names v) name fs) t e in
     let put = field-put (put_behind names v) name fs made.0 made.1 in
     let there : value_under name made.0 ≡ Some put.0 = ap (value_under name) (sym put.2) ∙ field-at name put.0 fs in
-    ap (λ d. candidates (name ∷ names) (Some d)) (sym made.2) ∙ ap (λ gs. candidates names (value_under name gs) ++ []) (list_of_fields_of made.0) ∙ append-nil (candidates names (value_under name made.0)) ∙ ap (candidates names) there ∙ further put.0 put.1
+    ap (λ d. candidates (name ∷ names) (Some d)) (sym made.2) ∙ ap (λ gs. candidates names (value_under name gs) ++ []) (fields_again made.0) ∙ append-nil (candidates names (value_under name made.0)) ∙ ap (candidates names) there ∙ further put.0 put.1
 
 behind-found : (names : List (List ℕ)) (v : Tree) (c : Candidate) (t : Tree) → HasNoArray names c → put_behind names v c ≡ Ok t → candidates names (Some t) ≡ Some v ∷ []
 behind-found [] v c t plain e = let same : v ≡ t = cc in ap (λ w. Some w ∷ []) (sym same)
@@ -97,7 +97,7 @@ pub whole_put : (fields : List Field) (name : List ℕ) (names : List (List ℕ)
 unfolding put whole
 whole_put fields name names v after plain e =
     let at : result_map (λ gs. document (fields_of gs)) (put_field (put_behind names v) name fields) ≡ Ok (document (fields_of after)) = ap (result_map (λ gs. document (fields_of gs))) e in
-    let entered : HasNoArray names (value_under name fields) = let P : List Field → Type 0 = λ gs. HasNoArray names (value_under name gs) in subst P (list_of_fields_of fields) plain in
+    let entered : HasNoArray names (value_under name fields) = let P : List Field → Type 0 = λ gs. HasNoArray names (value_under name gs) in subst P (fields_again fields) plain in
     fields-found names name v fields (document (fields_of after)) at (λ u put. behind-found names v (value_under name fields) u entered put)
 
 along : (names : List (List ℕ)) (c : Candidate) → HasNoArray names c → candidates names c ≡ option_and_then (expression names) c ∷ []
@@ -142,14 +142,6 @@ within-put inner place vs within = ap (λ b. if b || nat_le place 100000 then re
 pub element-taken : (inner : Candidate → Result Tree PathFault) (place : ℕ) (vs : List Tree) (c : Candidate) (w : Tree) → slice_get vs place ≡ c → c ≡ Some w → (r : Result Tree PathFault) → inner (Some w) ≡ r → put_element inner (Some place) vs ≡ result_map (λ v. with_element place v vs) r
 element-taken inner place vs c w at is r e = within-put inner place vs (there-within vs place w (at ∙ is)) ∙ ap (λ d. result_map (λ v. with_element place v vs) (inner d)) (at ∙ is) ∙ ap (result_map (λ v. with_element place v vs)) e
 
-fields-back : (fs : Fields) → fields_of (list_of_fields fs) ≡ fs
-fields-back no_fields = refl
-fields-back (field name v fs) = ap (field name v) (fields-back fs)
-
-elements-back : (vs : Elements) → elements_of (list_of_elements vs) ≡ vs
-elements-back no_elements = refl
-elements-back (element v vs) = ap (element v) (elements-back vs)
-
 kept-field : (left : Tree → Candidate) (name : List ℕ) (fs : List Field) (c : Candidate) → value_under name fs ≡ c → ((w : Tree) → c ≡ Some w → left w ≡ Some w) → remove_field left name fs ≡ fs
 kept-field left name fs None at keeps = ap (λ c. with_field name (option_and_then left c) fs) at ∙ field-missing name fs at
 kept-field left name fs (Some w) at keeps = ap (λ c. with_field name (option_and_then left c) fs) at ∙ ap (λ c. with_field name c fs) (keeps w refl) ∙ field-again name w fs at
@@ -164,15 +156,15 @@ kept-element left (Some place) vs keeps = kept-at left place vs (slice_get vs pl
 
 kept-behind : (names : List (List ℕ)) (t : Tree) → ((w : Tree) → slot_behind names (taken t) ≡ taken w → ⊥) → left_behind names t ≡ Some t
 kept-behind [] t none = absurd (none t refl)
-kept-behind (name ∷ names) (document fs) none = ap (λ gs. Some (document (fields_of gs))) (kept-field (left_behind names) name (list_of_fields fs) (value_under name (list_of_fields fs)) refl (λ w at. kept-behind names w (λ u there. none u (ap (λ c. slot_behind names (slot_of c)) at ∙ there)))) ∙ ap (λ gs. Some (document gs)) (fields-back fs)
-kept-behind (name ∷ names) (array vs) none = ap (λ ws. Some (array (elements_of ws))) (kept-element (left_behind names) (index_of name) (list_of_elements vs) (λ w at. kept-behind names w (λ u there. none u (ap (slot_behind names) at ∙ there)))) ∙ ap (λ ws. Some (array ws)) (elements-back vs)
+kept-behind (name ∷ names) (document fs) none = ap (λ gs. Some (document (fields_of gs))) (kept-field (left_behind names) name (list_of_fields fs) (value_under name (list_of_fields fs)) refl (λ w at. kept-behind names w (λ u there. none u (ap (λ c. slot_behind names (slot_of c)) at ∙ there)))) ∙ ap (λ gs. Some (document gs)) (fields_back fs)
+kept-behind (name ∷ names) (array vs) none = ap (λ ws. Some (array (elements_of ws))) (kept-element (left_behind names) (index_of name) (list_of_elements vs) (λ w at. kept-behind names w (λ u there. none u (ap (slot_behind names) at ∙ there)))) ∙ ap (λ ws. Some (array ws)) (elements_back vs)
 kept-behind (name ∷ names) t none = refl
 
 -- where nothing stands, nothing is taken away
 pub remove_nothing : (fields : List Field) (path : List (List ℕ)) → ((w : Tree) → slot fields path ≡ taken w → ⊥) → remove fields path ≡ fields
 unfolding remove slot
 remove_nothing fields [] none = refl
-remove_nothing fields (name ∷ names) none = kept-field (left_behind names) name fields (value_under name fields) refl (λ w at. kept-behind names w (λ u there. none u (ap (λ gs. slot_behind names (slot_of (value_under name gs))) (list_of_fields_of fields) ∙ ap (λ c. slot_behind names (slot_of c)) at ∙ there)))
+remove_nothing fields (name ∷ names) none = kept-field (left_behind names) name fields (value_under name fields) refl (λ w at. kept-behind names w (λ u there. none u (ap (λ gs. slot_behind names (slot_of (value_under name gs))) (fields_again fields) ∙ ap (λ c. slot_behind names (slot_of c)) at ∙ there)))
 
 pub put-first : (names : List (List ℕ)) (fs : List Field) (name : List ℕ) (v : Tree) → 0 < length names → name ≡ get_or names 0 name → put_field (put_behind (drop 1 names) v) name fs ≡ put fs names v
 unfolding put
@@ -207,7 +199,7 @@ behind-blocked (name ∷ names) v (Some w) h = refl
 pub put_blocked : (fields : List Field) (path : List (List ℕ)) (v : Tree) → slot fields path ≡ blocked → put fields path v ≡ Err NotViable
 unfolding put slot
 put_blocked fields [] v h = absurd cc
-put_blocked fields (name ∷ names) v h = ap (result_map (λ u. with_field name (Some u) fields)) (behind-blocked names v (value_under name fields) (ap (λ gs. slot_behind names (slot_of (value_under name gs))) (sym (list_of_fields_of fields)) ∙ h))
+put_blocked fields (name ∷ names) v h = ap (result_map (λ u. with_field name (Some u) fields)) (behind-blocked names v (value_under name fields) (ap (λ gs. slot_behind names (slot_of (value_under name gs))) (sym (fields_again fields)) ∙ h))
 
 at-taken : (names : List (List ℕ)) (v : Tree) (place : ℕ) (vs : List Tree) (w : Tree) (c : Candidate) → slice_get vs place ≡ c → slot_behind names (slot_of c) ≡ taken w → (t : Tree) × (put_behind names v c ≡ Ok t) → (ws : List Tree) × (put_element (put_behind names v) (Some place) vs ≡ Ok ws)
 at-taken names v place vs w None at h put = absurd (none-free names (taken w) h (λ e. cc))
@@ -232,7 +224,7 @@ behind-taken (name ∷ names) v w (Some t) h = let no : blocked ≡ taken w = sy
 pub put_taken : (fields : List Field) (name : List ℕ) (names : List (List ℕ)) (v w : Tree) → slot fields (name ∷ names) ≡ taken w → (after : List Field) × (put fields (name ∷ names) v ≡ Ok after)
 unfolding put slot
 put_taken fields name names v w h =
-    let put = behind-taken names v w (value_under name fields) (ap (λ gs. slot_behind names (slot_of (value_under name gs))) (sym (list_of_fields_of fields)) ∙ h) in
+    let put = behind-taken names v w (value_under name fields) (ap (λ gs. slot_behind names (slot_of (value_under name gs))) (sym (fields_again fields)) ∙ h) in
     (with_field name (Some put.0) fields, ap (result_map (λ u. with_field name (Some u) fields)) put.1)
 
 -- the fields of other names stay

@@ -5,12 +5,12 @@ use Rattle.std.proofs.lemmas.Bool.Decides.{nat_tests}
 use Rattle.std.proofs.lemmas.Option.{slice_get_within, slice_get_cases}
 use Rattle.dv_value.specs.Tree.{Tree, document, array, Field, fields_of, elements_of}
 use Rattle.dv_value.specs.Names.{value_under}
+use Rattle.dv_value.specs.Inner.TreeLaws.{fields_again, elements_again}
 use Rattle.dv_candidates.specs.declared.fault.PathFault.{PathFault}
 use Rattle.dv_candidates.specs.declared.fault.PathFault.TheVariants.{IndexTooLarge}
 use Rattle.dv_candidates.specs.Candidates.{Candidate}
 use Rattle.dv_candidates.specs.Path.{index_of}
 use Rattle.dv_path.specs.Placing.{put, put_behind, put_element, put_field, result_map, with_element, with_field}
-use Rattle.dv_path.proofs.Items.{list_of_fields_of, list_of_elements_of}
 
 -- what a step gives is refused as what is put further on
 further : {X Y : Type 0} (f : X → Y) (r : Result X PathFault) → result_err (result_map f r) ≡ result_err r
@@ -35,11 +35,11 @@ refused-first (n ∷ names) v fs name some is = ap (λ m. result_err (put_behind
 
 pub refused-in-document : (names : List (List ℕ)) (v : Tree) (name : List ℕ) (fs : List Field) → result_err (put_behind (name ∷ names) v (Some (document (fields_of fs)))) ≡ result_err (put_behind names v (value_under name fs))
 refused-in-document names v name fs =
-    further (λ gs. document (fields_of gs)) (put_field (put_behind names v) name _) ∙ field-refused (put_behind names v) name _ ∙ ap (λ gs. result_err (put_behind names v (value_under name gs))) (list_of_fields_of fs)
+    further (λ gs. document (fields_of gs)) (put_field (put_behind names v) name _) ∙ field-refused (put_behind names v) name _ ∙ ap (λ gs. result_err (put_behind names v (value_under name gs))) (fields_again fs)
 
 pub refused-in-array : (names : List (List ℕ)) (v : Tree) (name : List ℕ) (vs : List Tree) → result_err (put_behind (name ∷ names) v (Some (array (elements_of vs)))) ≡ result_err (put_element (put_behind names v) (index_of name) vs)
 refused-in-array names v name vs =
-    further (λ ws. array (elements_of ws)) (put_element (put_behind names v) (index_of name) _) ∙ ap (λ ws. result_err (put_element (put_behind names v) (index_of name) ws)) (list_of_elements_of vs)
+    further (λ ws. array (elements_of ws)) (put_element (put_behind names v) (index_of name) _) ∙ ap (λ ws. result_err (put_element (put_behind names v) (index_of name) ws)) (elements_again vs)
 
 past-end : (vs : List Tree) (place : ℕ) → slice_get vs place ≡ None → length vs ≤ place
 past-end vs place none = elim (slice_get_cases vs place).1 [ inl here ↦ absurd cc | inr past ↦ past.0 ]

@@ -5,16 +5,16 @@ use denote.Ref.{Bor}
 use Rattle.dv_value.specs.declared.value.Value.{Value}
 use Rattle.dv_value.specs.Tree.{Tree, Field}
 use Rattle.dv_value.specs.Names.{value_under}
+use Rattle.dv_value.specs.Inner.TreeLaws.{fields_again}
 use Rattle.dv_path.specs.Slots.{Slot, taken, slot_of, next_slot, slot_behind, slot}
 use Rattle.dv_path.specs.declared.slot.Slot as memory
 use Rattle.dv_path.specs.declared.slot.Slot.TheVariants.{Taken, Free, Blocked}
 use Rattle.dv_path.specs.SlotView.{slot_seen}
-use Rattle.dv_path.proofs.Items.{list_of_fields_of}
 
 pub slot-first : (names : List (List ℕ)) (fs : List Field) (name : List ℕ) → 0 < length names → name ≡ get_or names 0 name → slot_behind (drop 1 names) (slot_of (value_under name fs)) ≡ slot fs names
 unfolding slot
 slot-first [] fs name some is = absurd (omega arith)
-slot-first (n ∷ names) fs name some is = ap (λ m. slot_behind names (slot_of (value_under m fs))) is ∙ ap (λ gs. slot_behind names (slot_of (value_under n gs))) (sym (list_of_fields_of fs))
+slot-first (n ∷ names) fs name some is = ap (λ m. slot_behind names (slot_of (value_under m fs))) is ∙ ap (λ gs. slot_behind names (slot_of (value_under n gs))) (sym (fields_again fs))
 
 pub slot-more : (names : List (List ℕ)) (i : ℕ) (name : List ℕ) (s : Slot) → i < length names → name ≡ get_or names i name → slot_behind (drop (i + 1) names) (next_slot name s) ≡ slot_behind (drop i names) s
 slot-more names i name s within is =

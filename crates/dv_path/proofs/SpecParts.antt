@@ -2,8 +2,8 @@
 use Rattle.std.proofs.Common.{◌≡◌, ℕ, ◌+◌, ◌≤◌, List, [], ◌∷◌, ◌++◌, length, drop, drop_of_length-le, Option, Some, None, slice_get, option_and_then, refl, ap, sym, ◌∙◌, append_assoc, append-nil}
 use Rattle.std.specs.Option.{option_map}
 use Rattle.dv_value.specs.Tree.{Field}
+use Rattle.dv_value.specs.Inner.ListLaws.{drop_item}
 use Rattle.dv_path.specs.SortSpec.{Part, part_of, parts_of}
-use Rattle.dv_path.proofs.Items.{drop_at}
 
 -- the parts so far, before those of the fields from a place on
 pub record AreParts (fs : List Field) (place : ℕ) (parts : List Part) : Type 0 where
@@ -21,7 +21,7 @@ joined parts p None = refl
 joined parts p (Some ps) = ap Some (append_assoc parts (p ∷ []) ps)
 
 parts-from : (fs : List Field) (place : ℕ) (f : Field) → slice_get fs place ≡ Some f → (o : Option Part) → part_of f ≡ o → parts_of (drop place fs) ≡ option_and_then (λ part. option_and_then (λ ps. Some (part ∷ ps)) (parts_of (drop (place + 1) fs))) o
-parts-from fs place f there o e = ap parts_of (drop_at fs place f there) ∙ ap (option_and_then (λ part. option_and_then (λ ps. Some (part ∷ ps)) (parts_of (drop (place + 1) fs)))) e
+parts-from fs place f there o e = ap parts_of (drop_item fs place f there) ∙ ap (option_and_then (λ part. option_and_then (λ ps. Some (part ∷ ps)) (parts_of (drop (place + 1) fs)))) e
 
 pub parts-refused : {fs : List Field} {place : ℕ} {parts : List Part} (f : Field) → AreParts fs place parts → slice_get fs place ≡ Some f → part_of f ≡ None → None ≡ parts_of fs
 parts-refused {fs} {place} {parts} f a there e = ap (option_map (λ rest. parts ++ rest)) (sym (parts-from fs place f there None e)) ∙ a.all

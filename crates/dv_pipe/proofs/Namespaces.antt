@@ -7,6 +7,7 @@ use Rattle.std.proofs.lemmas.List.Sums.{fails_before_first}
 use Rattle.std.proofs.lemmas.Slice.Eq.{bytes_eq-Decides}
 use Rattle.std.proofs.lemmas.Str.Pattern.{IsSplitOnceResult, split_after, split_parts}
 use Rattle.dv_pipe.specs.Stages.{database_of, beside}
+use Rattle.dv_value.specs.Inner.ListLaws.{same-truth}
 
 no-dot : (source : List ℕ) (i : ℕ) → i < length (database_of source) → get_or (database_of source) i 0 ≢ 46
 no-dot source i within is =
@@ -29,11 +30,6 @@ first-true false b e = e
 second-true : (a b : Bool) → a && b ≡ true → b ≡ true
 second-true true b e = e
 second-true false b e = cc
-
-same-truth : (a b : Bool) → (a ≡ true → b ≡ true) → (b ≡ true → a ≡ true) → a ≡ b
-same-truth true b to from = sym (to refl)
-same-truth false true to from = from refl
-same-truth false false to from = refl
 
 module _ (source collection namespace : List ℕ) where
   abbrev IsBeside : Type 0

@@ -6,8 +6,8 @@ use Rattle.dv_row.specs.declared.fault.PipelineFault.{PipelineFault}
 use Rattle.dv_row.specs.declared.fault.PipelineFault.TheVariants.{TooMany}
 use Rattle.dv_pipe.specs.declared.stage.Stage.{Stage}
 use Rattle.dv_value.specs.Results.{◌>>=◌, each}
+use Rattle.dv_value.specs.Inner.ListLaws.{take-past}
 use Rattle.dv_pipe.specs.StageParsing.{stage_of, pipeline_of}
-use Rattle.dv_pipe.proofs.Items.{take-past}
 
 abbrev at_most : List Tree → List Stage → Result (List Stage) PipelineFault
 at_most list stages = if nat_le (length list) 16 then Ok stages else Err TooMany

@@ -1,12 +1,8 @@
 -- Documents of one field.
 use Rattle.std.proofs.Common.{◌≡◌, ap, sym, refl, List, [], ◌∷◌, ℕ, Some, None, slice_get, length, Err}
-use Rattle.dv_value.specs.Tree.{Tree, Field, document, fields_of, list_of_fields}
+use Rattle.dv_value.specs.Tree.{Tree, Field, document, fields_of}
 use Rattle.dv_row.specs.declared.fault.PipelineFault.TheVariants.{BadSpec}
 use Rattle.dv_pipe.specs.StageParsing.{stage_of, stage_named}
-
-pub list-of-fields_of : (fs : List Field) → list_of_fields (fields_of fs) ≡ fs
-list-of-fields_of [] = refl
-list-of-fields_of (f ∷ fs) = ap (λ gs. f ∷ gs) (list-of-fields_of fs)
 
 pub stage-of_others : (fs : List Field) → (length fs ≡ 1 → ⊥) → stage_of (document (fields_of fs)) ≡ Err BadSpec
 stage-of_others [] h = refl

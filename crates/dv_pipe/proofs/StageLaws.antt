@@ -3,6 +3,7 @@ use Rattle.std.proofs.Common.{◌≡◌, ◌∙◌, ap, sym, refl, Bool, true, f
 use Rattle.std.specs.List.{flat_map, list_any, AllByRecursion}
 use Rattle.std.specs.Str.{bytes_eq}
 use Rattle.std.proofs.lemmas.Slice.Eq.{bytes_eq-Decides}
+use Rattle.std.proofs.Math.Bool.{and-true}
 use Rattle.dv_value.specs.Tree.{int32, int64, string, document, array, boolean, binary, object_id, date, null, timestamp, min_key, max_key}
 use Rattle.dv_candidates.specs.Candidates.{Candidate}
 use Rattle.dv_match.specs.Filter.{Members}
@@ -52,10 +53,6 @@ module _ (source : List ℕ) (lists others : Lists) where
       let later = λ (name : List ℕ). list_any (λ s. is_source_named name (looked_into s source)) stages in
       ap (through stages source lists) (same source (or-left (bytes_eq source source) (later source) (bytes-same source)))
       ∙ through_same stages (others source) (λ name h. same name (or-right (bytes_eq source name) (later name) h))
-
-and-true : (a : Bool) → a && true ≡ a
-and-true true = refl
-and-true false = refl
 
 both-match : (f g : Members) (d : Row) → matches (both f g) d ≡ (matches f d && matches g d)
 unfolding matches matches_member matches_all

@@ -6,13 +6,13 @@ use Rattle.std.specs.Str.{bytes_eq}
 use Rattle.std.proofs.lemmas.Slice.Eq.{bytes_eq-Decides}
 use Rattle.dv_value.specs.Tree.{Tree, Field}
 use Rattle.dv_value.specs.Names.{has_name, bare, AreNamed}
+use Rattle.dv_value.specs.Inner.ByteLaws.{bytes_eq-symmetric}
 use Rattle.dv_candidates.specs.Candidates.{Candidate}
 use Rattle.dv_row.specs.declared.project.Project.TheVariants.{Include}
 use Rattle.dv_row.specs.Expressions.{Expression, nothing, computed_of, with_field_behind, value_of, with_computed}
 use Rattle.dv_row.specs.Projecting.{paths_behind, left_of_value, row_left, projected}
 use Rattle.dv_row.specs.Row.{Row}
 use Rattle.dv_row.specs.Inner.Shown.{Paths, begins_with_name, computed_fields}
-use Rattle.dv_row.proofs.Left.{bytes-eq_symmetric}
 use Rattle.dv_row.proofs.ShownFields.{in_front, left-none, left-cons, not-led}
 
 unled : (n : List ℕ) (paths : Paths) → list_any (begins_with_name n) paths ≡ false → (d : Row) → has_name n (row_left true paths d) ≡ false
@@ -43,7 +43,7 @@ second-no true b h = absurd cc
 second-no false b h = h
 
 named-behind : (m n : List ℕ) (v : Tree) (fs : List Field) → has_name m fs ≡ false → bytes_eq n m ≡ false → has_name m (fs ++ (n, v) ∷ []) ≡ false
-named-behind m n v [] none apart = ap (λ b. b || false) (bytes-eq_symmetric m n ∙ apart)
+named-behind m n v [] none apart = ap (λ b. b || false) (bytes_eq-symmetric m n ∙ apart)
 named-behind m n v (f ∷ fs) none apart = ap (λ b. b || has_name m (fs ++ (n, v) ∷ [])) (first-no (bytes_eq m f.0) (has_name m fs) none) ∙ named-behind m n v fs (second-no (bytes_eq m f.0) (has_name m fs) none) apart
 
 still-new : (n : List ℕ) (v : Tree) (es : Asks) (fs : List Field) → has_name n (map (λ e. bare e.0) es) ≡ false → AreNew es fs → AreNew es (fs ++ (n, v) ∷ [])

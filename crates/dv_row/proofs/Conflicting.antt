@@ -15,7 +15,7 @@ use Rattle.std.proofs.lemmas.Slice.Eq.{bytes_eq-Decides}
 use Rattle.dv_row.specs.Inner.Conflicts.{paths_conflict}
 use Rattle.dv_row.specs.ProjectParsing.{one_begins}
 use Rattle.dv_row.specs.Inner.Ways.{name_order, way_order}
-use Rattle.dv_row.proofs.Left.{bytes-eq_symmetric}
+use Rattle.dv_value.specs.Inner.ByteLaws.{bytes_eq-symmetric}
 
 abbrev Way : Type 0
 Way = List (List ℕ)
@@ -28,7 +28,7 @@ pub begins-back : (p q : Way) → one_begins p q ≡ one_begins q p
 begins-back [] [] = refl
 begins-back [] (m ∷ q) = refl
 begins-back (n ∷ p) [] = refl
-begins-back (n ∷ p) (m ∷ q) = ap₂ (λ a b. a && b) (bytes-eq_symmetric n m) (begins-back p q)
+begins-back (n ∷ p) (m ∷ q) = ap₂ (λ a b. a && b) (bytes_eq-symmetric n m) (begins-back p q)
 
 -- ---- pairs, counted: of each path with each other one twice, and with itself once
 

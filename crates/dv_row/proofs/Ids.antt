@@ -20,12 +20,12 @@ use Rattle.dv_row.specs.Inner.Conflicts.{IsMemberTaken}
 use Rattle.dv_row.specs.ExpressionParsing.{expression_in, switch_in}
 use Rattle.dv_row.specs.Expressions.{Expression, computed_of, with_computed, with_field_behind, value_of}
 use Rattle.dv_value.specs.Results.{◌>>=◌}
+use Rattle.dv_value.specs.Inner.ByteLaws.{bytes_eq-symmetric}
 use Rattle.dv_row.specs.Projecting.{row_left, projected}
 use Rattle.dv_row.specs.ProjectParsing.{AskedMembers, conflicts_with_asked, excludes, includes, is_below_id, is_id_path, members_in, nothing_asked, one_begins, project_form, project_in, with_computation, with_excluded, with_id_path, with_included, with_member, with_named, with_path, with_switch}
 use Rattle.dv_row.specs.Row.{Row}
 use Rattle.dv_row.specs.Inner.Shown.{Paths, begins_with_name, is_alone}
 use Rattle.dv_row.proofs.Conflicting.{begins-back}
-use Rattle.dv_row.proofs.Left.{bytes-eq_symmetric}
 use Rattle.dv_row.proofs.Members.{begins-name, project-some}
 use Rattle.dv_row.proofs.ShownFields.{named-stays, not-led, same-fields}
 use Rattle.dv_row.proofs.Taken.{computed-taken, excluded-taken, included-taken, parts-of, undotted}
@@ -118,7 +118,7 @@ computed-others [] d fs none = refl
 computed-others (e ∷ es) d fs none =
     let parts = or_parts (one_begins (id ∷ []) (e.0 ∷ [])) (list_any (λ c. one_begins (id ∷ []) (c.0 ∷ [])) es) none in
     computed-others es d (with_field_behind e.0 (value_of e.1 d) fs) parts.1
-    ∙ field-other e.0 (value_of e.1 d) fs (bytes-eq_symmetric e.0 id ∙ sym (begins-name id e.0 []) ∙ parts.0)
+    ∙ field-other e.0 (value_of e.1 d) fs (bytes_eq-symmetric e.0 id ∙ sym (begins-name id e.0 []) ∙ parts.0)
 
 id-kept : (paths : Paths) (row : Row) → filter (λ f. is_the_id f.0) (row_left true (paths ++ (id ∷ []) ∷ []) row) ≡ filter (λ f. is_the_id f.0) row
 id-kept paths row =
@@ -131,7 +131,7 @@ unbegun [] none = refl
 unbegun ([] ∷ paths) none = absurd cc
 unbegun ((n ∷ ns) ∷ paths) none =
     let parts = or_parts (one_begins (id ∷ []) (n ∷ ns)) (list_any (one_begins (id ∷ [])) paths) none in
-    or_from (bytes_eq id n) (list_any (begins_with_name id) paths) (bytes-eq_symmetric id n ∙ sym (begins-name n id ns) ∙ begins-back (n ∷ ns) (id ∷ []) ∙ parts.0) (unbegun paths parts.1)
+    or_from (bytes_eq id n) (list_any (begins_with_name id) paths) (bytes_eq-symmetric id n ∙ sym (begins-name n id ns) ∙ begins-back (n ∷ ns) (id ∷ []) ∙ parts.0) (unbegun paths parts.1)
 
 id-left : (paths : Paths) (row : Row) → list_any (one_begins (id ∷ [])) paths ≡ false → filter (λ f. is_the_id f.0) (row_left false paths row) ≡ filter (λ f. is_the_id f.0) row
 id-left paths row none =

@@ -1,8 +1,7 @@
 -- Lists that a loop goes through.
-use Rattle.std.proofs.Common.{◌≡◌, ◌∙◌, ap, sym, refl, List, [], ◌∷◌, ◌++◌, ℕ, zero, suc, ◌+◌, ◌<◌, ◌≤◌, add-one, take, map, length, Some, None, Option, slice_get, get_or, arith, Bool, true, false, ◌&&◌, ◌||◌, ◌==◌}
+use Rattle.std.proofs.Common.{◌≡◌, ◌∙◌, ap, sym, refl, List, [], ◌∷◌, ◌++◌, ℕ, zero, suc, ◌+◌, ◌<◌, add-one, take, map, length, Some, None, slice_get, get_or, Bool, true, false, ◌&&◌, ◌||◌, ◌==◌}
 use Rattle.std.specs.Prelude.{IsTrue, ◌↔◌}
 use Rattle.std.specs.List.{list_all, list_any}
-use Rattle.std.specs.Option.{option_map}
 use Rattle.std.proofs.lemmas.List.Folds.{list_all-append}
 use Rattle.std.proofs.lemmas.Option.{slice_get_read}
 pub use Rattle.dv_row.specs.Inner.EachLaws.{drop-here, drop-read, drop-past, drop-found, none-there}
@@ -11,19 +10,6 @@ pub take-here : {X : Type 0} (xs : List X) (i : ℕ) (x : X) → slice_get xs i 
 take-here [] i x e = absurd cc
 take-here (z ∷ xs) zero x e = let same : z ≡ x = cc in ap (λ y. y ∷ []) same
 take-here (z ∷ xs) (suc i) x e = ap (λ l. z ∷ l) (take-here xs i x e)
-
-pub take-read : {X : Type 0} (xs : List X) (i : ℕ) (x : X) → i < length xs → x ≡ get_or xs i x → take (i + 1) xs ≡ take i xs ++ x ∷ []
-take-read xs i x within is = ap (λ n. take n xs) (add-one i) ∙ take-here xs i x (slice_get_read xs (length xs) i x refl within is)
-
-pub take-past : {X : Type 0} (xs : List X) (i : ℕ) → length xs ≤ i → take i xs ≡ xs
-take-past [] zero h = refl
-take-past [] (suc i) h = refl
-take-past (x ∷ xs) zero h = absurd (omega arith)
-take-past (x ∷ xs) (suc i) h = ap (λ l. x ∷ l) (take-past xs i (omega arith))
-
-pub none-of : {X Y : Type 0} (f : X → Y) (r : Option X) (o : Option Y) → option_map f r ≡ o → ((x : X) → r ≡ Some x → ⊥) → o ≡ None
-none-of f None o e h = sym e
-none-of f (Some x) o e h = absurd (h x refl)
 
 take-none : {X : Type 0} (xs : List X) (i : ℕ) → slice_get xs i ≡ None → take (suc i) xs ≡ take i xs
 take-none [] zero e = refl

@@ -1,10 +1,9 @@
 -- What is left of fields and elements, one after the other.
 use Rattle.std.proofs.Common.{◌≡◌, ◌∙◌, ap, sym, refl, Bool, true, false, ◌||◌, List, [], ◌∷◌, ◌++◌, ℕ, zero, suc, ◌+◌, add-one, take, Some, None, slice_get, append_assoc, append-nil}
 use Rattle.std.specs.Str.{bytes_eq}
-use Rattle.std.proofs.lemmas.Slice.Eq.{bytes_eq-Decides}
-use Rattle.std.proofs.lemmas.Bool.Decides.{same_from_decides}
-use Rattle.dv_value.specs.Tree.{Tree, Field, Fields, fields_of, list_of_fields, no_fields, field, Elements, no_elements, element, elements_of, list_of_elements}
+use Rattle.dv_value.specs.Tree.{Tree, Field, fields_of, list_of_fields, elements_of, list_of_elements}
 use Rattle.dv_value.specs.Names.{has_name, has_zero, AreNamed}
+use Rattle.dv_value.specs.Inner.ByteLaws.{bytes_eq-symmetric}
 use Rattle.dv_candidates.specs.Candidates.{Candidate}
 use Rattle.dv_row.specs.Expressions.{with_field_behind}
 use Rattle.dv_row.specs.Projecting.{paths_behind, with_left, with_element_left, left_of_value, left_inside, fields_left, elements_left, row_left}
@@ -48,9 +47,6 @@ module _ (keeps : Bool) (paths : List (List (List ℕ))) where
       among n None fs e g = g
       among n (Some v) fs e g = ap (λ b. b || has_name name fs) e ∙ g
 
-pub bytes-eq_symmetric : (a b : List ℕ) → bytes_eq a b ≡ bytes_eq b a
-bytes-eq_symmetric a b = same_from_decides _ _ (bytes_eq-Decides a b) ((λ e. sym ((bytes_eq-Decides b a).0 e)), λ e. (bytes_eq-Decides b a).1 (sym e))
-
 not-at : (n m : List ℕ) (v : Tree) (fs : List Field) (i : ℕ) → has_name n fs ≡ false → Some (m, v) ≡ slice_get fs i → bytes_eq n m ≡ false
 not-at n m v [] i h e = absurd cc
 not-at n m v (f ∷ fs) zero h e =
@@ -74,7 +70,7 @@ new-name (f ∷ d) zero name v named e =
     (ap (λ (g : Field). has_zero g.0) (sym same) ∙ named.0, refl)
 new-name (f ∷ d) (suc i) name v named e =
     let rest = new-name d i name v named.2 e in
-    (rest.0, ap (λ b. b || has_name name (take i d)) (bytes-eq_symmetric name f.0 ∙ not-at f.0 name v d i named.1 e) ∙ rest.1)
+    (rest.0, ap (λ b. b || has_name name (take i d)) (bytes_eq-symmetric name f.0 ∙ not-at f.0 name v d i named.1 e) ∙ rest.1)
 
 with-field_new : (name : List ℕ) (c : Candidate) (fs : List Field) → has_zero name ≡ false → has_name name fs ≡ false → with_field_behind name c fs ≡ fs ++ alone name c
 with-field_new name None fs e h = sym (append-nil fs)
@@ -108,11 +104,3 @@ module _ (keeps : Bool) (paths : List (List (List ℕ))) where
   unfolding elements_left
   elements-left_more [] v = first-left (left_inside keeps paths v) [] ∙ append-nil (single (left_inside keeps paths v))
   elements-left_more (w ∷ vs) v = first-left (left_inside keeps paths w) (vs ++ v ∷ []) ∙ ap (λ l. single (left_inside keeps paths w) ++ l) (elements-left_more vs v) ∙ sym (append_assoc (single (left_inside keeps paths w)) (list_of_elements (elements_left keeps paths (elements_of vs))) (single (left_inside keeps paths v))) ∙ ap (λ l. l ++ single (left_inside keeps paths v)) (sym (first-left (left_inside keeps paths w) vs))
-
-pub fields-of_list : (fs : Fields) → fields_of (list_of_fields fs) ≡ fs
-fields-of_list no_fields = refl
-fields-of_list (field name v fs) = ap (field name v) (fields-of_list fs)
-
-pub elements-of_list : (vs : Elements) → elements_of (list_of_elements vs) ≡ vs
-elements-of_list no_elements = refl
-elements-of_list (element v vs) = ap (element v) (elements-of_list vs)

@@ -6,12 +6,14 @@ use Rattle.std.proofs.lemmas.Bool.{or_parts}
 use Rattle.std.proofs.lemmas.Slice.Eq.{bytes_eq-Decides}
 use Rattle.dv_value.specs.Names.{has_name}
 use Rattle.dv_value.specs.Tree.{Tree, document, Field, fields_of}
+use Rattle.dv_value.specs.Inner.TreeLaws.{fields_back}
+use Rattle.dv_value.specs.Inner.ByteLaws.{bytes_eq-symmetric}
 use Rattle.dv_row.specs.declared.project.Project.TheVariants.{Include, Exclude}
 use Rattle.dv_row.specs.Expressions.{nothing, with_computed}
 use Rattle.dv_row.specs.Projecting.{paths_behind, if_it, left_of_value, left_inside, fields_left, row_left, projected}
 use Rattle.dv_row.specs.Row.{Row}
 use Rattle.dv_row.specs.Inner.Shown.{Level, Paths, AreNamesApart, bare_level, begins_with_name, is_alone, is_met, way_through, within}
-use Rattle.dv_row.proofs.Left.{bytes-eq_symmetric, fields-of_list, row-left_append}
+use Rattle.dv_row.proofs.Left.{row-left_append}
 use Rattle.dv_row.proofs.ShownFields.{in_front, left-cons, left-none, left-of, not-led}
 
 -- ---- one field
@@ -25,7 +27,7 @@ left-document keeps paths name d none led =
     left-of keeps paths (name, v)
     ∙ ap (λ b. if b then if_it keeps v else if list_any (begins_with_name name) paths then left_inside keeps (paths_behind name paths) v else if_it (not keeps) v) none
     ∙ ap (λ b. if b then left_inside keeps (paths_behind name paths) v else if_it (not keeps) v) led
-    ∙ ap (λ fs. Some (document fs)) (sym (fields-of_list (fields_left keeps (paths_behind name paths) (fields_of d))))
+    ∙ ap (λ fs. Some (document fs)) (sym (fields_back (fields_left keeps (paths_behind name paths) (fields_of d))))
 
 inside : (keeps : Bool) (paths : Paths) (name : List ℕ) (d fs : Row) → list_any (is_alone name) paths ≡ false → list_any (begins_with_name name) paths ≡ true
     → row_left keeps paths ((name, document (fields_of d)) ∷ fs) ≡ (name, document (fields_of (row_left keeps (paths_behind name paths) d))) ∷ row_left keeps paths fs
@@ -69,7 +71,7 @@ others-left false name way [] h = left-none false ((name ∷ way) ∷ [])
 others-left keeps name way (f ∷ d) h =
     let parts = or_parts (bytes_eq name f.0) (has_name name d) h in
     left-cons keeps ((name ∷ way) ∷ []) f d
-    ∙ ap (λ c. in_front f.0 c (row_left keeps ((name ∷ way) ∷ []) d)) (not-led keeps ((name ∷ way) ∷ []) f (ap (λ b. b || false) (bytes-eq_symmetric f.0 name ∙ parts.0)))
+    ∙ ap (λ c. in_front f.0 c (row_left keeps ((name ∷ way) ∷ []) d)) (not-led keeps ((name ∷ way) ∷ []) f (ap (λ b. b || false) (bytes_eq-symmetric f.0 name ∙ parts.0)))
     ∙ go keeps (row_left keeps ((name ∷ way) ∷ []) d) (others-left keeps name way d parts.1)
   where
     go : (keeps : Bool) (rest : Row) → rest ≡ others keeps d → in_front f.0 (if_it (not keeps) f.1) rest ≡ others keeps (f ∷ d)

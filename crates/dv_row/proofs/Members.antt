@@ -1,5 +1,6 @@
 -- The members of a $project, and documents of expressions, one after the other.
-use Rattle.std.proofs.Common.{◌≡◌, ◌∙◌, ap, sym, refl, Bool, true, false, ◌&&◌, List, [], ◌∷◌, ℕ, length, Some, None, Result, Ok, Err, codes, ap₂, ◌++◌, ◌⊎◌, inl, inr, if◌then◌else◌}
+use Rattle.std.proofs.Common.{◌≡◌, ◌∙◌, ap, sym, refl, Bool, true, List, [], ◌∷◌, ℕ, length, Some, None, Result, Ok, Err, codes, ap₂, ◌++◌, ◌⊎◌, inl, inr, if◌then◌else◌}
+use Rattle.std.proofs.Math.Bool.{and-true}
 use Rattle.std.specs.Str.{bytes_eq}
 use Rattle.dv_value.specs.Tree.{Field, document, fields_of}
 use Rattle.dv_value.specs.Names.{value_under}
@@ -10,15 +11,11 @@ use Rattle.dv_row.specs.declared.fault.PipelineFault.{PipelineFault}
 use Rattle.dv_row.specs.declared.fault.PipelineFault.TheVariants.{NoMemory}
 use Rattle.dv_row.specs.declared.project.Project.TheVariants.{Include, Exclude}
 use Rattle.dv_row.specs.Inner.Fault.{pipeline_fault_of_path}
-use Rattle.dv_row.proofs.Unwound.{list-of-fields_of}
 use Rattle.dv_row.specs.Expressions.{Expression, Computed, computed, computed_of}
 use Rattle.dv_value.specs.Results.{◌>>=◌, each}
+use Rattle.dv_value.specs.Inner.TreeLaws.{fields_again}
 use Rattle.dv_row.specs.ExpressionParsing.{literal_in, under_name, expression_in, computed_in}
 use Rattle.dv_row.specs.ProjectParsing.{one_begins, AskedMembers, nothing_asked, members_in, conflicts_with_asked, includes, with_id_path, project_form, project_in}
-
-and-true : (a : Bool) → a && true ≡ a
-and-true true = refl
-and-true false = refl
 
 pub begins-name : (n name : List ℕ) (rest : List (List ℕ)) → one_begins (n ∷ rest) (name ∷ []) ≡ bytes_eq n name
 begins-name n name [] = and-true (bytes_eq n name)
@@ -75,4 +72,4 @@ form-is asked has included es shows con is computes =
 pub project-some : (d : List Field) → (d ≡ [] → ⊥) → project_in (document (fields_of d)) ≡ (members_in nothing_asked d >>= λ asked. Ok (project_form asked))
 unfolding project_in
 project-some [] some = absurd (some refl)
-project-some (f ∷ d) some = ap (λ l. members_in nothing_asked (f ∷ l) >>= λ asked. Ok (project_form asked)) (list-of-fields_of d)
+project-some (f ∷ d) some = ap (λ l. members_in nothing_asked (f ∷ l) >>= λ asked. Ok (project_form asked)) (fields_again d)

@@ -2,12 +2,13 @@
 use Rattle.std.proofs.Common.{◌≡◌, ◌∙◌, ap, sym, refl, List, [], ◌∷◌, ◌++◌, ℕ, Option, Some, None, IsSome}
 use Rattle.dv_value.specs.Names.{value_under}
 use Rattle.dv_value.specs.Tree.{Tree, document, Field, fields_of, list_of_fields}
+use Rattle.dv_value.specs.Inner.TreeLaws.{fields_again}
 use Rattle.dv_candidates.specs.Candidates.{Candidate}
 use Rattle.dv_row.specs.Inner.Crossings.{set_inward}
 use Rattle.dv_row.specs.declared.way.Crossing.{Crossing}
 use Rattle.dv_row.specs.Row.{Row}
 use Rattle.dv_row.specs.Unwinding.{in_document, reached, set_under, changed_under, set_through}
-use Rattle.dv_row.proofs.Unwound.{gone-through, list-of-fields_of}
+use Rattle.dv_row.proofs.Unwound.{gone-through}
 
 pub set-innermost : (cs : List Crossing) (c : Crossing) (v : Candidate) → set_inward (cs ++ c ∷ []) v ≡ set_inward cs (Some (document (fields_of (set_under c.component.now v c.document))))
 set-innermost [] c v = refl
@@ -58,7 +59,7 @@ module _ (path : List (List ℕ)) (row : Row) (w : Tree) (there : reached path r
       leads = on_way.leads ∙ from_here ∙ reached-first name rest d;
       sets = λ v.
           on_way.sets v
-          ∙ ap (λ x. set_under first (set_inward inner x) row) (ap (set_from (name ∷ rest) v) is ∙ ap (λ e. Some (document (fields_of (set_through (name ∷ rest) v e)))) (list-of-fields_of d) ∙ ap (λ e. Some (document (fields_of e))) (set-first name rest d w (sym from_here ∙ sym on_way.leads ∙ there) v) ∙ ap (λ n. Some (document (fields_of (set_under n (set_from rest v (value_under name d)) d)))) (sym named))
+          ∙ ap (λ x. set_under first (set_inward inner x) row) (ap (set_from (name ∷ rest) v) is ∙ ap (λ e. Some (document (fields_of (set_through (name ∷ rest) v e)))) (fields_again d) ∙ ap (λ e. Some (document (fields_of e))) (set-first name rest d w (sym from_here ∙ sym on_way.leads ∙ there) v) ∙ ap (λ n. Some (document (fields_of (set_under n (set_from rest v (value_under name d)) d)))) (sym named))
           ∙ ap (λ x. set_under first x row) (sym (set-innermost inner c (set_from rest v (value_under name d))));
     })
       where
@@ -66,4 +67,4 @@ module _ (path : List (List ℕ)) (row : Row) (w : Tree) (there : reached path r
         d = c.document
 
         from_here : reached_from (name ∷ rest) found ≡ reached (name ∷ rest) d
-        from_here = ap (in_document (reached (name ∷ rest))) is ∙ ap (reached (name ∷ rest)) (list-of-fields_of d)
+        from_here = ap (in_document (reached (name ∷ rest))) is ∙ ap (reached (name ∷ rest)) (fields_again d)

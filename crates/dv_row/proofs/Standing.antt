@@ -4,13 +4,13 @@ use Rattle.dv_value.specs.Tree.{Tree, Field, document, fields_of}
 use Rattle.dv_value.specs.Names.{value_under, value_at}
 use Rattle.dv_value.specs.View.{tree}
 use Rattle.dv_value.specs.declared.value.Value.{Value}
+use Rattle.dv_value.specs.Inner.TreeLaws.{fields_again}
 use Rattle.dv_candidates.specs.Candidates.{Candidate}
 use Rattle.dv_path.specs.Expression.{expression, expr}
 use Rattle.dv_row.specs.Row.{Row}
 use Rattle.dv_row.specs.Unwinding.{in_document, reached}
-use Rattle.dv_row.specs.Inner.Valid.{fields_again}
 use Rattle.dv_row.proofs.Items.{drop-read, drop-past}
-use Rattle.dv_row.proofs.Unwound.{list-of-fields_of, reached-none, reached-more}
+use Rattle.dv_row.proofs.Unwound.{reached-none, reached-more}
 
 -- what is left of a path leads on from a document in the one that it began with
 pub record IsLeft (path : List (List ℕ)) (d : Row) (rest : List (List ℕ)) (inner : Row) : Type 0 where
@@ -46,7 +46,7 @@ module _ (path : List (List ℕ)) (d : Row) (name : List ℕ) (rest : List (List
     unfolding expr
     goes-on next is = record {
       expressed = enters (Some (document (fields_of next))) is;
-      reaches = left.reaches ∙ reached-more name inner rest (Some (document (fields_of next))) more is ∙ ap (reached rest) (list-of-fields_of next);
+      reaches = left.reaches ∙ reached-more name inner rest (Some (document (fields_of next))) more is ∙ ap (reached rest) (fields_again next);
     }
 
     module _ (v : Value) (is : value_under name inner ≡ Some (tree v)) (plain : (fs : List Field) → v ≡ Value.Doc fs → ⊥) where

@@ -1,9 +1,11 @@
 -- Documents that are gone through field by field, and those around them.
-use Rattle.std.proofs.Common.{◌≡◌, ◌∙◌, ap, sym, subst, refl, Bool, true, false, not, ◌&&◌, ◌==◌, List, [], ◌∷◌, ◌++◌, ℕ, zero, suc, ◌+◌, ◌*◌, ◌<◌, ◌≤◌, take, drop, length, Some, None, slice_get, arith, if◌then◌else◌}
+use Rattle.std.proofs.Common.{◌≡◌, ◌∙◌, ap, sym, subst, refl, Bool, true, false, not, ◌&&◌, ◌==◌, List, [], ◌∷◌, ◌++◌, ℕ, zero, suc, ◌+◌, ◌*◌, ◌<◌, ◌≤◌, take, drop, length, Some, slice_get, arith, if◌then◌else◌}
 use Rattle.std.specs.List.{list_any}
 use Rattle.dv_value.specs.Names.{AreNamed, value_at}
 use Rattle.dv_value.specs.Tree.{Tree, document, Field, fields_of}
 use Rattle.dv_value.specs.Inner.Tree.{weight, fields_weight}
+use Rattle.dv_value.specs.Inner.TreeLaws.{fields_back}
+use Rattle.dv_value.specs.Inner.ListLaws.{none-past}
 use Rattle.dv_candidates.specs.Candidates.{Candidate}
 use Rattle.dv_row.specs.declared.level.Level.{Level}
 use Rattle.dv_row.specs.Expressions.{with_field_behind}
@@ -11,7 +13,7 @@ use Rattle.dv_row.specs.Projecting.{paths_behind, ends, if_it, left_at, left_of_
 use Rattle.dv_row.specs.Row.{Row}
 use Rattle.dv_row.specs.Inner.Turns.{left_behind, left_at_end, left_around, with_entered, fields_to_go, fields_behind, IsFresh, IsEntered}
 use Rattle.dv_row.proofs.Items.{drop-found, drop-past}
-use Rattle.dv_row.proofs.Left.{row-left_more, fields-of_list}
+use Rattle.dv_row.proofs.Left.{row-left_more}
 
 abbrev Paths : Type 0
 Paths = List (List (List ℕ))
@@ -32,11 +34,6 @@ first-of (z ∷ xs) (suc i) x rest e = first-of xs i x rest e
 
 others-of : {X : Type 0} (xs : List X) (i : ℕ) (x : X) (rest : List X) → drop i xs ≡ x ∷ rest → drop (i + 1) xs ≡ rest
 others-of xs i x rest e = let same : drop i xs ≡ x ∷ drop (i + 1) xs = drop-found xs i x (first-of xs i x rest e) in cc
-
-none-past : {X : Type 0} (xs : List X) (i : ℕ) → length xs ≤ i → slice_get xs i ≡ None
-none-past [] i h = refl
-none-past (x ∷ xs) zero h = absurd (omega arith)
-none-past (x ∷ xs) (suc i) h = none-past xs i (omega arith)
 
 pub value-here : (d : Row) (i : ℕ) (f : Field) → Some f ≡ slice_get d i → value_at i d ≡ f.1
 value-here [] i f here = absurd cc
@@ -98,7 +95,7 @@ module _ (keeps : Bool) (paths : Paths) where
     unfolding left_inside
     entered-left v is inside named =
         inside ∙ ap (left_inside keeps paths) is
-        ∙ ap (λ fs. Some (document fs)) (sym (fields-of_list (fields_left keeps paths (fields_of d))))
+        ∙ ap (λ fs. Some (document fs)) (sym (fields_back (fields_left keeps paths (fields_of d))))
         ∙ ap (λ r. Some (document (fields_of r))) (sym (fresh-left named))
 
   pub led-inside : (v : Tree) (inside : Candidate) → (not (length paths == 0) && not (list_any ends paths)) ≡ true → left_at keeps paths v inside ≡ inside

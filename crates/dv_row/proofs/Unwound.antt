@@ -1,16 +1,12 @@
 -- Paths through documents, component by component.
 use Rattle.std.proofs.Common.{◌≡◌, ◌∙◌, ap, sym, refl, List, [], ◌∷◌, ℕ, Some, None, map}
-use Rattle.dv_value.specs.Tree.{Tree, int32, int64, string, document, array, boolean, binary, object_id, date, null, timestamp, min_key, max_key, Fields, Field, fields_of, list_of_fields, elements_of, list_of_elements}
+use Rattle.dv_value.specs.Tree.{Tree, int32, int64, string, document, array, boolean, binary, object_id, date, null, timestamp, min_key, max_key, Fields, Field, list_of_fields, elements_of, list_of_elements}
 use Rattle.dv_value.specs.View.{tree}
 use Rattle.dv_value.specs.declared.value.Value.{Value}
 use Rattle.dv_row.specs.declared.unwind.Unwind.{Unwind}
 use Rattle.dv_value.specs.Names.{value_under}
 use Rattle.dv_candidates.specs.Candidates.{Candidate}
 use Rattle.dv_row.specs.Unwinding.{in_document, reached, set_through, preserved, rows_of_elements}
-
-pub list-of-fields_of : (fs : List Field) → list_of_fields (fields_of fs) ≡ fs
-list-of-fields_of [] = refl
-list-of-fields_of (f ∷ fs) = ap (λ l. f ∷ l) (list-of-fields_of fs)
 
 module _ (name : List ℕ) (d : List Field) where
   pub reached-none : (rest : List (List ℕ)) → value_under name d ≡ None → reached (name ∷ rest) d ≡ None

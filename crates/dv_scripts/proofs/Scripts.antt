@@ -8,6 +8,7 @@ use Rattle.std.specs.Prelude.{IfErr, OnOk, replicate}
 use Rattle.std.specs.List.{slice_split}
 use Rattle.dv_wire.specs.Schedule.{World}
 use Rattle.dv_wire.specs.Service.{AsksFew, most_reads}
+use Rattle.dv_wire.specs.Inner.CountLaws.{one_more, no_more}
 use Rattle.dv_streams.specs.Stream.{MoreBy, once_more}
 use Rattle.dv_scripts.specs.Inner.Pieces.{StopsIn, TakesPiece}
 use Rattle.dv_scripts.specs.Script.{DoesLine, DoesLines, HasNoLf, Runs, OpenSessions, no_sessions, is_lf, standing_of}
@@ -235,12 +236,6 @@ pub few_asked : (A : Type 0) (result : Result A ScriptFault) (fault : ScriptFaul
 few_asked A result fault mid number line part end old new is why few = subst (λ r. AsksForScript r old new) (sym is) (few_by A fault mid number line part end old new why few)
 
 -- ---- how often a reader was asked
-
-pub no_more : (count : ℕ) → MoreBy 0 count count
-no_more count = omega arith
-
-pub one_more : (many old mid new : ℕ) → MoreBy many old mid → MoreBy 1 mid new → MoreBy (many + 1) old new
-one_more many old mid new before now = omega (arith, before, now)
 
 pub none_asked : (count : ℕ) → AsksFew count count
 none_asked count = (0, omega arith, no_more count)

@@ -4,6 +4,7 @@ use Rattle.std.specs.Option.{option_map}
 use Rattle.std.proofs.lemmas.Bool.Decides.{nat_tests}
 use Rattle.dv_value.specs.Spelling.{payload, levels, spelling}
 use Rattle.dv_value.specs.Tree.{Tree, document, Field, fields_of, list_of_fields}
+use Rattle.dv_value.specs.Inner.TreeLaws.{fields_again}
 use Rattle.dv_order.specs.Same.{both_same, is_same}
 use Rattle.dv_order.specs.Inner.SameLaws.{same-is}
 use Rattle.dv_update.specs.Apply.{leading_id, is_id, checked, document_limit, level_limit}
@@ -12,7 +13,6 @@ use Rattle.dv_update.specs.declared.fault.UpdateFault.{UpdateFault}
 use Rattle.dv_update.specs.declared.fault.UpdateFault.TheVariants.{IdChanged, TooLarge, TooDeep}
 use Rattle.dv_update.proofs.DownTo.{document-marked}
 use Rattle.dv_update.proofs.AlikeDown.{length-marked, equal-shallow}
-use Rattle.dv_update.proofs.Items.{fields_again}
 
 as-told : (a b : Bool) (d : List Field) → (if not a then Err IdChanged else if b then Err TooLarge else if true then Err TooDeep else Ok d) ≡ (let r : Result (List Field) UpdateFault = if not a then Err IdChanged else if b then Err TooLarge else Err TooDeep in r)
 as-told a b d = refl

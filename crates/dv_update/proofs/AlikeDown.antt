@@ -7,11 +7,11 @@ use Rattle.std.proofs.lemmas.List.{length-replicate}
 use Rattle.dv_value.specs.Spelling.{payload, fields_spelling, elements_spelling, element_spelling, framed, kind_of, levels, fields_levels, elements_levels}
 use Rattle.dv_value.specs.Tree.{Tree, document, array, Fields, no_fields, field, fields_of, list_of_fields, Elements, no_elements, element, elements_of, list_of_elements}
 use Rattle.dv_value.specs.Names.{value_under}
+use Rattle.dv_value.specs.Inner.TreeLaws.{elements_again, fields_again}
 use Rattle.dv_candidates.specs.Path.{index_of}
 use Rattle.dv_path.specs.Slots.{Slot, taken, free, blocked, slot_of, element_slot, next_slot, slot_behind}
 use Rattle.dv_update.specs.Inner.StandIn.{in_one_piece, down_to, fields_down_to}
 use Rattle.dv_update.proofs.DownTo.{Path, below, value-marked, element-there, fields-opened, elements-opened}
-use Rattle.dv_update.proofs.Items.{fields_again, elements_again}
 use Rattle.dv_update.proofs.Lengths.{length-binary}
 
 -- ---- what stands where a path leads

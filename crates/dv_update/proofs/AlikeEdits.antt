@@ -8,6 +8,7 @@ use Rattle.dv_candidates.specs.declared.fault.PathFault.{PathFault}
 use Rattle.dv_path.specs.Slots.{Slot, taken, free, blocked, slot_of, slot_behind, slot}
 use Rattle.dv_update.specs.Apply.{told, set_at, increased, appended, left, pull_from, edit_at}
 use Rattle.dv_value.specs.Results.{◌>>=◌}
+use Rattle.dv_value.specs.Inner.TreeLaws.{elements_again, fields_again}
 use Rattle.dv_update.specs.Removals.{is_removal}
 use Rattle.dv_update.specs.Inner.StandIn.{in_one_piece, down_to, fields_down_to, Alike, most_levels, IsShallow, PullsShallow}
 use Rattle.dv_update.specs.Update.{Operation, assign, take_away, increase, append, pull, Pulled}
@@ -16,7 +17,6 @@ use Rattle.dv_update.specs.declared.fault.UpdateFault.{UpdateFault}
 use Rattle.dv_update.specs.declared.fault.UpdateFault.TheVariants as faults
 use Rattle.dv_update.proofs.AlikeDown.{slot_down_to, slot-of, slot-marked, equal-shallow}
 use Rattle.dv_update.proofs.DownTo.{Path, below, below-sum, value-marked, put-field-marked, behind-marked, array-marked, elements-opened}
-use Rattle.dv_update.proofs.Items.{fields_again, elements_again}
 
 -- ---- results that are alike
 

@@ -4,12 +4,12 @@ use Rattle.std.specs.Option.{option_map}
 use Rattle.std.specs.Str.{bytes_eq}
 use Rattle.dv_value.specs.Names.{value_under}
 use Rattle.dv_value.specs.Tree.{Tree, document, array, null, Field, Fields, fields_of, list_of_fields, Elements, elements_of, list_of_elements}
+use Rattle.dv_value.specs.Inner.TreeLaws.{elements_again, fields_again}
 use Rattle.dv_candidates.specs.Path.{index_of}
 use Rattle.dv_path.specs.Placing.{result_map, with_field, with_element, put_field, put_element, put_behind}
 use Rattle.dv_candidates.specs.declared.fault.PathFault.{PathFault}
 use Rattle.dv_candidates.specs.declared.fault.PathFault.TheVariants.{IndexTooLarge}
 use Rattle.dv_update.specs.Inner.StandIn.{down_to, fields_down_to}
-use Rattle.dv_update.proofs.Items.{fields_again, elements_again}
 
 abbrev pub Path : Type 0
 Path = List (List ℕ)

@@ -3,9 +3,9 @@ use Rattle.std.proofs.Common.{◌≡◌, ap, ℕ, zero, suc, ◌+◌, ◌-◌, �
 use Rattle.std.proofs.lemmas.Fmt.{decimal_by_steps}
 use Rattle.dv_value.specs.Spelling.{payload}
 use Rattle.dv_value.specs.Tree.{Tree, array, Elements, elements_of, list_of_elements}
+use Rattle.dv_value.specs.Inner.TreeLaws.{elements_back}
 use Rattle.dv_update.specs.Inner.Filling.{elements_least, least}
 use Rattle.dv_update.proofs.AlikeDown.{length-array, length-item}
-use Rattle.dv_update.proofs.PutThere.{elements-again}
 use Rattle.dv_update.proofs.Putting.{items}
 
 -- as many digits as a number has at least
@@ -88,7 +88,7 @@ array-long place vs filled =
     let count : ℕ = min place 100000 + 1 in
     let same : 0 + count ≡ count = omega arith in
     let long : elements_least count ≤ items 0 ws + elements_least 0 = rw (← same) (elements-long count 0 ws (omega arith) (omega arith)) in
-    let back : length (payload (array (elements_of ws))) ≡ length (payload (array vs)) = ap (λ us. length (payload (array us))) (elements-again vs) in
+    let back : length (payload (array (elements_of ws))) ≡ length (payload (array vs)) = ap (λ us. length (payload (array us))) (elements_back vs) in
     sums (least place) (items 0 ws) _ _ long (length-array (elements_of ws)) back
   where
     sums : (all items whole same : ℕ) → all ≤ items + 0 → whole ≡ items + 5 → whole ≡ same → all ≤ same

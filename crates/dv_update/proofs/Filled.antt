@@ -8,6 +8,7 @@ use Rattle.dv_value.specs.declared.value.Value.TheVariants as values
 use Rattle.dv_value.specs.Names.{value_under}
 use Rattle.dv_value.specs.Tree.{Tree, document, array, Field, fields_of, list_of_fields, Elements, elements_of, list_of_elements}
 use Rattle.dv_value.specs.View.{tree}
+use Rattle.dv_value.specs.Inner.TreeLaws.{elements_again, fields_again}
 use Rattle.dv_candidates.specs.Path.{index_of}
 use Rattle.dv_path.specs.Slots.{Slot, taken, slot_of, next_slot, slot_behind, slot}
 use Rattle.dv_order.specs.Inner.SameLaws.{and-left, and-right}
@@ -15,7 +16,6 @@ use Rattle.dv_update.specs.Apply.{Path}
 use Rattle.dv_update.specs.Inner.Filling.{Fill, beyond, beyond_array, beyond_element, leads_into_id, filled, fill_of, left_out, array_of, place_of, first_number}
 use Rattle.dv_update.specs.Inner.StandIn.{new_value}
 use Rattle.dv_update.specs.Update.{Edit}
-use Rattle.dv_update.proofs.Items.{fields_again, elements_again}
 use Rattle.dv_update.proofs.Putting.{IsArray}
 
 pub plain-value : (path : Path) (v : Value) → ((d : List Field) → v ≡ values.Doc d → ⊥) → ((vs : List Tree) → v ≡ values.Array vs → ⊥) → None ≡ beyond path (Some (tree v))

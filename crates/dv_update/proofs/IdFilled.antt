@@ -7,6 +7,7 @@ use Rattle.std.proofs.lemmas.Slice.Eq.{bytes_eq-Decides}
 use Rattle.dv_value.specs.Names.{value_under}
 use Rattle.dv_value.specs.Results.{◌>>=◌}
 use Rattle.dv_value.specs.Tree.{Tree, null, Field}
+use Rattle.dv_value.specs.Inner.TreeLaws.{fields_again}
 use Rattle.dv_order.specs.Same.{both_same, is_same}
 use Rattle.dv_order.specs.Inner.SameLaws.{and-left, and-right, same-is}
 use Rattle.dv_path.specs.Placing.{put}
@@ -20,7 +21,6 @@ use Rattle.dv_update.specs.Update.{Edit}
 use Rattle.dv_update.specs.declared.fault.UpdateFault.TheVariants.{IdChanged}
 use Rattle.dv_update.proofs.Counted.{PutsAreThere, bound-ok, new-put, not-removal, edits-keep-so}
 use Rattle.dv_update.proofs.Filled.{Fills, some-fill}
-use Rattle.dv_update.proofs.Items.{fields_again}
 use Rattle.dv_update.proofs.Meeting.{Met, fill-met}
 use Rattle.dv_update.proofs.Putting.{Stands, put-keeps}
 use Rattle.dv_update.proofs.RemovalsLast.{SlotsStay, or-none-first, or-none-second}

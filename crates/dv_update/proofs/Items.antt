@@ -3,7 +3,7 @@ use Rattle.std.proofs.Common.{◌≡◌, ◌∙◌, ap, sym, refl, List, [], ◌
 use Rattle.std.proofs.lemmas.List.{drop_more}
 use Rattle.std.proofs.lemmas.Option.{slice_get_within, slice_get_read, slice_get-map, get_or_from_slice_get}
 use Rattle.std.specs.Str.{bytes_eq}
-use Rattle.dv_value.specs.Tree.{no_fields, field, Tree, Field, fields_of, list_of_fields, elements_of, list_of_elements}
+use Rattle.dv_value.specs.Tree.{no_fields, field, Tree, Field, fields_of}
 use Rattle.dv_value.specs.View.{tree}
 use Rattle.dv_value.specs.declared.value.Value.{Value}
 use Rattle.dv_update.specs.Inner.Collected.{last_begins}
@@ -12,16 +12,6 @@ use Rattle.dv_update.specs.Parsing.{each_alone, members}
 use Rattle.dv_update.specs.View.{edit}
 use Rattle.dv_update.specs.declared.fault.UpdateFault.TheVariants.{UnknownOperator}
 use Rattle.dv_update.specs.declared.form.Edit.{Edit}
-use Rattle.dv_value.specs.Names.{begins_with_dollar}
-use Rattle.dv_match.specs.Parsing.{lists_operators}
-
-pub elements_again : (vs : List Tree) → list_of_elements (elements_of vs) ≡ vs
-elements_again [] = refl
-elements_again (v ∷ vs) = ap (λ ws. v ∷ ws) (elements_again vs)
-
-pub fields_again : (fs : List Field) → list_of_fields (fields_of fs) ≡ fs
-fields_again [] = refl
-fields_again (f ∷ fs) = ap (λ gs. f ∷ gs) (fields_again fs)
 
 -- what is left from a place on begins with the item there
 pub drop_at : {X : Type 0} (xs : List X) (i : ℕ) (x : X) → Some x ≡ slice_get xs i → drop i xs ≡ x ∷ drop (i + 1) xs
@@ -48,17 +38,6 @@ length-map-tree (v ∷ vs) = ap suc (length-map-tree vs)
 
 pub drop_seen_none : (values : List Value) (vs : List Tree) (i : ℕ) → map tree values ≡ vs → length values ≤ i → drop i vs ≡ []
 drop_seen_none values vs i seen past = drop_of_length-le vs (omega (arith, ap length seen, length-map-tree values))
-
--- the first name of a document
-pub first-operator : (fs : List Field) (name : List ℕ) (v : Tree) → Some (name, v) ≡ slice_get fs 0 → lists_operators (fields_of fs) ≡ begins_with_dollar name
-first-operator [] name v e = absurd cc
-first-operator (f ∷ fs) name v e =
-    let same : (name, v) ≡ f = cc in
-    ap (λ (g : Field). begins_with_dollar g.0) (sym same)
-
-pub no-operator : (fs : List Field) → None ≡ slice_get fs 0 → lists_operators (fields_of fs) ≡ false
-no-operator [] e = refl
-no-operator (f ∷ fs) e = absurd cc
 
 -- a document of one field
 pub each-one : (fs : List Field) (name : List ℕ) (v : Tree) → Some (name, v) ≡ slice_get fs 0 → length fs ≡ 1 → true ≡ bytes_eq name (codes "$each") → each_alone (fields_of fs) ≡ members v

@@ -9,6 +9,7 @@ use Rattle.std.proofs.lemmas.Slice.Eq.{bytes_eq-Decides}
 use Rattle.dv_value.specs.Names.{value_under}
 use Rattle.dv_value.specs.Spelling.{payload, fields_spelling, framed}
 use Rattle.dv_value.specs.Tree.{Tree, document, array, Field, no_fields, fields_of, list_of_fields, elements_of, list_of_elements}
+use Rattle.dv_value.specs.Inner.TreeLaws.{fields_again}
 use Rattle.dv_candidates.specs.Path.{index_of}
 use Rattle.dv_path.specs.Placing.{result_map, with_field, with_element, put_field, put_element, put_behind, put}
 use Rattle.dv_candidates.specs.declared.fault.PathFault.TheVariants.{IndexTooLarge}
@@ -18,7 +19,6 @@ use Rattle.dv_update.specs.Inner.PathOrderLaws.{component_order_total}
 use Rattle.dv_update.specs.Inner.StandIn.{names_length, IsLastWay, parted, parting}
 use Rattle.dv_update.proofs.AlikeDown.{length-document, length-field}
 use Rattle.dv_update.proofs.DownTo.{Path}
-use Rattle.dv_update.proofs.Items.{fields_again}
 use Rattle.dv_update.proofs.Paths.{component-exact}
 
 -- ---- fields whose names come before another

@@ -12,13 +12,13 @@ use Rattle.dv_path.specs.Slots.{slot, taken}
 use Rattle.dv_update.specs.Apply.{Path, told, set_at, is_id, leading_id, checked, changed, applied, document_limit, level_limit}
 use Rattle.dv_update.specs.Parsing.{conflicts, has_conflict, placed, sorted, in_order}
 use Rattle.dv_value.specs.Results.{◌>>=◌}
+use Rattle.dv_value.specs.Inner.TreeLaws.{fields_again}
 use Rattle.dv_update.specs.PathOrder.{path_order, begins}
 use Rattle.dv_update.specs.Inner.PathOrderLaws.{path_order_total}
 use Rattle.dv_order.specs.Same.{is_same, same_fields, both_same}
 use Rattle.dv_update.specs.Update.{Edit, Update, operators}
 use Rattle.dv_update.specs.declared.fault.UpdateFault.{UpdateFault}
 use Rattle.dv_update.specs.declared.fault.UpdateFault.TheVariants.{Conflict, IdChanged, TooLarge, TooDeep}
-use Rattle.dv_update.proofs.Items.{fields_again}
 use Rattle.dv_update.proofs.Paths.{path-exact, begins-itself}
 use Rattle.dv_update.proofs.Placed.{Alike-swap, Alike-behind}
 use Rattle.dv_update.proofs.PutThere.{put-again}

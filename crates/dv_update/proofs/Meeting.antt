@@ -14,6 +14,7 @@ use Rattle.std.proofs.lemmas.Option.{slice_get_within}
 use Rattle.std.proofs.lemmas.Slice.Eq.{bytes_eq-Decides}
 use Rattle.dv_value.specs.Names.{value_under}
 use Rattle.dv_value.specs.Tree.{Tree, document, array, Field, Fields, fields_of, list_of_fields, Elements, elements_of, list_of_elements}
+use Rattle.dv_value.specs.Inner.TreeLaws.{elements_again, fields_again}
 use Rattle.dv_candidates.specs.Path.{index_of}
 use Rattle.dv_path.specs.Placing.{result_map, with_field, with_element, put_field, put_element, put_behind, put}
 use Rattle.dv_path.specs.Slots.{Slot, free, blocked, slot_of, element_slot, slot_behind, slot}
@@ -22,7 +23,6 @@ use Rattle.dv_candidates.specs.declared.fault.PathFault.TheVariants.{NotViable, 
 use Rattle.dv_update.specs.Apply.{Path}
 use Rattle.dv_update.specs.Inner.Filling.{beyond, beyond_array, beyond_element}
 use Rattle.dv_update.specs.PathOrder.{component_order, path_order, begins}
-use Rattle.dv_update.proofs.Items.{fields_again, elements_again}
 use Rattle.dv_update.proofs.Paths.{component-exact}
 use Rattle.dv_update.proofs.Putting.{made-by, may-stand, element-made, places-apart, value-at, value-other, element-at}
 use Rattle.dv_update.proofs.RemovalsLast.{SlotsStay}

@@ -16,6 +16,7 @@ use Rattle.dv_update.specs.Update.{Edit}
 use Rattle.dv_update.specs.View.{entry, operation}
 use Rattle.dv_update.specs.declared.form.Operation.{Operation}
 use Rattle.dv_update.proofs.Paths.{path-exact, begins-itself, begins-first, begins-between}
+use Rattle.dv_order.specs.Inner.KeyLaws.{equal-from}
 
 -- ---- edits of which some are placed
 
@@ -119,11 +120,6 @@ inserted (e ∷ es) path o absent =
     ∙ ap (λ ws. match_ordering (path_order path e.0) ((path, operation o) ∷ entry e ∷ map entry es) ((e.0, operation o) ∷ map entry es) (entry e ∷ ws)) rest
     ∙ placed-by (path_order path e.0) (e.0, operation o) (path, operation o) (entry e) (map entry es) (placed (path, operation o) (map entry es)) (absent-first (is_eq (path_order path e.0)) e.1 (lookup (is_at (path_order path)) es) absent)
 
-is-equal : (o : Ordering) → is_eq o ≡ true → o ≡ Equal
-is-equal Less h = cc
-is-equal Equal h = refl
-is-equal Greater h = cc
-
 or-first : (a b : Bool) → a ≡ true → (a || b) ≡ true
 or-first true b h = refl
 or-first false b h = cc
@@ -139,7 +135,7 @@ found-conflict (d ∷ es) path x is e = by (is_eq (path_order path d.0)) refl e 
     by : (b : Bool) → is_eq (path_order path d.0) ≡ b → true ≡ is_some (cond b (Some d.1) (lookup (is_at (path_order path)) es)) → (true ≡ is_some (lookup (is_at (path_order path)) es) → list_any (conflicts x) (map entry es) ≡ true)
         → list_any (conflicts x) (map entry (d ∷ es)) ≡ true
     by true h f later =
-        let same : x.0 ≡ d.0 = is ∙ path-exact path d.0 (is-equal (path_order path d.0) h) in
+        let same : x.0 ≡ d.0 = is ∙ path-exact path d.0 (equal-from (path_order path d.0) h) in
         or-first _ _ (or-first _ _ (ap (begins x.0) (sym same) ∙ begins-itself x.0))
     by false h f later = or-second _ _ (later f)
 

@@ -4,7 +4,8 @@ use Rattle.std.specs.Str.{bytes_eq}
 use Rattle.std.proofs.lemmas.Bool.Decides.{nat_tests}
 use Rattle.std.proofs.lemmas.Option.{slice_get_within}
 use Rattle.dv_value.specs.Names.{value_under}
-use Rattle.dv_value.specs.Tree.{Tree, document, array, Field, Fields, no_fields, field, fields_of, list_of_fields, Elements, no_elements, element, elements_of, list_of_elements}
+use Rattle.dv_value.specs.Tree.{Tree, document, array, Field, fields_of, list_of_fields, elements_of, list_of_elements}
+use Rattle.dv_value.specs.Inner.TreeLaws.{fields_back, elements_back, fields_again}
 use Rattle.dv_candidates.specs.Path.{index_of}
 use Rattle.dv_path.specs.Placing.{result_map, with_field, with_element, put_field, put_element, put_behind, put}
 use Rattle.dv_candidates.specs.declared.fault.PathFault.{PathFault}
@@ -18,18 +19,6 @@ free-stays (name ∷ names) v e = free-stays names v e
 pub blocked-stays : (names : List (List ℕ)) (v : Tree) → slot_behind names blocked ≡ taken v → ⊥
 blocked-stays [] v e = cc
 blocked-stays (name ∷ names) v e = blocked-stays names v e
-
-pub fields-again : (fs : Fields) → fields_of (list_of_fields fs) ≡ fs
-fields-again no_fields = refl
-fields-again (field name v fs) = ap (field name v) (fields-again fs)
-
-pub elements-again : (vs : Elements) → elements_of (list_of_elements vs) ≡ vs
-elements-again no_elements = refl
-elements-again (element v vs) = ap (element v) (elements-again vs)
-
-list-again : (fs : List Field) → list_of_fields (fields_of fs) ≡ fs
-list-again [] = refl
-list-again (f ∷ fs) = ap (λ gs. f ∷ gs) (list-again fs)
 
 field-again : (b : Bool) (f : Field) (v : Tree) (rest : Option Tree) (gs fs : List Field) → (if b then Some f.1 else rest) ≡ Some v → (rest ≡ Some v → gs ≡ fs) → (if b then (f.0, v) ∷ [] ++ fs else f ∷ gs) ≡ f ∷ fs
 field-again true f v rest gs fs e h = let same : f.1 ≡ v = cc in ap (λ w. let g : Field = (f.0, w) in g ∷ fs) (sym same)
@@ -76,13 +65,13 @@ through-element names v (Some place) vs again e = by (slice_get vs place) refl e
 behind-again : (names : List (List ℕ)) (v : Tree) → Again names v
 behind-again [] v t e = let same : t ≡ v = cc in ap Ok (sym same)
 behind-again (name ∷ names) v (document fs) e =
-    ap (result_map (λ gs. document (fields_of gs))) (through-field names v name (list_of_fields fs) (value_under name (list_of_fields fs)) (behind-again names v) refl e) ∙ ap (λ gs. Ok (document gs)) (fields-again fs)
+    ap (result_map (λ gs. document (fields_of gs))) (through-field names v name (list_of_fields fs) (value_under name (list_of_fields fs)) (behind-again names v) refl e) ∙ ap (λ gs. Ok (document gs)) (fields_back fs)
 behind-again (name ∷ names) v (array vs) e =
-    ap (result_map (λ ws. array (elements_of ws))) (through-element names v (index_of name) (list_of_elements vs) (behind-again names v) e) ∙ ap (λ ws. Ok (array ws)) (elements-again vs)
+    ap (result_map (λ ws. array (elements_of ws))) (through-element names v (index_of name) (list_of_elements vs) (behind-again names v) e) ∙ ap (λ ws. Ok (array ws)) (elements_back vs)
 behind-again (name ∷ names) v t e = absurd (blocked-stays names v e)
 
 pub put-again : (d : List Field) (path : List (List ℕ)) (v : Tree) → slot d path ≡ taken v → put d path v ≡ Ok d
 unfolding put slot
 put-again d [] v e = refl
 put-again d (name ∷ names) v e =
-    through-field names v name d (value_under name d) (behind-again names v) refl (ap (λ fs. slot_behind names (slot_of (value_under name fs))) (sym (list-again d)) ∙ e)
+    through-field names v name d (value_under name d) (behind-again names v) refl (ap (λ fs. slot_behind names (slot_of (value_under name fs))) (sym (fields_again d)) ∙ e)

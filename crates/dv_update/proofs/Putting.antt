@@ -6,6 +6,7 @@ use Rattle.std.proofs.lemmas.Slice.Eq.{bytes_eq-Decides}
 use Rattle.dv_value.specs.Names.{value_under}
 use Rattle.dv_value.specs.Spelling.{payload, spelling, elements_spelling}
 use Rattle.dv_value.specs.Tree.{Tree, document, array, null, boolean, Field, fields_of, list_of_fields, Elements, elements_of, list_of_elements}
+use Rattle.dv_value.specs.Inner.TreeLaws.{elements_again, fields_again, fields_back, elements_back}
 use Rattle.dv_candidates.specs.Path.{index_of}
 use Rattle.dv_path.specs.Placing.{result_map, field_with, with_field, with_element, put_field, put_element, put_behind, put}
 use Rattle.dv_path.specs.Removing.{changed_at, remove_element, left_behind, remove}
@@ -15,8 +16,7 @@ use Rattle.dv_candidates.specs.declared.fault.PathFault.TheVariants.{IndexTooLar
 use Rattle.dv_update.specs.Apply.{Path}
 use Rattle.dv_update.specs.PathOrder.{begins}
 use Rattle.dv_update.proofs.AlikeDown.{length-document, length-array, length-field, length-item}
-use Rattle.dv_update.proofs.Items.{fields_again, elements_again}
-use Rattle.dv_update.proofs.PutThere.{free-stays, blocked-stays, fields-again, elements-again}
+use Rattle.dv_update.proofs.PutThere.{free-stays, blocked-stays}
 use Rattle.dv_update.proofs.RemovalsLast.{SlotsStay}
 
 abbrev size : Tree → ℕ
@@ -280,7 +280,7 @@ exchanged (name ∷ names) v x (document fs) u there put =
     by : (c : Option Tree) → value_under name (list_of_fields fs) ≡ c → slot_behind names (slot_of c) ≡ taken x → {y : Tree} → put_behind names v c ≡ Ok y → ((t u : Tree) → slot_behind names (taken t) ≡ taken x → put_behind names v (Some t) ≡ Ok u → size u + size x ≡ size t + size v)
         → size u ≡ long (with_field name (Some y) (list_of_fields fs)) → size u + size x ≡ size (document fs) + size v
     by None is e made rest whole = absurd (free-stays names x e)
-    by (Some w) is e {y} made rest whole = omega (arith, whole, rest w y e made, with-length name (Some y) (list_of_fields fs), ap (field-size name) is, ap (λ hs. length (payload (document hs))) (fields-again fs))
+    by (Some w) is e {y} made rest whole = omega (arith, whole, rest w y e made, with-length name (Some y) (list_of_fields fs), ap (field-size name) is, ap (λ hs. length (payload (document hs))) (fields_back fs))
 exchanged (name ∷ names) v x (array vs) u there put =
     let ws = list_of_elements vs in
     let outer = made-by (λ xs. array (elements_of xs)) (put_element (put_behind names v) (index_of name) ws) u put in
@@ -299,7 +299,7 @@ exchanged (name ∷ names) v x (array vs) u there put =
           element-length j 0 y (list_of_elements vs) w is,
           length-array (elements_of (with_element j y (list_of_elements vs))),
           length-array (elements_of (list_of_elements vs)),
-          ap (λ us. size (array us)) (elements-again vs),
+          ap (λ us. size (array us)) (elements_back vs),
         )
 exchanged (name ∷ names) v x t u there put = absurd cc
 

@@ -1,29 +1,14 @@
 -- The fields of a replacement behind its `_id`.
 use Rattle.std.proofs.Common.{◌≡◌, ◌∙◌, ap, ap₂, sym, refl, List, [], ◌∷◌, ◌++◌, ℕ, Bool, true, false, ◌||◌, not, Option, Some, None, append_assoc, append-nil, arith, codes, subst, if◌then◌else◌}
 use Rattle.std.specs.Str.{bytes_eq}
-use Rattle.std.proofs.lemmas.Slice.Eq.{bytes_eq-Decides}
 use Rattle.dv_value.specs.Names.{has_name, has_zero, AreNamed}
 use Rattle.dv_value.specs.Tree.{Tree, Field}
+use Rattle.dv_value.specs.Inner.ByteLaws.{bytes_eq-symmetric}
 use Rattle.dv_update.specs.Apply.{is_id, others, with_id}
-
-pub bytes-back : (s t : List ℕ) → bytes_eq s t ≡ bytes_eq t s
-bytes-back s t = by (bytes_eq s t) (bytes_eq t s) refl refl
-  where
-    by : (a b : Bool) → bytes_eq s t ≡ a → bytes_eq t s ≡ b → a ≡ b
-    by true b e f = sym (sym f ∙ (bytes_eq-Decides t s).1 (sym ((bytes_eq-Decides s t).0 e)))
-    by false true e f = let same : bytes_eq s t ≡ true = (bytes_eq-Decides s t).1 (sym ((bytes_eq-Decides t s).0 f)) in cc
-    by false false e f = refl
+use Rattle.dv_update.proofs.RemovalsLast.{or-none-first, or-none-second}
 
 pub or-false : (a b : Bool) → a ≡ false → b ≡ false → (a || b) ≡ false
 or-false a b h g = ap₂ (λ x y. x || y) h g
-
-pub or-none-first : (a b : Bool) → (a || b) ≡ false → a ≡ false
-or-none-first true b h = cc
-or-none-first false b h = refl
-
-pub or-none-second : (a b : Bool) → (a || b) ≡ false → b ≡ false
-or-none-second true b h = cc
-or-none-second false b h = h
 
 has_name-kept : (b : Bool) (name : List ℕ) (f : Field) (fs : List Field) → (bytes_eq name f.0 || has_name name fs) ≡ false → has_name name (others fs) ≡ false → has_name name (if b then f ∷ others fs else others fs) ≡ false
 has_name-kept true name f fs h rest = or-false _ _ (or-none-first _ _ h) rest
@@ -47,7 +32,7 @@ no-id-kept false f fs is rest = or-false _ _ is rest
 
 pub no-id : (fs : List Field) → has_name (codes "_id") (others fs) ≡ false
 no-id [] = refl
-no-id (f ∷ fs) = no-id-kept (is_id f) f fs (bytes-back (codes "_id") f.0) (no-id fs)
+no-id (f ∷ fs) = no-id-kept (is_id f) f fs (bytes_eq-symmetric (codes "_id") f.0) (no-id fs)
 
 has_name-append : (name : List ℕ) (fs gs : List Field) → has_name name (fs ++ gs) ≡ (has_name name fs || has_name name gs)
 has_name-append name [] gs = refl
@@ -56,7 +41,7 @@ has_name-append name (f ∷ fs) gs = grind (arith, has_name-append name fs gs)
 -- a field's name isn't that of one before it
 named-apart : (fs gs : List Field) (f : Field) → AreNamed (fs ++ f ∷ gs) → has_name f.0 fs ≡ false
 named-apart [] gs f named = refl
-named-apart (g ∷ fs) gs f named = grind (arith, named-apart fs gs f named.2, has_name-append g.0 fs (f ∷ gs), bytes-back f.0 g.0)
+named-apart (g ∷ fs) gs f named = grind (arith, named-apart fs gs f named.2, has_name-append g.0 fs (f ∷ gs), bytes_eq-symmetric f.0 g.0)
 
 named-whole : (fs gs : List Field) (f : Field) → AreNamed (fs ++ f ∷ gs) → has_zero f.0 ≡ false
 named-whole [] gs f named = named.0

@@ -1,6 +1,6 @@
 -- Two lists gone through side by side from the front, where what is left of both decides.
-use Rattle.std.specs.Prelude.{◌≡◌, ℕ, ◌+◌, ◌&&◌, nat_le, not, Bool, List, [], ◌∷◌, length, true, false, refl, ◌⊎◌}
-use Rattle.std.proofs.Common.{ap, sym, ◌∙◌, arith}
+use Rattle.std.specs.Prelude.{◌≡◌, ℕ, ◌&&◌, nat_le, not, Bool, List, ◌∷◌, length, true, false, refl, ◌⊎◌}
+use Rattle.std.proofs.Common.{sym, ◌∙◌, arith}
 use Rattle.std.specs.declared.cmp.Ordering.{Ordering}
 use Rattle.std.specs.declared.cmp.Ordering.TheVariants.{Less, Equal, Greater}
 use Rattle.std.specs.Ordering.{ordering_then, nat_cmp, is_ne}
@@ -8,39 +8,7 @@ use Rattle.std.specs.Cmp.{nat_cmp_is}
 use Rattle.std.specs.Cmp.Lexicographic.{slice_cmp}
 use Rattle.std.proofs.lemmas.Bool.Decides.{nat_tests}
 use Rattle.dv_update.specs.PathOrder.{begins}
-
--- us and vs are what is left of xs and ys after as many items of each, and f answers of them what it answers of these
-pub record IsLeft {A R : Type 0} (f : List A → List A → R) (xs ys us vs : List A) : Type 0 where
-  pub passed : length us + length ys ≡ length vs + length xs
-  pub decides : f us vs ≡ f xs ys
-
--- nothing is passed yet
-pub IsLeft-all : {A R : Type 0} (f : List A → List A → R) (xs ys us vs : List A) → us ≡ xs → vs ≡ ys → IsLeft f xs ys us vs
-IsLeft-all f xs ys us vs p q = rw (p, q) (record { passed = omega arith; decides = refl })
-
-module _ {A R : Type 0} {f : List A → List A → R} {xs ys us vs : List A} (left : IsLeft f xs ys us vs) {x y : A} {us' vs' : List A} (p : us ≡ x ∷ us') (q : vs ≡ y ∷ vs') where
-  -- a pair that decides nothing is passed
-  pub IsLeft-more : f (x ∷ us') (y ∷ vs') ≡ f us' vs' → IsLeft f xs ys us' vs'
-  IsLeft-more same = record {
-    passed = omega (arith, left.passed, ap length p, ap length q);
-    decides = sym same ∙ (λ i. f (sym p i) (sym q i)) ∙ left.decides;
-  }
-
-  -- a pair that decides
-  pub decided : (r : R) → f (x ∷ us') (y ∷ vs') ≡ r → r ≡ f xs ys
-  decided r is = sym is ∙ (λ i. f (sym p i) (sym q i)) ∙ left.decides
-
-module _ {A R : Type 0} {f : List A → List A → R} {xs ys us vs : List A} (left : IsLeft f xs ys us vs) (by : ℕ → ℕ → R)
-    (both : (n m : ℕ) → n ≡ m → by n m ≡ f [] []) (first : (w : A) (ws : List A) (n m : ℕ) → n + length (w ∷ ws) ≡ m → by n m ≡ f [] (w ∷ ws)) (second : (w : A) (ws : List A) (n m : ℕ) → n ≡ m + length (w ∷ ws) → by n m ≡ f (w ∷ ws) []) where
-  -- where nothing is left of one list, the lengths decide
-  pub ended : (length us ≡ 0) ⊎ (length vs ≡ 0) → by (length xs) (length ys) ≡ f xs ys
-  ended h = by_lengths us vs (length xs) (length ys) left.passed h ∙ left.decides
-    where
-      by_lengths : (us vs : List A) (n m : ℕ) → length us + m ≡ length vs + n → (length us ≡ 0) ⊎ (length vs ≡ 0) → by n m ≡ f us vs
-      by_lengths [] [] n m e h = both n m (omega arith)
-      by_lengths [] (v ∷ vs) n m e h = first v vs n m (omega arith)
-      by_lengths (u ∷ us) [] n m e h = second u us n m (omega arith)
-      by_lengths (u ∷ us) (v ∷ vs) n m e h = absurd (omega arith)
+use Rattle.dv_value.specs.Inner.LeftLaws.{IsLeft, IsLeft-more, decided, ended, first_is, rest_is}
 
 -- ---- paths that begin others
 
@@ -49,16 +17,6 @@ module _ {xs ys us vs : List (List ℕ)} (left : IsLeft begins xs ys us vs) wher
   begins-ended = ended left nat_le (λ n m e. grind (arith, nat_tests)) (λ w ws n m e. grind (arith, nat_tests)) (λ w ws n m e. grind (arith, nat_tests))
 
 -- ---- orders
-
-rest_is : (r o : Ordering) → false ≡ is_ne r → ordering_then r o ≡ o
-rest_is Less o h = cc
-rest_is Equal o h = refl
-rest_is Greater o h = cc
-
-first_is : (r o : Ordering) → true ≡ is_ne r → ordering_then r o ≡ r
-first_is Less o h = refl
-first_is Equal o h = cc
-first_is Greater o h = refl
 
 module _ {A : Type 0} (R : A → A → Ordering) {xs ys us vs : List A} (left : IsLeft (slice_cmp R) xs ys us vs) where
   pub order-ended : (length us ≡ 0) ⊎ (length vs ≡ 0) → nat_cmp (length xs) (length ys) ≡ slice_cmp R xs ys

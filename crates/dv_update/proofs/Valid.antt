@@ -9,6 +9,8 @@ use Rattle.std.specs.Str.{IsUtf8, bytes_eq}
 use Rattle.dv_value.specs.Names.{has_name, has_zero, value_under}
 use Rattle.dv_value.specs.Spelling.{IsValue, AreFields, AreElements}
 use Rattle.dv_value.specs.Tree.{Tree, document, array, null, Fields, no_fields, field, Field, fields_of, list_of_fields, Elements, no_elements, element, elements_of, list_of_elements}
+use Rattle.dv_value.specs.Inner.TreeLaws.{fields_again}
+use Rattle.dv_value.specs.Inner.ByteLaws.{bytes_eq-symmetric}
 use Rattle.dv_candidates.specs.Path.{index_of}
 use Rattle.dv_path.specs.Placing.{result_map, field_with, with_field, with_element, put_field, put_element, put_behind, put}
 use Rattle.dv_path.specs.Removing.{changed_at, remove_field, remove_element, left_behind, remove}
@@ -16,8 +18,8 @@ use Rattle.dv_path.specs.Slots.{Slot, taken, free, blocked, slot_of, element_slo
 use Rattle.dv_candidates.specs.declared.fault.PathFault.{PathFault}
 use Rattle.dv_candidates.specs.declared.fault.PathFault.TheVariants.{IndexTooLarge}
 use Rattle.dv_update.specs.Apply.{is_id, others, with_id}
-use Rattle.dv_update.proofs.Items.{fields_again}
-use Rattle.dv_update.proofs.Replacing.{bytes-back, or-false, or-none-first, or-none-second, has_name-others, no-id}
+use Rattle.dv_update.proofs.Replacing.{or-false, has_name-others, no-id}
+use Rattle.dv_update.proofs.RemovalsLast.{or-none-first, or-none-second}
 
 -- what holds of both holds of either
 pub either : {X : Type 0} (P : X → Type 0) (b : Bool) (x y : X) → P x → P y → P (if b then x else y)
@@ -111,7 +113,7 @@ has_name-with_field other name c (f ∷ fs) apart absent = changed-apart other (
 changed-valid : (name : List ℕ) (b : Bool) (c : Option Tree) (f : Field) (fs : List Field) → bytes_eq name f.0 ≡ b → IfSome c IsValue → AreValid (f ∷ fs) → AreValid (with_field name c fs) → AreValid (if b then field_with f.0 c ++ fs else f ∷ with_field name c fs)
 changed-valid name true None f fs is value valid rest = valid.3
 changed-valid name true (Some v) f fs is value valid rest = (valid.0, valid.1, value, valid.3)
-changed-valid name false c f fs is value valid rest = (valid.0, has_name-with_field f.0 name c fs (bytes-back f.0 name ∙ is) valid.1, valid.2, rest)
+changed-valid name false c f fs is value valid rest = (valid.0, has_name-with_field f.0 name c fs (bytes_eq-symmetric f.0 name ∙ is) valid.1, valid.2, rest)
 
 with_field-valid : (name : List ℕ) (c : Option Tree) (fs : List Field) → IsName name → IfSome c IsValue → AreValid fs → AreValid (with_field name c fs)
 with_field-valid name None [] named value valid = tt

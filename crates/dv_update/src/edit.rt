@@ -91,7 +91,7 @@ fn append_at(
 }
 
 /// The values behind those that stand there.
-#[tactic(auto, using(crate::proofs::Items::elements_again))]
+#[tactic(auto, using(dv_value::specs::Inner::TreeLaws::elements_again))]
 fn appended(values: &List, slot: Slot<'_>) -> Result<List, UpdateFault>
     ensures { Gives no_memory (λ list. tree (Value.Array list)) result (defined.appended values.now (slot_seen slot.entry)) }
 {
@@ -117,7 +117,7 @@ fn joined(list: &List, values: &List) -> Result<List, NoMemory>
 }
 
 /// Where no element is taken out, nothing is copied.
-#[tactic(auto, using(crate::proofs::Made::pull_none, crate::proofs::Items::elements_again))]
+#[tactic(auto, using(crate::proofs::Made::pull_none, dv_value::specs::Inner::TreeLaws::elements_again))]
 fn pull_at(
     alloc: Global,
     document: Document,

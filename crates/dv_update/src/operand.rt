@@ -77,7 +77,7 @@ fn members_of_each(document: &Document) -> Result<Operation, UpdateFault>
     }
 }
 
-#[tactic(auto, using(crate::proofs::Items::elements_again))]
+#[tactic(auto, using(dv_value::specs::Inner::TreeLaws::elements_again))]
 fn members(operand: &Value) -> Result<Operation, UpdateFault>
     ensures { Gives no_memory operation result (defined.members (tree operand.now)) }
 {

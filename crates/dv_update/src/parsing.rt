@@ -76,7 +76,7 @@ fn edits_in(alloc: Global, document: &Document) -> Result<Vec<Edit>, UpdateFault
 }
 
 /// Adds the edits of an operator at the end.
-#[tactic(auto, using(crate::proofs::Items::fields_again))]
+#[tactic(auto, using(dv_value::specs::Inner::TreeLaws::fields_again))]
 fn add_edits(
     alloc: Global,
     name: &str,

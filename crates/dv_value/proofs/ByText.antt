@@ -11,7 +11,7 @@ use Rattle.std.specs.Str.{bytes_eq}
 use Rattle.std.specs.declared.string.String.{String}
 use Rattle.std.specs.String.{string_bytes, string_cmp}
 use Rattle.dv_value.specs.Inner.Places.{by_text}
-use Rattle.dv_value.proofs.Named.{bytes_eq-symmetric}
+use Rattle.dv_value.specs.Inner.ByteLaws.{bytes_eq-symmetric}
 
 abbrev pub ByBytes : Type 0 → Type 0
 ByBytes X = finite.FinMap (slice_cmp nat_cmp) X

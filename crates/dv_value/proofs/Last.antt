@@ -4,7 +4,7 @@ use Rattle.std.specs.List.{slice_get, position_from}
 use Rattle.std.specs.Str.{bytes_eq}
 use Rattle.std.proofs.lemmas.Slice.Eq.{bytes_eq-Decides}
 use Rattle.dv_value.specs.Names.{bare, place_under, has_name, AreNamed}
-use Rattle.dv_value.proofs.Named.{bytes_eq-symmetric}
+use Rattle.dv_value.specs.Inner.ByteLaws.{bytes_eq-symmetric}
 
 itself : (name : List ℕ) → bytes_eq name name ≡ true
 itself name = (bytes_eq-Decides name name).1 refl

@@ -1,7 +1,6 @@
 pub mod Named
 pub mod ByText
 pub mod Places
-pub mod Items
 pub mod Zipped
 pub mod Payloads
 pub mod Rest

@@ -6,9 +6,11 @@ use Rattle.std.proofs.lemmas.List.Elements.{All-nil, All-cons, All-head, All-tai
 use Rattle.dv_value.specs.Tree.{Field, fields_of}
 use Rattle.dv_value.specs.Names.{AreNamed, has_name}
 use Rattle.dv_value.specs.Spelling.{payload, spelling, fields_spelling, fields_levels, IsValue, AreFields}
-use Rattle.dv_value.proofs.Named.{has_name-append, bytes_eq-symmetric}
+use Rattle.dv_value.proofs.Named.{has_name-append}
 use Rattle.dv_value.specs.Inner.Spelled.{length-document}
-use Rattle.dv_value.proofs.Rest.{list_of_fields-fields_of, fields_length-field}
+use Rattle.dv_value.specs.Inner.TreeLaws.{fields_again}
+use Rattle.dv_value.specs.Inner.ByteLaws.{bytes_eq-symmetric}
+use Rattle.dv_value.proofs.Rest.{fields_length-field}
 
 -- ---- lengths
 
@@ -47,10 +49,10 @@ pub each_valid : (fs : List Field) → AreFields (fields_of fs) → All (λ f. I
 each_valid [] valid = (All-nil IsSound, tt)
 each_valid (f ∷ fs) valid =
     let rest = each_valid fs valid.4 in
-    (All-cons IsSound f fs (valid.0, valid.3) rest.0, (valid.1, ap (has_name f.0) (sym (list_of_fields-fields_of fs)) ∙ valid.2, rest.1))
+    (All-cons IsSound f fs (valid.0, valid.3) rest.0, (valid.1, ap (has_name f.0) (sym (fields_again fs)) ∙ valid.2, rest.1))
 
 pub all_valid : (fs : List Field) → All (λ f. IsUtf8 f.0 × IsValue f.1) fs × AreNamed fs → AreFields (fields_of fs)
 all_valid [] sound = tt
 all_valid (f ∷ fs) sound =
     let here = All-head IsSound f fs sound.0 in
-    (here.0, sound.1.0, ap (has_name f.0) (list_of_fields-fields_of fs) ∙ sound.1.1, here.1, all_valid fs (All-tail IsSound f fs sound.0, sound.1.2))
+    (here.0, sound.1.0, ap (has_name f.0) (fields_again fs) ∙ sound.1.1, here.1, all_valid fs (All-tail IsSound f fs sound.0, sound.1.2))

@@ -1,15 +1,12 @@
 -- The names of a list of fields, and of one with a field more at its end.
 use Rattle.std.proofs.Common.{◌≡◌, ℕ, ◌+◌, ◌-◌, ◌≤◌, ◌<◌, true, false, ◌||◌, List, [], ◌∷◌, ◌++◌, length, get_or, Some, None, is_some, take, drop, map, sym, ap, subst, ◌∙◌, arith}
 use Rattle.std.proofs.lemmas.List.{take-append-drop, map-append}
-use Rattle.std.proofs.lemmas.Bool.Decides.{same_from_decides}
 use Rattle.std.proofs.lemmas.Slice.Eq.{bytes_eq-Decides}
 use Rattle.std.specs.List.{position_from}
 use Rattle.std.specs.Str.{bytes_eq}
 use Rattle.dv_value.specs.Tree.{Field, boolean}
 use Rattle.dv_value.specs.Names.{bare, place_under, value_under, has_name, has_zero, AreNamed}
-
-pub bytes_eq-symmetric : (a b : List ℕ) → bytes_eq a b ≡ bytes_eq b a
-bytes_eq-symmetric a b = same_from_decides _ _ (bytes_eq-Decides a b) ((λ e. sym ((bytes_eq-Decides b a).0 e)), λ e. (bytes_eq-Decides b a).1 (sym e))
+use Rattle.dv_value.specs.Inner.ByteLaws.{bytes_eq-symmetric}
 
 pub has_name-append : (name : List ℕ) (fs gs : List Field) → has_name name (fs ++ gs) ≡ (has_name name fs || has_name name gs)
 has_name-append name [] gs = grind arith

@@ -10,7 +10,7 @@ use Rattle.dv_value.specs.Tree.{Tree, null, Field}
 use Rattle.dv_value.specs.Names.{AreNamed, has_name, has_zero, place_under, value_under, value_at, with_values}
 use Rattle.dv_value.specs.Inner.Covers.{under, covered, IsCovered, AreCovered}
 use Rattle.dv_value.specs.Inner.Put.{with_value_at}
-use Rattle.dv_value.proofs.Items.{drop_item}
+use Rattle.dv_value.specs.Inner.ListLaws.{drop_item}
 use Rattle.dv_value.proofs.Changed.{found_within}
 use Rattle.dv_value.proofs.Named.{named_apart, value_there}
 

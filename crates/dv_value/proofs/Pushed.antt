@@ -7,7 +7,7 @@ use Rattle.dv_value.specs.declared.value.Value.{Value}
 use Rattle.dv_value.specs.FieldChange.{with_found_pushed, with_value_pushed}
 use Rattle.dv_value.specs.Names.{place_under, value_under, with_value_under, has_name}
 use Rattle.dv_value.specs.Inner.Put.{with_value_behind}
-use Rattle.dv_value.specs.Tree.{Tree, array, Field, elements_of, list_of_elements}
+use Rattle.dv_value.specs.Tree.{Tree, array, Field}
 use Rattle.dv_value.specs.View.{tree}
 use Rattle.dv_value.proofs.Changed.{put_missing, value_found, zip-put}
 
@@ -17,10 +17,6 @@ pub given_back : (name : List ℕ) (v w : Tree) (fs gs : List Field) → Some w 
 given_back name v w fs gs back put = grind (arith, put_missing name v fs)
 
 -- ---- an element more
-
-pub list_of_elements-elements_of : (vs : List Tree) → list_of_elements (elements_of vs) ≡ vs
-list_of_elements-elements_of [] = refl
-list_of_elements-elements_of (v ∷ vs) = ap (λ (ws : List Tree). v ∷ ws) (list_of_elements-elements_of vs)
 
 pub put_same : (name : List ℕ) (v : Tree) (fs : List Field) → value_under name fs ≡ Some v → with_value_under name v fs ≡ fs
 put_same name v [] found = refl

@@ -10,11 +10,11 @@ use Rattle.dv_value.specs.Inner.Put.{with_value_at}
 use Rattle.dv_value.specs.Inner.Spelled.{length-array, elements_spelling-nil}
 use Rattle.dv_value.specs.Spelling.{payload, spelling, elements_spelling, levels, fields_levels, elements_levels, IsValue, AreFields, AreElements}
 use Rattle.dv_value.specs.Tree.{Tree, array, Field, fields_of, elements_of}
+use Rattle.dv_value.specs.Inner.TreeLaws.{fields_again, elements_again}
 use Rattle.dv_value.proofs.Changed.{found_behind, with_value_at-found}
 use Rattle.dv_value.proofs.Moved.{length-field, each_valid, all_valid}
 use Rattle.dv_value.proofs.Named.{AreNamed-push}
-use Rattle.dv_value.proofs.Pushed.{list_of_elements-elements_of}
-use Rattle.dv_value.proofs.Rest.{list_of_fields-fields_of, elements_length-element}
+use Rattle.dv_value.proofs.Rest.{elements_length-element}
 
 -- ---- levels
 
@@ -63,9 +63,9 @@ valid-at : (v : Tree) (place : ℕ) (fs : List Field) → IsValue v → AreField
 valid-at v place [] value valid = tt
 valid-at v zero (f ∷ fs) value valid = (valid.0, valid.1, valid.2, value, valid.4)
 valid-at v (suc place) (f ∷ fs) value valid =
-    let apart : has_name f.0 fs ≡ false = rw (list_of_fields-fields_of fs) at valid.2 in
+    let apart : has_name f.0 fs ≡ false = rw (fields_again fs) at valid.2 in
     let still : has_name f.0 (with_value_at place v fs) ≡ false = has_name-at f.0 v place fs ∙ apart in
-    (valid.0, valid.1, rw (list_of_fields-fields_of (with_value_at place v fs)) still, valid.3, valid-at v place fs value valid.4)
+    (valid.0, valid.1, rw (fields_again (with_value_at place v fs)) still, valid.3, valid-at v place fs value valid.4)
 
 measured-at : (v : Tree) (place : ℕ) (fs : List Field) (f : Field) (size after : ℕ) → slice_get fs place ≡ Some f → IsMeasure size fs → IsValue v → levels v + 1 ≤ 100 → after + length (payload f.1) ≡ size + length (payload v) → after ≤ 2147483647
     → IsMeasure after (with_value_at place v fs)
@@ -131,7 +131,7 @@ module _ (name : List ℕ) (v : Tree) (place : ℕ) (fs : List Field) (f : Field
   pushed-at : with_value_at place (array (elements_of (vs ++ v ∷ []))) fs ≡ with_value_pushed name v fs
   pushed-at =
       let under : value_under name fs ≡ Some (array (elements_of vs)) = there-from name 0 place place fs f (omega arith) (sym found) here ∙ ap Some is in
-      rw (under, list_of_elements-elements_of vs) (with_value_at-found name (array (elements_of (vs ++ v ∷ []))) place fs found)
+      rw (under, elements_again vs) (with_value_at-found name (array (elements_of (vs ++ v ∷ []))) place fs found)
 
   pub measured-pushed : (size after : ℕ) → IsMeasure size fs → IsValue v → levels v + 2 ≤ 100 → after ≡ size + (length (payload v) + length (decimal (length vs)) + 2) → after ≤ 2147483647 → IsMeasure after (with_value_pushed name v fs)
   measured-pushed size after measure value depth sum within =

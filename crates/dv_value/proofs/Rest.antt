@@ -1,12 +1,13 @@
 -- The fields of a document, or the elements of a list, that a loop has still to come to.
-use Rattle.std.proofs.Common.{◌≡◌, ℕ, suc, ◌+◌, max, List, [], ◌∷◌, length, drop, Some, decimal, length-append, add-one, refl, sym, ap, subst, ◌∙◌}
+use Rattle.std.proofs.Common.{◌≡◌, ℕ, suc, ◌+◌, max, List, ◌∷◌, length, drop, Some, decimal, length-append, add-one, refl, sym, ap, subst, ◌∙◌}
 use Rattle.std.specs.List.{slice_get}
 use Rattle.std.specs.Str.{IsUtf8}
-use Rattle.dv_value.specs.Tree.{Tree, Field, fields_of, list_of_fields, elements_of}
+use Rattle.dv_value.specs.Tree.{Tree, Field, fields_of, elements_of}
 use Rattle.dv_value.specs.Names.{AreNamed}
 use Rattle.dv_value.specs.Inner.Spelled.{fields_spelling-field, elements_spelling-element, length-element_spelling}
 use Rattle.dv_value.specs.Spelling.{payload, fields_spelling, elements_spelling, levels, fields_levels, elements_levels, IsValue, AreFields, AreElements}
-use Rattle.dv_value.proofs.Items.{drop_item}
+use Rattle.dv_value.specs.Inner.TreeLaws.{fields_again}
+use Rattle.dv_value.specs.Inner.ListLaws.{drop_item}
 
 -- ---- lengths
 
@@ -28,17 +29,13 @@ elements_length-drop vs place v here =
 
 -- ---- validity
 
-pub list_of_fields-fields_of : (fs : List Field) → list_of_fields (fields_of fs) ≡ fs
-list_of_fields-fields_of [] = refl
-list_of_fields-fields_of (f ∷ fs) = ap (λ (gs : List Field). f ∷ gs) (list_of_fields-fields_of fs)
-
 -- the fields from a place on have good names, and where they are valid, the whole document is
 pub record AreValidBefore (fs : List Field) (place : ℕ) : Type 0 where
   pub named : AreNamed (drop place fs)
   pub valid : AreFields (fields_of (drop place fs)) → AreFields (fields_of fs)
 
 valid_more : (f : Field) (fs : List Field) → IsUtf8 f.0 → IsValue f.1 → AreNamed (f ∷ fs) → AreFields (fields_of fs) → AreFields (fields_of (f ∷ fs))
-valid_more f fs text value named valid = (text, named.0, rw (list_of_fields-fields_of fs) named.1, value, valid)
+valid_more f fs text value named valid = (text, named.0, rw (fields_again fs) named.1, value, valid)
 
 pub AreValidBefore-more : (fs : List Field) (place : ℕ) (f : Field) → slice_get fs place ≡ Some f → IsUtf8 f.0 → IsValue f.1 → AreValidBefore fs place → AreValidBefore fs (place + 1)
 AreValidBefore-more fs place f here text value before =

@@ -2,15 +2,14 @@
 use Rattle.std.proofs.Common.{◌≡◌, ℕ, zero, suc, ◌+◌, ◌≤◌, ◌<◌, true, false, ◌||◌, cond, ltb, List, [], ◌∷◌, ◌++◌, length, take, drop, map, Option, Some, None, refl, sym, ap, subst, ◌∙◌, arith}
 use Rattle.std.specs.Prelude.{if◌then◌else◌, nat_lt}
 use Rattle.std.specs.List.{zip, slice_get, position_from}
-use Rattle.std.specs.Option.{option_map, IfSome}
 use Rattle.std.specs.Str.{bytes_eq}
 use Rattle.std.proofs.lemmas.Bool.{lt-ltb, le-ltb}
 use Rattle.std.proofs.lemmas.List.{length_push, length-take-le, take-append-drop, take_more, map-append}
 use Rattle.std.proofs.lemmas.Option.{slice_get_within, slice_get_past, get_or_from_slice_get}
 use Rattle.std.proofs.lemmas.Slice.Zip.{length-zip}
 use Rattle.dv_value.specs.Tree.{Tree, Field}
-use Rattle.dv_value.specs.Names.{bare, AreNamed, has_name, has_zero, place_under, with_values}
-use Rattle.dv_value.proofs.Items.{drop_item}
+use Rattle.dv_value.specs.Names.{bare, AreNamed, has_name, place_under, with_values}
+use Rattle.dv_value.specs.Inner.ListLaws.{drop_item}
 use Rattle.dv_value.proofs.Named.{named_apart}
 
 abbrev Texts : Type 0

@@ -9,3 +9,7 @@ pub mod Spelled
 pub mod Weight
 pub mod Put
 pub mod Removing
+pub mod ListLaws
+pub mod TreeLaws
+pub mod LeftLaws
+pub mod ByteLaws

@@ -17,7 +17,7 @@ use Rattle.dv_views.specs.Inner.Older.{Entries, is_called, place_of_name, told_b
 use Rattle.dv_views.specs.Inner.Seen.{view_seen}
 use Rattle.dv_views.specs.Views.{View}
 use Rattle.dv_views.specs.Inner.Views.{AreNamedApart, view_under}
-use Rattle.dv_views.proofs.Right.{either-way}
+use Rattle.dv_value.specs.Inner.ByteLaws.{bytes_eq-symmetric}
 
 -- ---- places of names
 
@@ -145,11 +145,11 @@ module _ {Y : Type 0} (name : List ℕ) where
 
   pub told_here : (namespace : List ℕ) (all : List taking.Taken) (n : ℕ) (es : Entries Y) → told_named name (take n es) ≡ None → bytes_eq name namespace ≡ true → Some all ≡ told_found namespace all n es name
   told_here namespace all n es none is =
-      sym (ap (λ t. told_else t (known_at namespace all name)) none ∙ ap (λ (b : Bool). if b then Some all else None) (either-way namespace name ∙ is))
+      sym (ap (λ t. told_else t (known_at namespace all name)) none ∙ ap (λ (b : Bool). if b then Some all else None) (bytes_eq-symmetric namespace name ∙ is))
 
   pub told_nowhere : (namespace : List ℕ) (all : List taking.Taken) (n : ℕ) (es : Entries Y) → told_named name (take n es) ≡ None → bytes_eq name namespace ≡ false → None ≡ told_found namespace all n es name
   told_nowhere namespace all n es none is =
-      sym (ap (λ t. told_else t (known_at namespace all name)) none ∙ ap (λ (b : Bool). if b then Some all else None) (either-way namespace name ∙ is))
+      sym (ap (λ t. told_else t (known_at namespace all name)) none ∙ ap (λ (b : Bool). if b then Some all else None) (bytes_eq-symmetric namespace name ∙ is))
 
 -- ---- the first view of a name is the only one
 

@@ -33,8 +33,9 @@ use Rattle.dv_views.proofs.Right.{UnreadDoesNotMatter, itself, neither}
 use Rattle.dv_views.proofs.Rolling.{raised_none, raised_twice}
 use Rattle.dv_views.proofs.Scratch.{one_length}
 use Rattle.dv_views.proofs.Unread.{lists_behind, no_arrivals, one_change, shares_more}
-use Rattle.dv_views.proofs.Turns.{EqualKeysAreOne, changed_parts, first-change, one-identified, one-own}
+use Rattle.dv_views.proofs.Turns.{changed_parts, first-change, one-identified, one-own}
 use Rattle.dv_views.proofs.OneBehind.{Leads, forms_after, next-agreed, next-leads, next-same, none_of, right-one}
+use Rattle.dv_order.specs.Inner.KeyLaws.{EqualKeysAreOne}
 
 -- ---- all views behind the change
 

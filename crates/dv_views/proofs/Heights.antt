@@ -22,7 +22,8 @@ use Rattle.dv_views.specs.Inner.Older.{Entries, views}
 use Rattle.dv_views.specs.Inner.Seen.{HaveHeights, entry_view}
 use Rattle.dv_views.specs.Inner.Views.{Views, view_form, has_view, reads_name}
 use Rattle.dv_views.proofs.Needed.{closed}
-use Rattle.dv_views.proofs.Right.{either-way, itself, neither, or-left, or-right, read_among}
+use Rattle.dv_views.proofs.Right.{itself, neither, or-left, or-right, read_among}
+use Rattle.dv_value.specs.Inner.ByteLaws.{bytes_eq-symmetric}
 
 -- ---- the highest of names
 
@@ -137,7 +138,7 @@ module _ {Y : Type 0} where
   heights-under high v [] away kept = tt
   heights-under high v (e ∷ es) away kept =
       let both = neither (bytes_eq v.name (string_bytes e.0)) (has_view v.name (views es)) away in (
-        kept.0 ∙ ap (λ (b : Bool). if b then height_over high v.stages v.source else high (string_bytes e.0)) (sym (either-way (string_bytes e.0) v.name ∙ both.0)),
+        kept.0 ∙ ap (λ (b : Bool). if b then height_over high v.stages v.source else high (string_bytes e.0)) (sym (bytes_eq-symmetric (string_bytes e.0) v.name ∙ both.0)),
         heights-under high v es both.1 kept.1,
       )
 
@@ -205,7 +206,7 @@ among_next name other names i h is = at names i h is ∙ (let more : suc i ≡ i
   where
     at : (names : List (List ℕ)) (i : ℕ) → i < length names → other ≡ get_or names i other → is_name_among name (drop i names) ≡ (bytes_eq other name || is_name_among name (drop (suc i) names))
     at [] i h is = absurd (omega arith)
-    at (n ∷ ns) zero h is = λ k. (ap (bytes_eq name) (sym is) ∙ either-way name other) k || is_name_among name ns
+    at (n ∷ ns) zero h is = λ k. (ap (bytes_eq name) (sym is) ∙ bytes_eq-symmetric name other) k || is_name_among name ns
     at (n ∷ ns) (suc i) h is = at ns i (omega arith) is
 
 -- ---- why there can be no new view

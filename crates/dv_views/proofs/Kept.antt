@@ -1,5 +1,5 @@
 -- Views behind changes, and what is kept for them.
-use Rattle.std.proofs.Common.{◌≡◌, ℕ, Bool, true, false, List, [], ◌∷◌, ◌++◌, map, Option, Some, None, Result, Ok, Err, OnErr, refl, ap, sym, subst, ◌∙◌}
+use Rattle.std.proofs.Common.{◌≡◌, ℕ, Bool, true, false, List, [], ◌∷◌, ◌++◌, Option, Some, None, Result, Ok, Err, OnErr, refl, ap, sym, subst, ◌∙◌}
 use Rattle.std.proofs.lemmas.Slice.Eq.{bytes_eq-Decides}
 use Rattle.std.specs.Bool.{if◌then◌else◌}
 use Rattle.std.specs.List.{AllByRecursion}
@@ -13,10 +13,10 @@ use Rattle.dv_pipe.specs.Sources.{Row}
 use Rattle.dv_pipe.specs.Stages.{Lists}
 use Rattle.dv_views.specs.Changed.{documents_changed, with_changed}
 use Rattle.dv_views.specs.Forms.{ViewForm, is_read_by}
-use Rattle.dv_views.specs.Inner.Changed.{AreMade, AreMadeInTurn, IsMade}
+use Rattle.dv_views.specs.Inner.Changed.{AreMade, AreMadeInTurn}
 use Rattle.dv_views.specs.Inner.Copies.{AreCopies, AreCopiesRead, AreKeptRight, HaveCopiesRead, HaveHeard, HaveTakenChange, HaveTold, IsCopy, KeptViews, NamedCopies, copy_under}
 use Rattle.dv_views.specs.Inner.Turned.{HaveTaken, known_at}
-use Rattle.dv_views.specs.Inner.Views.{AreOverLive, AreRight, Views, no_distance, reads_name, view_form}
+use Rattle.dv_views.specs.Inner.Views.{AreOverLive, AreRight, Views, no_distance, reads_name}
 use Rattle.dv_views.specs.Placed.{positioned}
 use Rattle.dv_views.proofs.Agree.{FromScratch}
 use Rattle.dv_views.proofs.Behind.{HaveFollowed, follow_more, follow_none, made_front, made_last, told_of}
@@ -25,7 +25,8 @@ use Rattle.dv_views.proofs.Heights.{read_forms}
 use Rattle.dv_views.proofs.Made.{forgotten}
 use Rattle.dv_views.proofs.OneBehind.{forms_after}
 use Rattle.dv_views.proofs.Right.{UnreadDoesNotMatter}
-use Rattle.dv_views.proofs.Turns.{EqualKeysAreOne, changed_parts, one-own}
+use Rattle.dv_views.proofs.Turns.{changed_parts, one-own}
+use Rattle.dv_order.specs.Inner.KeyLaws.{EqualKeysAreOne}
 
 -- what is kept of a namespace, if anything is, are these documents
 abbrev pub AreKeptIn : List ℕ → KeptViews → List Row → Type 0

@@ -26,8 +26,8 @@ use Rattle.dv_views.proofs.Agree.{FromScratch}
 use Rattle.dv_views.proofs.Behind.{AreToldIn, HaveFollowed, counted_none, follow_told}
 use Rattle.dv_views.proofs.Heights.{read_forms}
 use Rattle.dv_views.proofs.Right.{UnreadDoesNotMatter}
-use Rattle.dv_views.proofs.Turns.{EqualKeysAreOne}
 use Rattle.dv_views.proofs.Unread.{no_shares}
+use Rattle.dv_order.specs.Inner.KeyLaws.{EqualKeysAreOne}
 
 -- ---- where a change comes, whatever it is
 

@@ -9,7 +9,7 @@ use Rattle.std.specs.Ordering.{is_eq, is_lt, match_ordering, ordering_then}
 use Rattle.std.specs.declared.cmp.Ordering.{Ordering}
 use Rattle.std.specs.declared.cmp.Ordering.TheVariants.{Less, Equal, Greater}
 use Rattle.dv_order.specs.Key.{KeyTree, key_order}
-use Rattle.dv_order.specs.Inner.KeyLaws.{key_order_total}
+use Rattle.dv_order.specs.Inner.KeyLaws.{key_order_total, equal-from}
 use Rattle.dv_coll.specs.Collection.{IsAscending, id_key, has_key, found, inserted, removed, replaced}
 use Rattle.dv_change.specs.declared.change.Change.TheVariants.{Put, Gone}
 use Rattle.dv_change.specs.declared.position.Part.TheVariants.{Up}
@@ -102,15 +102,10 @@ gone-met : (k : KeyTree) (d : Row) (ds : List Row) (b : Bool) (rest : Positioned
 gone-met k d ds true rest only same = forgotten ds ∙ sym (only refl)
 gone-met k d ds false rest only same = ap (λ es. d ∷ es) same
 
-equal-of : (o : Ordering) → is_eq o ≡ true → o ≡ Equal
-equal-of Less e = cc
-equal-of Equal e = refl
-equal-of Greater e = cc
-
 pub gone_made : (k : KeyTree) (ds : List Row) → IsAscending ds → documents_changed (Gone (Up k ∷ []) ∷ []) ds ≡ removed k ds
 unfolding IsStrictlySortedBy
 gone_made k [] ascending = refl
 gone_made k (d ∷ ds) ascending =
     ap (λ o. values_of (cond (is_eq o) (positioned ds) ((own_position d, d) ∷ remove_entry (is_at (pos_order (Up k ∷ []))) (positioned ds)))) (one_part (key_order k (id_key d)))
     ∙ gone-met k d ds (is_eq (key_order k (id_key d))) _
-    (λ here. apart-removed k ds (apart-beside k (id_key d) ds (equal-of _ here) ascending.0)) (gone_made k ds ascending.1)
+    (λ here. apart-removed k ds (apart-beside k (id_key d) ds (equal-from _ here) ascending.0)) (gone_made k ds ascending.1)

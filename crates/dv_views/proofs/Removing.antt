@@ -16,8 +16,9 @@ use Rattle.dv_views.specs.Views.{View}
 use Rattle.dv_views.specs.Inner.Views.{AreNamedApart, AreOverLive, Views, distance, view_form, no_distance, reads, reads_name, with_distance, views_without}
 use Rattle.dv_views.proofs.Entries.{AreOthers, others, taken_out}
 use Rattle.dv_views.proofs.Heights.{forms_of}
-use Rattle.dv_views.proofs.Right.{either-way, neither, read_among}
+use Rattle.dv_views.proofs.Right.{neither, read_among}
 use Rattle.dv_views.proofs.Silent.{silent_removed}
+use Rattle.dv_value.specs.Inner.ByteLaws.{bytes_eq-symmetric}
 
 -- ---- the others are no farther from being live than before
 
@@ -81,7 +82,7 @@ module _ (gone : List ℕ) where
   same-highest before after first [] same away = refl
   same-highest before after first (n ∷ names) same away =
       let both = neither (bytes_eq gone n) (is_name_among gone names) away in
-      ap (λ (h : ℕ). fold (λ so_far name. max so_far (before name)) (max first h) names) (same n (either-way n gone ∙ both.0)) ∙ same-highest before after (max first (after n)) names same both.1
+      ap (λ (h : ℕ). fold (λ so_far name. max so_far (before name)) (max first h) names) (same n (bytes_eq-symmetric n gone ∙ both.0)) ∙ same-highest before after (max first (after n)) names same both.1
 
   same-height : (v : View) (before after : List ℕ → ℕ) → AreSameBut gone before after → reads v gone ≡ false → height_over before v.stages v.source ≡ height_over after v.stages v.source
   same-height v before after same away = ap suc (same-highest before after 0 (names_read v.stages v.source) same (sym (read_among v.stages v.source gone) ∙ away))
@@ -105,7 +106,7 @@ module _ (gone : List ℕ) where
   module _ {Y : Type 0} (before after : List ℕ → ℕ) (same : AreSameBut gone before after) where
     kept-others : (es : Entries Y) → AreOthers gone es → HaveHeights before es → HaveHeights after es
     kept-others [] away kept = tt
-    kept-others (e ∷ es) away kept = (kept.0 ∙ same (string_bytes e.0) (either-way (string_bytes e.0) gone ∙ away.0), kept-others es away.1 kept.1)
+    kept-others (e ∷ es) away kept = (kept.0 ∙ same (string_bytes e.0) (bytes_eq-symmetric (string_bytes e.0) gone ∙ away.0), kept-others es away.1 kept.1)
 
     kept-out : (es : Entries Y) → AreNamedApart (views es) → HaveHeights before es → HaveHeights after (remove_entry (is_called gone) es)
     unfolding IsDistinct
@@ -114,7 +115,7 @@ module _ (gone : List ℕ) where
       where
         by : (b : Bool) → is_called gone e.0 ≡ b → HaveHeights after (remove_entry (is_called gone) es) → HaveHeights after (cond b es (e ∷ remove_entry (is_called gone) es))
         by true is rest = kept-others es (others gone (string_bytes e.0) es is apart.0) kept.1
-        by false off rest = (kept.0 ∙ same (string_bytes e.0) (either-way (string_bytes e.0) gone ∙ off), rest)
+        by false off rest = (kept.0 ∙ same (string_bytes e.0) (bytes_eq-symmetric (string_bytes e.0) gone ∙ off), rest)
 
 pub heights_removed : {Y : Type 0} (gone : List ℕ) (es : Entries Y) → AreNamedApart (views es) → reads_name (views es) gone ≡ false → HaveHeights (heights (forms_of es)) es
     → HaveHeights (heights (map view_form (views_without gone (views es)))) (remove_entry (is_called gone) es)

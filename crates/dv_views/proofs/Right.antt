@@ -3,7 +3,6 @@ use Rattle.std.proofs.Common.{◌≡◌, ◌||◌, ℕ, Bool, true, false, not, 
 use Rattle.std.specs.Bool.{if◌then◌else◌}
 use Rattle.std.specs.List.{list_any}
 use Rattle.std.specs.Str.{bytes_eq}
-use Rattle.std.proofs.lemmas.Bool.Decides.{same_from_decides}
 use Rattle.std.proofs.lemmas.Slice.Eq.{bytes_eq-Decides}
 use Rattle.dv_change.specs.Work.{through_forms}
 use Rattle.dv_pipe.specs.Sources.{Row}
@@ -14,6 +13,7 @@ use Rattle.dv_views.specs.Inner.Holding.{HasMade}
 use Rattle.dv_views.specs.Placed.{ListPlaces, forms, lookups_of, list_places, positioned, names_with}
 use Rattle.dv_views.specs.Views.{ViewMark, Taken, live, stale, View, taken_from}
 use Rattle.dv_views.specs.Inner.Views.{AreKept, AreRight, AreRightOver, IsRight, Views, view_form, reads, reads_name, views_without}
+use Rattle.dv_value.specs.Inner.ByteLaws.{bytes_eq-symmetric}
 
 -- what dv_pipe's law says of pipelines
 abbrev pub UnreadDoesNotMatter : Type 0
@@ -36,9 +36,6 @@ neither false b e = (refl, e)
 pub itself : (name : List ℕ) → bytes_eq name name ≡ true
 itself name = (bytes_eq-Decides name name).1 refl
 
-pub either-way : (a b : List ℕ) → bytes_eq a b ≡ bytes_eq b a
-either-way a b = same_from_decides _ _ (bytes_eq-Decides a b) ((λ e. sym ((bytes_eq-Decides b a).0 e)), λ e. (bytes_eq-Decides b a).1 (sym e))
-
 lookups-among : (ss : List Stage) (source name : List ℕ) → list_any (λ s. is_source_named name (looked_into s source)) ss ≡ is_name_among name (lookups_of ss source)
 lookups-among [] source name = refl
 lookups-among (s ∷ ss) source name = by (looked_into s source) (lookups-among ss source name)
@@ -49,7 +46,7 @@ lookups-among (s ∷ ss) source name = by (looked_into s source) (lookups-among 
 
 -- what is read is among the names that are read
 pub read_among : (stages : List Stage) (source name : List ℕ) → is_read stages source name ≡ is_name_among name (names_read stages source)
-read_among stages source name = λ i. either-way source name i || lookups-among stages source name i
+read_among stages source name = λ i. bytes_eq-symmetric source name i || lookups-among stages source name i
 
 -- ---- what is read at places
 

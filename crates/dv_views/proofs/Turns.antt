@@ -1,13 +1,13 @@
 -- Changes that a collection makes, one after the other.
-use Rattle.std.proofs.Common.{◌≡◌, Bool, true, false, List, [], ◌∷◌, ◌++◌, Option, Some, cond, refl, ap, sym, subst, ◌∙◌}
+use Rattle.std.proofs.Common.{◌≡◌, Bool, true, false, List, [], ◌∷◌, ◌++◌, Some, cond, refl, ap, sym, subst, ◌∙◌}
 use Rattle.std.specs.BTreeMap.{insert_entry, is_at}
 use Rattle.std.specs.List.{AllByRecursion}
 use Rattle.std.specs.Map.{remove_entry, values_of}
 use Rattle.std.specs.Ordering.{is_eq, match_ordering}
 use Rattle.std.specs.declared.cmp.Ordering.{Ordering}
 use Rattle.std.specs.declared.cmp.Ordering.TheVariants.{Less, Equal, Greater}
-use Rattle.dv_value.specs.Tree.{Tree}
-use Rattle.dv_order.specs.Key.{key_at, key_order}
+use Rattle.dv_order.specs.Key.{key_order}
+use Rattle.dv_order.specs.Inner.KeyLaws.{EqualKeysAreOne}
 use Rattle.dv_coll.specs.Collection.{HasId, id_key}
 use Rattle.dv_change.specs.declared.change.Change.{Change}
 use Rattle.dv_change.specs.declared.change.Change.TheVariants.{Put, Gone}
@@ -19,10 +19,6 @@ use Rattle.dv_views.specs.Changed.{documents_changed}
 use Rattle.dv_views.specs.Inner.Changed.{AreMade, AreMadeInTurn, IsMade}
 use Rattle.dv_views.specs.Placed.{own_position, positioned}
 use Rattle.dv_views.proofs.Made.{forgotten, one_part}
-
--- what dv_order's law says of keys
-abbrev pub EqualKeysAreOne : Type 0
-EqualKeysAreOne = (v w : Option Tree) → key_order (key_at v) (key_at w) ≡ Equal → key_at v ≡ key_at w
 
 same-position : EqualKeysAreOne → (d e : Row) → HasId d → HasId e → key_order (id_key d) (id_key e) ≡ Equal → own_position d ≡ own_position e
 same-position one [] e h k equal = absurd h

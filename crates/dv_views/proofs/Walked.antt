@@ -25,7 +25,8 @@ use Rattle.dv_views.specs.Views.{View}
 use Rattle.dv_views.proofs.Heights.{heights_written}
 use Rattle.dv_views.proofs.Marked.{HaveFirst, all_taken, apart_written, length_views, length_written, taken_next}
 use Rattle.dv_views.proofs.OneBehind.{forms_after, founded_after, none_of, over_after}
-use Rattle.dv_views.proofs.Right.{either-way, itself, neither, or-left, or-right, read_among}
+use Rattle.dv_views.proofs.Right.{itself, neither, or-left, or-right, read_among}
+use Rattle.dv_value.specs.Inner.ByteLaws.{bytes_eq-symmetric}
 
 -- ---- a change comes to no view that reads none of the names to which it came
 
@@ -56,7 +57,7 @@ unreached names told v alone away = none-told told (names_read v.stages v.source
 told-first : (namespace : List ℕ) (all : List taking.Taken) → AreToldAlone (namespace ∷ []) (known_at namespace all)
 told-first namespace all name off =
     let both = neither (bytes_eq name namespace) false off in
-    let away : bytes_eq namespace name ≡ false = either-way namespace name ∙ both.0 in
+    let away : bytes_eq namespace name ≡ false = bytes_eq-symmetric namespace name ∙ both.0 in
     ap (λ (b : Bool). if b then Some all else None) away
 
 told-unlisted : (names : List (List ℕ)) (told : Known) (name : List ℕ) (all : Option (List taking.Taken)) → all ≡ None → AreToldAlone names told → AreToldAlone names (with_known name all told)

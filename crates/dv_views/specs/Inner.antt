@@ -25,3 +25,4 @@ pub mod Readers
 pub mod Handing
 pub mod Copies
 pub mod CopiesCode
+pub mod ResultLaws

@@ -2,12 +2,7 @@
 use Rattle.std.proofs.Common.{ℕ, ◌+◌, ◌^◌, ◌<◌, ◌≤◌, arith}
 use Rattle.dv_streams.specs.Stream.{MoreBy}
 use Rattle.dv_wire.specs.Service.{AsksFew, most_reads}
-
-pub no_more : (count : ℕ) → MoreBy 0 count count
-no_more count = omega arith
-
-pub one_more : (many old mid new : ℕ) → MoreBy many old mid → MoreBy 1 mid new → MoreBy (many + 1) old new
-one_more many old mid new before now = omega (arith, before, now)
+use Rattle.dv_wire.specs.Inner.CountLaws.{one_more}
 
 -- one time more of those that there may be
 pub asks_few : (reads old mid new : ℕ) → reads < 2 ^ 32 → MoreBy reads old mid → MoreBy 1 mid new → AsksFew old new

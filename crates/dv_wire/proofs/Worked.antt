@@ -1,16 +1,12 @@
 -- The worked examples of sessions, computed.
-use Rattle.std.proofs.Common.{◌≡◌, ℕ, Bool, true, false, ltb, List, [], ◌∷◌, ◌++◌, Result, Ok, Err, refl, ap, ◌∙◌, arith, lit<, inl, inr}
+use Rattle.std.proofs.Common.{◌≡◌, ℕ, Bool, true, false, List, [], ◌∷◌, ◌++◌, Result, Ok, Err, refl, ap, ◌∙◌, arith, lit<, inl, inr}
 use Rattle.std.specs.Prelude.{pos, codes}
-use Rattle.std.specs.List.{list_all}
-use Rattle.std.specs.Str.{is_utf8, IsAscii}
-use Rattle.std.proofs.lemmas.Bool.{ltb-true, and_parts}
-use Rattle.std.proofs.lemmas.Str.{is_utf8-from_IsUtf8, IsUtf8-from_ascii}
-use Rattle.std.proofs.lemmas.Str.Ascii.{IsAscii-nil, IsAscii-cons}
 use Rattle.dv_value.specs.declared.fault.BsonFault.{BsonFault}
 use Rattle.dv_value.specs.Tree.{int32, Field}
 use Rattle.dv_value.specs.Spelling.{framed, element_spelling, payload}
 use Rattle.dv_bson.specs.Reading.{document_at, count_at, body_at, Inside, fields_at, kind_at, kind_of_byte, name_at, cut_at_zero, value_at, text_at}
 use Rattle.dv_value.specs.Results.{◌>>=◌}
+use Rattle.dv_value.specs.Inner.ByteLaws.{is_text}
 use Rattle.dv_command.specs.Asked.{asked_by}
 use Rattle.dv_command.specs.declared.command.Command.{Command}
 use Rattle.dv_refusal.specs.declared.refusal.Refusal.TheVariants.{WantOfMemory}
@@ -26,14 +22,6 @@ use Rattle.dv_message.specs.Inner.Examples.{asks, empty_document}
 use Rattle.dv_wire.specs.Inner.Examples.{ping_document, ping_fields, ok, ping_message, pong, SessionExamples, WantOverBytes}
 
 -- ---- a ping, from its bytes
-
-is_ascii_text : (bytes : List ℕ) → list_all (λ b. ltb b 128) bytes ≡ true → IsAscii bytes
-is_ascii_text [] all = IsAscii-nil
-is_ascii_text (b ∷ bytes) all = let parts = and_parts (ltb b 128) (list_all (λ c. ltb c 128) bytes) all in IsAscii-cons b bytes (ltb-true b 128 parts.0) (is_ascii_text bytes parts.1)
-
--- text below 128 is UTF-8
-is_text : (bytes : List ℕ) → list_all (λ b. ltb b 128) bytes ≡ true → is_utf8 bytes ≡ true
-is_text bytes all = is_utf8-from_IsUtf8 bytes (IsUtf8-from_ascii bytes (is_ascii_text bytes all))
 
 read_name : name_at false [] (112 ∷ 105 ∷ 110 ∷ 103 ∷ 0 ∷ 1 ∷ 0 ∷ 0 ∷ 0 ∷ 2 ∷ 36 ∷ 100 ∷ 98 ∷ 0 ∷ 2 ∷ 0 ∷ 0 ∷ 0 ∷ 116 ∷ 0 ∷ []) ≡ Ok (codes "ping", 1 ∷ 0 ∷ 0 ∷ 0 ∷ 2 ∷ 36 ∷ 100 ∷ 98 ∷ 0 ∷ 2 ∷ 0 ∷ 0 ∷ 0 ∷ 116 ∷ 0 ∷ [])
 unfolding name_at cut_at_zero

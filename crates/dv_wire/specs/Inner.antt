@@ -2,3 +2,4 @@
 pub mod Examples
 pub mod View
 pub mod WorldCode
+pub mod CountLaws

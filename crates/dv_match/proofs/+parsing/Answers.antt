@@ -2,8 +2,9 @@ use Rattle.std.proofs.Common.{◌≡◌, ◌∙◌, ap, sym, arith, slice_get, m
 use Rattle.dv_value.specs.Tree.{Field}
 use Rattle.dv_value.specs.View.{tree}
 use Rattle.dv_value.specs.Inner.Weight.{field_weighs_less, value_weighs_less}
+use Rattle.dv_value.specs.Inner.ListLaws.{none-of}
 use Rattle.dv_match.specs.View.{member, condition}
-use Rattle.dv_match.proofs.Collected.{member_of_field, condition_of_field, filter_of_value, kept, within-some, filter-fault, filter-end, operators-fault, operators-end, filters-fault, filters-end, none-of, gives-fault, filters-some}
+use Rattle.dv_match.proofs.Collected.{member_of_field, condition_of_field, filter_of_value, kept, within-some, filter-fault, filter-end, operators-fault, operators-end, filters-fault, filters-end, gives-fault, filters-some}
 use Rattle.dv_match.proofs.+parsing.Goals as goal
 
 pub form::Filter::parse-member_of-requires : goal.form::Filter::parse-member_of-requires

@@ -1,12 +1,13 @@
 -- The order of keys is total: their classes decide, and then the values, whose order is total.
-use Rattle.std.specs.Prelude.{◌≡◌, true, refl, pos}
+use Rattle.std.specs.Prelude.{◌≡◌, Option, true, refl, pos}
 use Rattle.std.proofs.Common.{subst}
 use Rattle.std.specs.declared.cmp.Ordering.{Ordering}
-use Rattle.std.specs.Ordering.{nat_cmp, is_ne, on, then_cmp}
-use Rattle.std.specs.Cmp.{IsTotalOrder, nat_cmp_total, on_total, then_total}
+use Rattle.std.specs.declared.cmp.Ordering.TheVariants.{Less, Equal, Greater}
+use Rattle.std.specs.Ordering.{nat_cmp, is_eq, is_lt, is_ne, on, then_cmp}
+use Rattle.std.specs.Cmp.{Equal-is, IsTotalOrder, eq_by_cmp_equiv, nat_cmp_total, on_total, then_total}
 use Rattle.dv_value.specs.Tree.{Tree, int32}
 use Rattle.dv_order.specs.Order.{class, order}
-use Rattle.dv_order.specs.Key.{KeyTree, no_element, value, key_class, key_order}
+use Rattle.dv_order.specs.Key.{KeyTree, no_element, value, key_at, key_class, key_order}
 use Rattle.dv_order.specs.Inner.TotalOrder.{order_total, unequal_decides, classes_first}
 
 -- the value of a key, and something fixed where it has none
@@ -34,3 +35,19 @@ in_two_steps_is (value v) (value w) = classes_first v w
 
 pub key_order_total : IsTotalOrder key_order
 key_order_total = subst IsTotalOrder (λ i k l. in_two_steps_is k l i) (then_total (on_total key_class nat_cmp_total) (on_total value_of order_total))
+
+-- whether keys are equal, either way round
+pub equal-back : (k l : KeyTree) → is_eq (key_order k l) ≡ is_eq (key_order l k)
+equal-back k l = (eq_by_cmp_equiv key_order_total).symm k l
+
+pub equal-from : (o : Ordering) → is_eq o ≡ true → o ≡ Equal
+equal-from o e = (Equal-is o).0 e
+
+pub is-less : (o : Ordering) → is_lt o ≡ true → o ≡ Less
+is-less Less e = refl
+is-less Equal e = absurd cc
+is-less Greater e = absurd cc
+
+-- what the law of keys says that are equal
+abbrev pub EqualKeysAreOne : Type 0
+EqualKeysAreOne = (v w : Option Tree) → key_order (key_at v) (key_at w) ≡ Equal → key_at v ≡ key_at w

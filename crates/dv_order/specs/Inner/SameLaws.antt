@@ -1,11 +1,12 @@
 -- Values that are the same by each part are the same.
 use Rattle.std.specs.Prelude.{◌↔◌}
-use Rattle.std.proofs.Common.{◌≡◌, ◌∙◌, ap, ap₂, sym, refl, List, [], ◌∷◌, ℕ, ℤ, Bool, true, false, ◌&&◌, ◌==◌, arith}
+use Rattle.std.proofs.Common.{◌≡◌, ◌∙◌, ap, ap₂, sym, refl, List, ℕ, ℤ, Bool, true, false, ◌&&◌, ◌==◌, arith}
 use Rattle.std.specs.Ordering.{int_eq}
 use Rattle.std.specs.Str.{bytes_eq}
 use Rattle.std.proofs.lemmas.Bool.Decides.{Decides-int_eq, nat_tests}
 use Rattle.std.proofs.lemmas.Slice.Eq.{bytes_eq-Decides}
 use Rattle.dv_value.specs.Tree.{Tree, int32, int64, string, document, array, boolean, binary, object_id, date, null, timestamp, min_key, max_key, Fields, no_fields, field, Elements, no_elements, element, Field, fields_of, list_of_fields}
+use Rattle.dv_value.specs.Inner.TreeLaws.{fields_again}
 use Rattle.dv_order.specs.Same.{agree, is_same, same_fields, same_elements}
 
 pub and-left : (b c : Bool) → (b && c) ≡ true → b ≡ true
@@ -96,10 +97,6 @@ mutual
   elements-itself : (vs : Elements) → same_elements vs vs ≡ true
   elements-itself no_elements = refl
   elements-itself (element v vs) = and-both _ _ (same-itself v) (elements-itself vs)
-
-fields_again : (fs : List Field) → list_of_fields (fields_of fs) ≡ fs
-fields_again [] = refl
-fields_again (f ∷ fs) = ap (λ gs. f ∷ gs) (fields_again fs)
 
 pub same_values : (v w : Tree) → (is_same v w ≡ true) ↔ (v ≡ w)
 same_values v w = (same-is v w, λ e. ap (is_same v) (sym e) ∙ same-itself v)

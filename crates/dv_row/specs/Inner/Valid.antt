@@ -1,7 +1,5 @@
 -- Rows that can be spelled: what stages make of one is valid too, where the stage was read from valid values.
-use Rattle.std.proofs.Common.{◌≡◌, ◌∙◌, ap, sym, refl, subst, ℕ, ◌||◌, Bool, true, false, List, [], ◌∷◌, ◌++◌, Some, None, Option, Result, Ok, Err, codes, if◌then◌else◌}
-use Rattle.std.proofs.lemmas.Bool.Decides.{same_from_decides}
-use Rattle.std.proofs.lemmas.Slice.Eq.{bytes_eq-Decides}
+use Rattle.std.proofs.Common.{◌≡◌, ◌∙◌, sym, refl, subst, ℕ, ◌||◌, Bool, true, false, List, [], ◌∷◌, ◌++◌, Some, None, Option, Result, Ok, Err, codes, if◌then◌else◌}
 use Rattle.std.specs.Bool.{⊤}
 use Rattle.std.specs.List.{AllByRecursion, filter_map}
 use Rattle.std.specs.Option.{IfSome, option_and_then}
@@ -21,6 +19,8 @@ use Rattle.dv_path.specs.Names.{has_dot}
 use Rattle.dv_row.specs.ExpressionParsing.{switch_in, literal_in, text_expression, literal_or_made, under_name, constant_or_fault, constant_in, expression_in, computed_in}
 use Rattle.dv_row.specs.Parsing.{path_in}
 use Rattle.dv_value.specs.Results.{◌>>=◌, each}
+use Rattle.dv_value.specs.Inner.TreeLaws.{fields_again}
+use Rattle.dv_value.specs.Inner.ByteLaws.{bytes_eq-symmetric}
 use Rattle.dv_row.specs.Row.{Row}
 
 abbrev pub AreValues : List Tree → Type 0
@@ -50,10 +50,6 @@ IsSoundProject (Include paths es) = AreSound es
 IsSoundProject (Exclude paths) = ⊤
 
 -- ---- lists and trees
-
-pub fields_again : (fs : List Field) → list_of_fields (fields_of fs) ≡ fs
-fields_again [] = refl
-fields_again (f ∷ fs) = ap (λ gs. f ∷ gs) (fields_again fs)
 
 pub listed-fields : (fs : Fields) → AreFields fs → IsValid (list_of_fields fs)
 listed-fields no_fields valid = tt
@@ -105,9 +101,6 @@ each-sound {X} {Y} P Q f sound (x ∷ xs) all =
 
 -- ---- fields
 
-pub bytes-back : (a b : List ℕ) → bytes_eq a b ≡ bytes_eq b a
-bytes-back a b = same_from_decides (bytes_eq a b) (bytes_eq b a) (bytes_eq-Decides a b) ((λ e. sym ((bytes_eq-Decides b a).0 e)), (λ e. (bytes_eq-Decides b a).1 (sym e)))
-
 pub first-false : (a b : Bool) → a || b ≡ false → a ≡ false
 first-false true b e = cc
 first-false false b e = refl
@@ -131,7 +124,7 @@ has_name-more other name v (f ∷ fs) absent apart = neither (bytes_eq other f.0
 pub more-valid : (name : List ℕ) (v : Tree) (fs : List Field) → IsUtf8 name → has_zero name ≡ false → IsValue v → IsValid fs → has_name name fs ≡ false → IsValid (fs ++ (name, v) ∷ [])
 more-valid name v [] text whole value valid absent = (text, whole, refl, value, tt)
 more-valid name v (f ∷ fs) text whole value valid absent =
-    (valid.0, valid.1, has_name-more f.0 name v fs valid.2 (bytes-back f.0 name ∙ first-false (bytes_eq name f.0) _ absent), valid.3, more-valid name v fs text whole value valid.4 (second-false (bytes_eq name f.0) _ absent))
+    (valid.0, valid.1, has_name-more f.0 name v fs valid.2 (bytes_eq-symmetric f.0 name ∙ first-false (bytes_eq name f.0) _ absent), valid.3, more-valid name v fs text whole value valid.4 (second-false (bytes_eq name f.0) _ absent))
 
 pub with_field-valid : (name : List ℕ) (c : Candidate) (fs : List Field) → IsUtf8 name → IfSome c IsValue → IsValid fs → IsValid (with_field_behind name c fs)
 with_field-valid name None fs text value valid = valid

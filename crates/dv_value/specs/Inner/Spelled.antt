@@ -4,7 +4,7 @@ use Rattle.std.specs.Int.{w32, to_le_bytes}
 use Rattle.std.proofs.Common.{refl, length-append, arith}
 use Rattle.dv_value.specs.declared.kind.Kind.{Kind}
 use Rattle.dv_value.specs.Spelling.{kind_of, framed, counted, tagged, element_spelling, payload, fields_spelling, elements_spelling}
-use Rattle.dv_value.specs.Tree.{Tree, document, array, Fields, Elements, Field, fields_of, elements_of}
+use Rattle.dv_value.specs.Tree.{Tree, document, array, Fields, Elements, element, Field, fields_of, elements_of}
 
 -- ---- what a field or an element adds in front of the others
 
@@ -15,6 +15,10 @@ fields_spelling-field f fs = refl
 pub elements_spelling-element : (place : ℕ) (v : Tree) (vs : List Tree) → elements_spelling place (elements_of (v ∷ vs)) ≡ element_spelling (kind_of v) (decimal place) (payload v) ++ elements_spelling (suc place) (elements_of vs)
 unfolding elements_spelling
 elements_spelling-element place v vs = refl
+
+pub elements-element : (i : ℕ) (v : Tree) (vs : Elements) → elements_spelling i (element v vs) ≡ element_spelling (kind_of v) (decimal i) (payload v) ++ elements_spelling (suc i) vs
+unfolding elements_spelling
+elements-element i v vs = refl
 
 pub fields_spelling-nil : (fs : List Field) → fs ≡ [] → fields_spelling (fields_of fs) ≡ []
 unfolding fields_spelling

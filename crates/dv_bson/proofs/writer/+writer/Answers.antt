@@ -7,7 +7,7 @@ use Rattle.dv_value.specs.Inner.Spelled.{fields_spelling-nil, elements_spelling-
 use Rattle.dv_value.specs.Spelling.{payload, kind_of, fields_spelling, elements_spelling}
 use Rattle.dv_value.specs.View.{tree}
 use Rattle.dv_value.specs.Inner.Weight.{field_weighs_less, value_weighs_less}
-use Rattle.dv_bson.proofs.Items.{slice_get_seen, drop_seen}
+use Rattle.dv_value.specs.Inner.ListLaws.{slice_get_seen, drop_seen}
 use Rattle.dv_bson.proofs.Payloads.{payload-int32, payload-int64, payload-string, payload-document, payload-array, payload-binary, payload-object_id, payload-boolean, payload-date, payload-null, payload-timestamp, payload-min_key, payload-max_key}
 use Rattle.dv_bson.proofs.Rest.{fields_spelling-drop, elements_spelling-drop, payload-le-fields, payload-le-elements}
 use Rattle.dv_bson.proofs.Written.{put_none, put_as, length-put, all_left, room_for, less_left, none_left, element_put}

@@ -1,7 +1,7 @@
 use Rattle.std.proofs.Common.{◌≡◌, Some, true, sym}
 use Rattle.dv_value.specs.View.{tree}
+use Rattle.dv_value.specs.Inner.ListLaws.{slice_get_seen}
 use Rattle.dv_candidates.proofs.Asked.{any-some}
-use Rattle.dv_candidates.proofs.Items.{slice_get_seen}
 use Rattle.dv_candidates.proofs.any.any_element.Goals as goal
 
 pub returns-then-passes : goal.returns-then-passes

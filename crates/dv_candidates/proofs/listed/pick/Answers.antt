@@ -1,10 +1,10 @@
 use Rattle.std.proofs.Common.{◌∙◌, ◌++◌, ◌∷◌, ◌≤◌, [], length, map, ap, sym, append-nil}
 use Rattle.std.proofs.lemmas.List.{length-map, map-append}
 use Rattle.dv_value.specs.View.{tree}
+use Rattle.dv_value.specs.Inner.ListLaws.{slice_get_seen}
 use Rattle.dv_candidates.specs.Candidates.{picked, candidate_found}
 use Rattle.dv_candidates.specs.View.{seen}
 use Rattle.dv_candidates.proofs.Asked.{none-past}
-use Rattle.dv_candidates.proofs.Items.{slice_get_seen}
 use Rattle.dv_candidates.proofs.listed.pick.Goals as goal
 
 pub returns-in_default-get : goal.returns-in_default-get

@@ -1,9 +1,10 @@
 use Rattle.std.proofs.Common.{◌≡◌, ◌∙◌, ◌++◌, ◌∷◌, [], map, drop, ap, sym, ◌+◌}
 use Rattle.std.specs.List.{flat_map}
 use Rattle.dv_value.specs.Names.{value_under}
+use Rattle.dv_value.specs.Inner.ListLaws.{positive}
 use Rattle.dv_candidates.specs.Candidates.{candidates, step_from, whole}
 use Rattle.dv_candidates.specs.View.{seen}
-use Rattle.dv_candidates.proofs.Asked.{positive, whole-first, candidates-more, candidates-end}
+use Rattle.dv_candidates.proofs.Asked.{whole-first, candidates-more, candidates-end}
 use Rattle.dv_candidates.proofs.listed.whole.Goals as goal
 
 pub loop-component-init : goal.loop-component-init

@@ -2,9 +2,10 @@ use Rattle.std.proofs.Common.{◌∙◌, ◌∷◌, [], ◌++◌, ◌+◌, ap, s
 use Rattle.std.specs.List.{flat_map}
 use Rattle.dv_candidates.specs.Candidates.{candidates, whole}
 use Rattle.dv_candidates.specs.View.{seen}
-use Rattle.dv_candidates.proofs.Asked.{positive, whole-first, candidates-more, candidates-end}
+use Rattle.dv_candidates.proofs.Asked.{whole-first, candidates-more, candidates-end}
 use Rattle.dv_candidates.proofs.Clear.{clear-first, clear-more}
 use Rattle.dv_candidates.proofs.sole.sole_candidate.Goals as goal
+use Rattle.dv_value.specs.Inner.ListLaws.{positive}
 
 pub loop-component-init : goal.loop-component-init
 loop-component-init c =

@@ -4,12 +4,13 @@ use Rattle.std.proofs.lemmas.List.{length-map}
 use Rattle.dv_value.specs.Names.{value_under}
 use Rattle.std.proofs.lemmas.Result.{err_from_is_err_and}
 use Rattle.dv_value.specs.View.{tree}
+use Rattle.dv_value.specs.Inner.ListLaws.{slice_get_seen}
 use Rattle.dv_candidates.specs.declared.candidate.Candidate.TheVariants.{Found, Missing}
 use Rattle.dv_candidates.specs.Path.{index_of}
 use Rattle.dv_candidates.specs.Candidates.{Candidate}
 use Rattle.dv_candidates.specs.Inner.Places.{has, picks}
 use Rattle.dv_candidates.proofs.Bits.{none}
-use Rattle.dv_candidates.proofs.Items.{get_or_any, slice_get_seen, value_weighs_less, value_weighs_less_in}
+use Rattle.dv_candidates.proofs.Items.{get_or_any, value_weighs_less, value_weighs_less_in}
 use Rattle.dv_candidates.proofs.Folds.{FoldsOver-none, FoldsOver-call, FoldsOver-more, FoldsOver-same, StopsAmong-call, StopsAmong-more, Folded-same, Folded-more, Folded-call}
 use Rattle.dv_candidates.proofs.WalkedArrays.{element-whole, whole-below, below-none, below-more, picked-element, entered-element, element-either}
 use Rattle.dv_candidates.proofs.Walks.{IsPart, part-before, part-reaches, reaches-before, reaches-end, end-reaches, plain-step, missing-reaches, reaches-missing, behind-within, value_at, IsSorted, IsSorted-none, there-none, IsSorted-skipped, there-skipped, IsSorted-missing, there-missing, IsSorted-found, there-found, behind-whole, missing-whole, whole-or-missing, whole-all-there}

@@ -1,14 +1,14 @@
 use Rattle.std.proofs.Common.{List, inl, inr, map, subst, sym, ◌∙◌}
-use Rattle.dv_value.specs.Tree.{Field}
 use Rattle.dv_change.specs.declared.taking.Taken as taking
 use Rattle.dv_catalog.specs.Changes.{gone}
 use Rattle.dv_catalog.specs.Inner.EffectView.{AreUpdatesOf, ArePlaced, after_of, changes_seen, update_changes}
-use Rattle.dv_catalog.specs.Inner.Told.{AreToldSo, documents_in, gones_told}
+use Rattle.dv_catalog.specs.Inner.Told.{AreToldSo, gones_told}
 use Rattle.dv_catalog.specs.State.{documents_of}
 use Rattle.dv_catalog.proofs.Keeping.{all_begin}
 use Rattle.dv_catalog.proofs.ToldChanges.{all_identified}
-use Rattle.dv_catalog.proofs.ToldViews.{OldLaws, gones_so, ok_then, same_documents, updates_so}
+use Rattle.dv_catalog.proofs.ToldViews.{OldLaws, gones_so, same_documents, updates_so}
 use Rattle.dv_catalog.proofs.view_changes.told.Goals as goal
+use Rattle.dv_views.specs.Inner.ResultLaws.{ok_then}
 
 pub returns-then-not-is_read : goal.returns-then-not-is_read
 returns-then-not-is_read c = inr (c.new.ensures.items, sym c.is_read.ensures ∙ c.if-not-is_read.true)

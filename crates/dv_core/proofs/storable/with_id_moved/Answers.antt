@@ -1,7 +1,7 @@
 use Rattle.std.proofs.Common.{drop, ◌+◌, ◌≡◌, ◌∷◌, ◌++◌, [], sym, subst, codes, refl, List, drop_of_length-le, arith}
 use Rattle.dv_value.specs.Tree.{Field}
 use Rattle.dv_value.specs.View.{tree}
-use Rattle.dv_core.proofs.Lists.{drop_item}
+use Rattle.dv_value.specs.Inner.ListLaws.{drop_item}
 use Rattle.dv_core.proofs.Stored.{IsCopied, nothing_copied, all_copied, IsCopied-id, IsCopied-more, whole_name, fresh_name, drop-none}
 use Rattle.dv_core.proofs.storable.with_id_moved.Goals as goal
 use Rattle.dv_core.proofs.storable.with_id_moved.Goals.{then-ne+in_ok-try_clone-2+in_ok-add-2, else-ne, else-others-test, then-others-test+in_default}

@@ -1,17 +1,17 @@
 use Rattle.std.proofs.Common.{◌≡◌, ◌∙◌, ◌||◌, ◌&&◌, ◌==◌, ◌∷◌, [], Bool, true, false, ap, sym}
 use Rattle.std.proofs.lemmas.Result.{on_ok_weaker}
+use Rattle.std.proofs.Math.Bool.{or-false, or_assoc}
 use Rattle.std.specs.List.{list_any}
 use Rattle.std.specs.Ordering.{is_eq}
 use Rattle.dv_order.specs.Key.{KeyTree, key_order}
 use Rattle.dv_path.specs.LeafKeys.{leaf_values}
 use Rattle.dv_gather.specs.Inner.KeySets.{AreKeysOf}
 use Rattle.dv_gather.specs.Inner.Places.{is_under}
-use Rattle.dv_gather.proofs.Lists.{or-assoc, or-false}
 use Rattle.dv_gather.proofs.Placed.{if-some}
 use Rattle.dv_gather.proofs.joining.add_place.Goals as goal
 
 and-either : (was b a c : Bool) → (was || (b && a)) || (b && c) ≡ was || (b && (a || c))
-and-either was true a c = or-assoc was a c
+and-either was true a c = or_assoc was a c
 and-either was false a c = or-false (was || false)
 
 pub keys-preserved : goal.keys-preserved

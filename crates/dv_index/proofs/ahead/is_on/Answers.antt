@@ -1,6 +1,6 @@
 use Rattle.std.proofs.Common.{◌∙◌, sym}
-use Rattle.dv_index.proofs.Foremost.{one-path}
 use Rattle.dv_index.proofs.ahead.is_on.Goals as goal
+use Rattle.dv_keyed.specs.Inner.ListLaws.{one-path}
 
 pub returns : goal.returns
 returns c = λ same.

@@ -3,7 +3,7 @@ use Rattle.std.proofs.lemmas.List.Sums.{length-filter}
 use Rattle.dv_value.specs.Tree.{Field}
 use Rattle.dv_keyed.specs.Within.{has_within}
 use Rattle.dv_keyed.specs.Inner.View.{bounds_seen}
-use Rattle.dv_index.proofs.Lists.{map-kept, length-lent}
+use Rattle.dv_keyed.specs.Inner.ListLaws.{map-kept, length-lent}
 use Rattle.dv_index.proofs.coverage.covered_by.Goals as goal
 
 pub returns : goal.returns

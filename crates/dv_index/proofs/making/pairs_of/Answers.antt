@@ -1,4 +1,5 @@
 use Rattle.std.proofs.Common.{rules, ◌≡◌, ◌∙◌, ◌||◌, ◌&&◌, not, true, false, List, ap, sym, subst}
+use Rattle.std.proofs.Math.Bool.{or-false, and-true, or_assoc}
 use Rattle.std.specs.List.{AllByRecursion, list_any}
 use Rattle.std.specs.Ordering.{is_eq}
 use Rattle.dv_coll.specs.Collection.{HasId, IsAscending, id_key}
@@ -8,7 +9,6 @@ use Rattle.dv_value.specs.Tree.{Field}
 use Rattle.dv_keyed.specs.Inner.Pairs.{has_pair, is_under_another}
 use Rattle.dv_index.specs.Unique.{are_apart}
 use Rattle.dv_index.proofs.Built.{IsElsewhere, no-pair-yet, some-has, some-has-found, still-apart}
-use Rattle.dv_index.proofs.Lists.{and-true, or-assoc, or-false}
 use Rattle.dv_index.proofs.Picked.{tail-ascends}
 use Rattle.dv_index.proofs.Shared.{any-never}
 use Rattle.dv_index.proofs.Taken.{all-others, broken-by, has-some, still-apart-from}
@@ -43,7 +43,7 @@ loop-document-preserved c = record {
       let rest = some-has k id path c.next.new.self in
       let d = c.in-Some.document.now in
       ap (λ b. b || rest) (c.in_ok-add_keys.ensures.ok k id)
-      ∙ or-assoc was (is_eq (key_order id (id_key d)) && is_leaf_key k path d) rest
+      ∙ or_assoc was (is_eq (key_order id (id_key d)) && is_leaf_key k path d) rest
       ∙ ap (λ ds. was || some-has k id path ds) (sym c.in-Some.ensures.steps)
       ∙ c.loop-document.invariant.keys k id;
   identified = (subst (AllByRecursion HasId) c.in-Some.ensures.steps c.loop-document.invariant.identified).1;

@@ -4,8 +4,8 @@ use Rattle.std.proofs.lemmas.Result.{IfOk-weaker}
 use Rattle.dv_value.specs.Tree.{Field}
 use Rattle.dv_match.specs.Match.{matches}
 use Rattle.dv_index.proofs.Foremost.{some-is}
-use Rattle.dv_index.proofs.Lists.{map-kept}
 use Rattle.dv_index.proofs.search.found_by.Goals as goal
+use Rattle.dv_keyed.specs.Inner.ListLaws.{map-kept}
 
 pub returns-in-Some : goal.returns-in-Some
 returns-in-Some c =

@@ -2,8 +2,8 @@ use Rattle.std.proofs.Common.{Bor, arith, ◌≤◌, ◌∙◌, Bool, filter as 
 use Rattle.std.proofs.lemmas.List.{take_all}
 use Rattle.dv_value.specs.declared.value.Document.{Document}
 use Rattle.dv_match.specs.Match.{matches}
-use Rattle.dv_index.proofs.Lists.{length-kept}
 use Rattle.dv_index.proofs.search.matching.Goals as goal
+use Rattle.dv_index.proofs.Counted.{length-kept}
 
 pub returns-then-len-most : goal.returns-then-len-most
 returns-then-len-most c =

@@ -2,8 +2,8 @@ use Rattle.std.proofs.Common.{◌∙◌, ap, filter, length, take}
 use Rattle.std.proofs.lemmas.List.{take_all}
 use Rattle.std.proofs.lemmas.Result.{IfOk-weaker}
 use Rattle.dv_match.specs.Match.{matches}
-use Rattle.dv_index.proofs.Lists.{length-kept}
 use Rattle.dv_index.proofs.search.run.Goals as goal
+use Rattle.dv_index.proofs.Counted.{length-kept}
 
 pub returns : goal.returns
 returns c =

@@ -1,10 +1,10 @@
 use Rattle.std.proofs.Common.{◌+◌, ◌∷◌, ◌∙◌, [], drop, ap, subst, sym, ℕ, List}
 use Rattle.dv_path.specs.LeafKeys.{is_leaf_key}
 use Rattle.dv_keyed.specs.Inner.Index.{form_of}
+use Rattle.dv_keyed.specs.Inner.ListLaws.{drop-step}
 use Rattle.dv_index.specs.Inner.View.{afters, befores}
 use Rattle.dv_index.specs.Unique as defined
 use Rattle.dv_index.specs.declared.unique.Replacing.{Replacing}
-use Rattle.dv_index.proofs.Lists.{drop-step}
 use Rattle.dv_index.proofs.Tried.{InTurn, at-first, goes-on, refused}
 use Rattle.dv_index.proofs.unique.clash_in_turn.Goals as goal
 

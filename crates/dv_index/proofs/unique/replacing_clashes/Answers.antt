@@ -2,9 +2,9 @@ use Rattle.std.proofs.Common.{◌+◌, ◌∙◌, ◌||◌, List, arith, drop, m
 use Rattle.std.proofs.lemmas.List.{drop_all}
 use Rattle.dv_index.specs.Inner.Change.{UniqueAreIndexesOf}
 use Rattle.dv_keyed.specs.Inner.Index.{IndexTree, form_of}
+use Rattle.dv_keyed.specs.Inner.ListLaws.{drop-step}
 use Rattle.dv_index.specs.Inner.View.{afters}
 use Rattle.dv_index.specs.Unique as defined
-use Rattle.dv_index.proofs.Lists.{drop-step}
 use Rattle.dv_index.proofs.Tried.{first-by-itself, none-clashes}
 use Rattle.dv_index.proofs.unique.replacing_clashes.Goals as goal
 

@@ -2,8 +2,8 @@ use Rattle.std.proofs.Common.{◌∙◌, sym, subst}
 use Rattle.std.proofs.lemmas.Result.{IfOk-weaker}
 use Rattle.dv_match.specs.View.{member}
 use Rattle.dv_keyed.specs.Inner.Decided.{IsClosedUnder}
+use Rattle.dv_keyed.specs.Inner.ListLaws.{one-path}
 use Rattle.dv_keyed.proofs.Decided.{found-weaker}
-use Rattle.dv_keyed.proofs.Sound.{one-path}
 use Rattle.dv_keyed.proofs.closed.closed_under.Goals as goal
 
 pub returns-else-not-same_path : goal.returns-else-not-same_path

@@ -2,8 +2,9 @@ use Rattle.std.proofs.Common.{◌∙◌, ◌||◌, ap}
 use Rattle.std.specs.BTreeSet.{contains}
 use Rattle.std.specs.Ordering.{is_eq}
 use Rattle.dv_order.specs.Key.{key_order}
-use Rattle.dv_keyed.proofs.Lists.{cond-or, equal-back}
+use Rattle.dv_order.specs.Inner.KeyLaws.{equal-back}
 use Rattle.dv_keyed.proofs.ids.insert_into.Goals as goal
+use Rattle.dv_value.specs.Inner.ListLaws.{cond-or}
 
 pub returns-clause-ok : goal.returns-clause-ok
 returns-clause-ok c = λ i.

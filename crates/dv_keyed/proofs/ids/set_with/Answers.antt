@@ -2,8 +2,8 @@ use Rattle.std.proofs.Common.{◌∙◌, ◌||◌, ap, sym, take_all}
 use Rattle.std.specs.List.{list_any}
 use Rattle.std.specs.Ordering.{is_eq}
 use Rattle.dv_order.specs.Key.{key_order}
-use Rattle.dv_keyed.proofs.Lists.{any-one-more}
 use Rattle.dv_keyed.proofs.ids.set_with.Goals as goal
+use Rattle.dv_keyed.specs.Inner.ListLaws.{any-one-more}
 
 pub ids-preserved : goal.ids-preserved
 ids-preserved c = λ i.

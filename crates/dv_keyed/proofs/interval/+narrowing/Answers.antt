@@ -1,7 +1,7 @@
 use Rattle.std.proofs.Common.{ap, arith}
 use Rattle.dv_match.specs.Inner.Filter.{members_weight, filters_weight}
 use Rattle.dv_match.specs.View.{member}
-use Rattle.dv_keyed.proofs.Chosen.{member-weighs, filter-weighs}
+use Rattle.dv_match.specs.Inner.FilterLaws.{member-weighs, filter-weighs}
 use Rattle.dv_keyed.specs.Inner.Interval.{is_in_all, is_in_member}
 use Rattle.dv_keyed.proofs.Between.{next-passes, of-members, of-filters, more-members, more-filters}
 use Rattle.dv_keyed.proofs.interval.+narrowing.Goals as goal

@@ -1,9 +1,10 @@
 use Rattle.std.proofs.Common.{◌∙◌, ap, sym, arith}
 use Rattle.dv_match.specs.Inner.Filter.{members_weight, filters_weight}
 use Rattle.dv_match.specs.View.{member}
+use Rattle.dv_match.specs.Inner.FilterLaws.{member-weighs, filter-weighs}
 use Rattle.dv_keyed.specs.Choice.{first_in, first_in_member}
 use Rattle.dv_keyed.specs.Inner.View.{bounds_seen, has_kind}
-use Rattle.dv_keyed.proofs.Chosen.{none-from, passed, found, exhausted, of-members, of-filters, no-member, more-members, no-filter, more-filters, member-weighs, filter-weighs}
+use Rattle.dv_keyed.proofs.Chosen.{none-from, passed, found, exhausted, of-members, of-filters, no-member, more-members, no-filter, more-filters}
 use Rattle.dv_keyed.proofs.plan.+conjunction.Goals as goal
 
 pub first_in_filter-first_in_part-requires : goal.first_in_filter-first_in_part-requires

@@ -1,11 +1,11 @@
 use Rattle.std.proofs.Common.{◌∙◌, ◌∷◌, [], ◌||◌, ap, sym, map}
+use Rattle.std.proofs.Math.Bool.{or-false}
 use Rattle.std.specs.Ordering.{is_eq}
 use Rattle.dv_value.specs.View.{tree}
 use Rattle.dv_match.specs.Filter.{equal}
 use Rattle.dv_order.specs.Key.{key_order}
 use Rattle.dv_keyed.specs.Inner.Keys.{has_key}
 use Rattle.dv_keyed.specs.Inner.Pairs.{has_pair}
-use Rattle.dv_keyed.proofs.Lists.{or-false}
 use Rattle.dv_keyed.proofs.Ordered.{now}
 use Rattle.dv_keyed.proofs.Points.{at-points}
 use Rattle.dv_keyed.proofs.within.ids_equal.Goals as goal

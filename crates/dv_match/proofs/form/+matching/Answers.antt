@@ -5,9 +5,10 @@ use Rattle.dv_match.specs.Inner.Asked.{wholes, parts}
 use Rattle.dv_match.specs.Inner.Filter.{members_weight, filters_weight, conditions_weight}
 use Rattle.dv_match.specs.Match.{matches, matches_all, matches_any, matches_member, meets, meets_all, passes}
 use Rattle.dv_match.specs.View.{member, condition, test}
+use Rattle.dv_match.specs.Inner.FilterLaws.{member-weighs, filter-weighs}
 use Rattle.dv_match.proofs.Arrays.{array-elements}
 use Rattle.dv_match.proofs.Items.{any-here, any-nowhere, any-at, all-at, whole-list}
-use Rattle.dv_match.proofs.Loops.{matches-each, all-each, any-each, meets-each, member-weighs, filter-weighs, condition-weighs, passes-document}
+use Rattle.dv_match.proofs.Loops.{matches-each, all-each, any-each, meets-each, condition-weighs, passes-document}
 use Rattle.dv_match.proofs.form.+matching.Goals as goal
 
 pub Filter::matches-matches-requires : goal.Filter::matches-matches-requires

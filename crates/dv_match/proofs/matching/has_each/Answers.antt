@@ -1,9 +1,10 @@
 use Rattle.std.proofs.Common.{◌≡◌, ◌∙◌, ◌&&◌, ◌==◌, not, ap, sym, true, length}
+use Rattle.std.proofs.Math.Bool.{and-true, and-false}
 use Rattle.std.specs.List.{list_any, list_all}
 use Rattle.dv_value.specs.View.{tree}
 use Rattle.dv_match.specs.Inner.Asked.{parts}
 use Rattle.dv_match.specs.Match.{is_equal}
-use Rattle.dv_match.proofs.Items.{length-seen, all-but-here, all-over, and-false, and-true}
+use Rattle.dv_match.proofs.Items.{length-seen, all-but-here, all-over}
 use Rattle.dv_match.proofs.matching.has_each.Goals as goal
 
 pub returns-then-not-has_equal : goal.returns-then-not-has_equal

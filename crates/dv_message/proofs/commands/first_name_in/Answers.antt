@@ -3,9 +3,9 @@ use Rattle.std.proofs.lemmas.List.{take_rest}
 use Rattle.std.specs.Str.{is_utf8}
 use Rattle.dv_command.specs.Asked.{command_name}
 use Rattle.dv_message.proofs.FirstName.{no_name, not_hidden, is_shown, is_text_shown}
-use Rattle.dv_message.proofs.Names.{is_utf8-false}
 use Rattle.dv_message.proofs.commands.first_name_in.Goals as goal
 use Rattle.dv_message.proofs.commands.first_name_in.Goals.{then-document-lt6-via-then-document-lt6, then-document-lt6-via-else-document-lt6+then-document-eq0}
+use Rattle.dv_bson.specs.Inner.CutLaws.{is_utf8-false}
 
 pub returns-then-document-lt6 : goal.returns-then-document-lt6
 returns-then-document-lt6 c fields e =

@@ -1,8 +1,8 @@
 use Rattle.std.proofs.Common.{sym, ap, ◌∙◌, refl}
 use Rattle.std.proofs.lemmas.Str.{is_utf8-from_IsUtf8}
 use Rattle.dv_message.specs.Sections.{section_under, section_named}
-use Rattle.dv_message.proofs.Names.{is_utf8-false}
 use Rattle.dv_message.proofs.sections.named_in.Goals as goal
+use Rattle.dv_bson.specs.Inner.CutLaws.{is_utf8-false}
 
 pub returns-in-Ok : goal.returns-in-Ok
 returns-in-Ok c =

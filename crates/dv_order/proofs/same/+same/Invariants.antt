@@ -4,8 +4,9 @@ use Rattle.std.specs.Cmp.Lexicographic.{pointwise}
 use Rattle.dv_value.specs.Tree.{fields_of, elements_of}
 use Rattle.dv_value.specs.Inner.Tree.{weight, fields_weight, elements_weight}
 use Rattle.dv_value.specs.View.{tree}
+use Rattle.dv_value.specs.Inner.LeftLaws.{IsLeft}
 use Rattle.dv_order.specs.Same.{is_same}
-use Rattle.dv_order.proofs.SameLeft.{IsLeft, same_field}
+use Rattle.dv_order.proofs.SameLeft.{same_field}
 use Rattle.dv_order.proofs.same.+same.Given as goal
 
 abbrev pub decreases-is_same : goal.decreases-is_same

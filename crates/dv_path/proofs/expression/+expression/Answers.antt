@@ -5,8 +5,8 @@ use Rattle.std.proofs.lemmas.List.{map-append}
 use Rattle.dv_value.specs.Tree.{array, elements_of}
 use Rattle.dv_value.specs.Names.{value_under}
 use Rattle.dv_value.specs.View.{tree}
+use Rattle.dv_value.specs.Inner.TreeLaws.{fields_again}
 use Rattle.dv_path.specs.Expression.{component_entered, expression}
-use Rattle.dv_path.proofs.Items.{list_of_fields_of}
 use Rattle.dv_path.proofs.Gathered.{filter_more, filter-one, expression-document, expression-array}
 use Rattle.dv_path.proofs.expression.+expression.Goals as goal
 use Rattle.dv_path.proofs.expression.+expression.Goals.{of_elements-in-Some+in_ok-push, of_elements-in_default}
@@ -15,7 +15,7 @@ pub of_element-returns-in-Doc : goal.of_element-returns-in-Doc
 of_element-returns-in-Doc t c =
     let rest = expression c.args.rest.now in
     let name = c.args.component.now in
-    let here : component_entered rest name (tree c.args.element.now) ≡ option_and_then rest (value_under name c.in-Doc.document) = ap (λ w. component_entered rest name (tree w)) c.in-Doc.is ∙ ap (λ fs. option_and_then rest (value_under name fs)) (list_of_fields_of c.in-Doc.document) in
+    let here : component_entered rest name (tree c.args.element.now) ≡ option_and_then rest (value_under name c.in-Doc.document) = ap (λ w. component_entered rest name (tree w)) c.in-Doc.is ∙ ap (λ fs. option_and_then rest (value_under name fs)) (fields_again c.in-Doc.document) in
     rw here c.enter.ensures
 
 pub of_elements-elements-preserved : goal.of_elements-elements-preserved

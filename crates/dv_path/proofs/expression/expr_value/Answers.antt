@@ -1,7 +1,7 @@
 use Rattle.std.proofs.Common.{◌∙◌, sym}
-use Rattle.dv_path.proofs.Items.{positive}
 use Rattle.dv_path.proofs.Gathered.{expr-first}
 use Rattle.dv_path.proofs.expression.expr_value.Goals as goal
+use Rattle.dv_value.specs.Inner.ListLaws.{positive}
 
 pub returns : goal.returns
 returns c =

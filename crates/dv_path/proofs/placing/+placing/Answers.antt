@@ -4,9 +4,9 @@ use Rattle.std.specs.Option.{option_map}
 use Rattle.dv_value.specs.Tree.{null, document, array, fields_of, elements_of}
 use Rattle.dv_value.specs.Names.{value_under, has_name, with_value_under}
 use Rattle.dv_value.specs.View.{tree}
+use Rattle.dv_value.specs.Inner.TreeLaws.{fields_again, elements_again}
 use Rattle.dv_candidates.specs.Path.{index_of}
 use Rattle.dv_path.specs.Placing.{result_map, put_field, put_element, put_behind}
-use Rattle.dv_path.proofs.Items.{list_of_fields_of, list_of_elements_of}
 use Rattle.dv_path.proofs.Exchanged.{same-fields, nameless, put-new, put-there}
 use Rattle.dv_path.proofs.Vectors.{list-there, list-new, gives-refused}
 use Rattle.dv_path.proofs.placing.+placing.Goals as goal
@@ -52,7 +52,7 @@ put_into_value-returns-in_err-changed-in-Doc t c =
     let name = c.in-Some.component.now in
     let v = tree c.args.value in
     let e = c.in_err-changed-in-Doc.field-0.0 in
-    let here : put_behind c.args.rest.now v (Some (tree c.args.there)) ≡ result_map (λ fs. document (fields_of fs)) (put_field (put_behind rest v) name c.in-Doc.document) = ap (λ p. put_behind p v (Some (tree c.args.there))) c.in-Some.ensures.cases.0 ∙ ap (λ w. put_behind (name ∷ rest) v (Some (tree w))) c.in-Doc.is ∙ ap (λ fs. result_map (λ gs. document (fields_of gs)) (put_field (put_behind rest v) name fs)) (list_of_fields_of c.in-Doc.document) in
+    let here : put_behind c.args.rest.now v (Some (tree c.args.there)) ≡ result_map (λ fs. document (fields_of fs)) (put_field (put_behind rest v) name c.in-Doc.document) = ap (λ p. put_behind p v (Some (tree c.args.there))) c.in-Some.ensures.cases.0 ∙ ap (λ w. put_behind (name ∷ rest) v (Some (tree w))) c.in-Doc.is ∙ ap (λ fs. result_map (λ gs. document (fields_of gs)) (put_field (put_behind rest v) name fs)) (fields_again c.in-Doc.document) in
     let told : c.from_residual.result ≡ Err e = search (rules, c.from_residual.ensures) in
     gives-refused (λ fs. document (fields_of fs)) tree c.from_residual.result e (put_field (put_behind rest v) name c.in-Doc.document) (put_behind c.args.rest.now v (Some (tree c.args.there))) told here c.in_err-changed-in-Doc.ensures
 
@@ -61,7 +61,7 @@ put_into_value-returns-in-Doc t c =
     let rest = c.in-Some.rest.now in
     let name = c.in-Some.component.now in
     let v = tree c.args.value in
-    let here : put_behind c.args.rest.now v (Some (tree c.args.there)) ≡ result_map (λ fs. document (fields_of fs)) (put_field (put_behind rest v) name c.in-Doc.document) = ap (λ p. put_behind p v (Some (tree c.args.there))) c.in-Some.ensures.cases.0 ∙ ap (λ w. put_behind (name ∷ rest) v (Some (tree w))) c.in-Doc.is ∙ ap (λ fs. result_map (λ gs. document (fields_of gs)) (put_field (put_behind rest v) name fs)) (list_of_fields_of c.in-Doc.document) in
+    let here : put_behind c.args.rest.now v (Some (tree c.args.there)) ≡ result_map (λ fs. document (fields_of fs)) (put_field (put_behind rest v) name c.in-Doc.document) = ap (λ p. put_behind p v (Some (tree c.args.there))) c.in-Some.ensures.cases.0 ∙ ap (λ w. put_behind (name ∷ rest) v (Some (tree w))) c.in-Doc.is ∙ ap (λ fs. result_map (λ gs. document (fields_of gs)) (put_field (put_behind rest v) name fs)) (fields_again c.in-Doc.document) in
     here ∙ ap (result_map (λ fs. document (fields_of fs))) c.in_ok-changed-in-Doc.ensures
 
 pub put_into_value-returns-in_err-changed-in-Array : goal.put_into_value-returns-in_err-changed-in-Array
@@ -70,7 +70,7 @@ put_into_value-returns-in_err-changed-in-Array t c =
     let name = c.in-Some.component.now in
     let v = tree c.args.value in
     let e = c.in_err-changed-in-Array.field-0.0 in
-    let here : put_behind c.args.rest.now v (Some (tree c.args.there)) ≡ result_map (λ vs. array (elements_of vs)) (put_element (put_behind rest v) (index_of name) c.in-Array.list) = ap (λ p. put_behind p v (Some (tree c.args.there))) c.in-Some.ensures.cases.0 ∙ ap (λ w. put_behind (name ∷ rest) v (Some (tree w))) c.in-Array.is ∙ ap (λ vs. result_map (λ ws. array (elements_of ws)) (put_element (put_behind rest v) (index_of name) vs)) (list_of_elements_of c.in-Array.list) in
+    let here : put_behind c.args.rest.now v (Some (tree c.args.there)) ≡ result_map (λ vs. array (elements_of vs)) (put_element (put_behind rest v) (index_of name) c.in-Array.list) = ap (λ p. put_behind p v (Some (tree c.args.there))) c.in-Some.ensures.cases.0 ∙ ap (λ w. put_behind (name ∷ rest) v (Some (tree w))) c.in-Array.is ∙ ap (λ vs. result_map (λ ws. array (elements_of ws)) (put_element (put_behind rest v) (index_of name) vs)) (elements_again c.in-Array.list) in
     let told : c.from_residual-in_err-changed-in-Array.result ≡ Err e = search (rules, c.from_residual-in_err-changed-in-Array.ensures) in
     gives-refused (λ vs. array (elements_of vs)) tree c.from_residual-in_err-changed-in-Array.result e (put_element (put_behind rest v) (index_of name) c.in-Array.list) (put_behind c.args.rest.now v (Some (tree c.args.there))) told here c.in_err-changed-in-Array.ensures
 
@@ -79,5 +79,5 @@ put_into_value-returns-in-Array t c =
     let rest = c.in-Some.rest.now in
     let name = c.in-Some.component.now in
     let v = tree c.args.value in
-    let here : put_behind c.args.rest.now v (Some (tree c.args.there)) ≡ result_map (λ vs. array (elements_of vs)) (put_element (put_behind rest v) (index_of name) c.in-Array.list) = ap (λ p. put_behind p v (Some (tree c.args.there))) c.in-Some.ensures.cases.0 ∙ ap (λ w. put_behind (name ∷ rest) v (Some (tree w))) c.in-Array.is ∙ ap (λ vs. result_map (λ ws. array (elements_of ws)) (put_element (put_behind rest v) (index_of name) vs)) (list_of_elements_of c.in-Array.list) in
+    let here : put_behind c.args.rest.now v (Some (tree c.args.there)) ≡ result_map (λ vs. array (elements_of vs)) (put_element (put_behind rest v) (index_of name) c.in-Array.list) = ap (λ p. put_behind p v (Some (tree c.args.there))) c.in-Some.ensures.cases.0 ∙ ap (λ w. put_behind (name ∷ rest) v (Some (tree w))) c.in-Array.is ∙ ap (λ vs. result_map (λ ws. array (elements_of ws)) (put_element (put_behind rest v) (index_of name) vs)) (elements_again c.in-Array.list) in
     here ∙ ap (result_map (λ vs. array (elements_of vs))) c.in_ok-changed-in-Array.ensures

@@ -1,7 +1,7 @@
 use Rattle.std.proofs.Common.{◌∙◌, sym}
 use Rattle.dv_value.specs.View.{tree}
+use Rattle.dv_value.specs.Inner.ListLaws.{positive}
 use Rattle.dv_path.specs.Placing.{put}
-use Rattle.dv_path.proofs.Items.{positive}
 use Rattle.dv_path.proofs.Placed.{put-first}
 use Rattle.dv_path.proofs.Refused.{not-refused}
 use Rattle.dv_path.proofs.placing.put_at.Goals as goal

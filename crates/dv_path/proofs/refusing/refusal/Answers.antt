@@ -2,8 +2,8 @@ use Rattle.std.proofs.Common.{◌≡◌, ◌∙◌, drop, None, Some, ap, sym}
 use Rattle.std.specs.Result.{result_err}
 use Rattle.dv_value.specs.Names.{value_under}
 use Rattle.dv_value.specs.View.{tree}
+use Rattle.dv_value.specs.Inner.ListLaws.{positive}
 use Rattle.dv_path.specs.Placing.{put, put_behind}
-use Rattle.dv_path.proofs.Items.{positive}
 use Rattle.dv_path.proofs.Refused.{refused-first, refused-missing}
 use Rattle.dv_path.proofs.refusing.refusal.Goals as goal
 

@@ -4,9 +4,9 @@ use Rattle.std.specs.Option.{option_map}
 use Rattle.dv_value.specs.Tree.{null, document, array, fields_of, elements_of}
 use Rattle.dv_value.specs.Names.{value_under, with_value_under, without}
 use Rattle.dv_value.specs.View.{tree}
+use Rattle.dv_value.specs.Inner.TreeLaws.{fields_again, elements_again}
 use Rattle.dv_candidates.specs.Path.{index_of}
 use Rattle.dv_path.specs.Removing.{remove_field, remove_element, left_behind}
-use Rattle.dv_path.proofs.Items.{list_of_fields_of, list_of_elements_of}
 use Rattle.dv_path.proofs.Exchanged.{left-missing, left-some, left-none}
 use Rattle.dv_path.proofs.Vectors.{remove-some, remove-none, remove-past}
 use Rattle.dv_path.proofs.removing.+removing.Goals as goal
@@ -16,14 +16,14 @@ pub left_of-returns-in_ok-left-in-Doc : goal.left_of-returns-in_ok-left-in-Doc
 left_of-returns-in_ok-left-in-Doc t c =
     let rest = c.in-Some.rest.now in
     let name = c.in-Some.component.now in
-    let here : left_behind c.args.rest.now (tree c.args.there) ≡ Some (document (fields_of (remove_field (left_behind rest) name c.in-Doc.document))) = ap (λ p. left_behind p (tree c.args.there)) c.in-Some.ensures.cases.0 ∙ ap (λ w. left_behind (name ∷ rest) (tree w)) c.in-Doc.is ∙ ap (λ fs. Some (document (fields_of (remove_field (left_behind rest) name fs)))) (list_of_fields_of c.in-Doc.document) in
+    let here : left_behind c.args.rest.now (tree c.args.there) ≡ Some (document (fields_of (remove_field (left_behind rest) name c.in-Doc.document))) = ap (λ p. left_behind p (tree c.args.there)) c.in-Some.ensures.cases.0 ∙ ap (λ w. left_behind (name ∷ rest) (tree w)) c.in-Doc.is ∙ ap (λ fs. Some (document (fields_of (remove_field (left_behind rest) name fs)))) (fields_again c.in-Doc.document) in
     ap (λ fs. Some (document (fields_of fs))) c.in_ok-left-in-Doc.ensures ∙ sym here
 
 pub left_of-returns-in_ok-left-in-Array : goal.left_of-returns-in_ok-left-in-Array
 left_of-returns-in_ok-left-in-Array t c =
     let rest = c.in-Some.rest.now in
     let name = c.in-Some.component.now in
-    let here : left_behind c.args.rest.now (tree c.args.there) ≡ Some (array (elements_of (remove_element (left_behind rest) (index_of name) c.in-Array.list))) = ap (λ p. left_behind p (tree c.args.there)) c.in-Some.ensures.cases.0 ∙ ap (λ w. left_behind (name ∷ rest) (tree w)) c.in-Array.is ∙ ap (λ vs. Some (array (elements_of (remove_element (left_behind rest) (index_of name) vs)))) (list_of_elements_of c.in-Array.list) in
+    let here : left_behind c.args.rest.now (tree c.args.there) ≡ Some (array (elements_of (remove_element (left_behind rest) (index_of name) c.in-Array.list))) = ap (λ p. left_behind p (tree c.args.there)) c.in-Some.ensures.cases.0 ∙ ap (λ w. left_behind (name ∷ rest) (tree w)) c.in-Array.is ∙ ap (λ vs. Some (array (elements_of (remove_element (left_behind rest) (index_of name) vs)))) (elements_again c.in-Array.list) in
     ap (λ vs. Some (array (elements_of vs))) c.in_ok-left-in-Array.ensures ∙ sym here
 
 pub remove_from_document-returns-in_default : goal.remove_from_document-returns-in_default

@@ -1,9 +1,9 @@
 use Rattle.std.proofs.Common.{◌∙◌, drop, ap, sym, ◌+◌}
 use Rattle.dv_path.specs.Slots.{slot, slot_behind}
 use Rattle.dv_path.specs.SlotView.{slot_seen}
-use Rattle.dv_path.proofs.Items.{positive}
 use Rattle.dv_path.proofs.Slotted.{slot-first, slot-more, slot-end}
 use Rattle.dv_path.proofs.slot.slot_at.Goals as goal
+use Rattle.dv_value.specs.Inner.ListLaws.{positive}
 
 pub loop-component-init : goal.loop-component-init
 loop-component-init c =

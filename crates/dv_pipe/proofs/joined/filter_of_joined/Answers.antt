@@ -2,12 +2,12 @@ use Rattle.std.proofs.Common.{◌∙◌, ap, filter, map}
 use Rattle.std.proofs.lemmas.Result.{IfOk-weaker}
 use Rattle.std.specs.List.{list_any}
 use Rattle.dv_value.specs.View.{tree}
+use Rattle.dv_value.specs.Inner.ListLaws.{take-past}
 use Rattle.dv_match.specs.Match.{matches}
 use Rattle.dv_gather.specs.Joining.{joined_by}
 use Rattle.dv_gather.specs.Lookups.{looked_up}
 use Rattle.dv_pipe.specs.Inner.Joined.{having_one_of}
 use Rattle.dv_pipe.specs.Sources.{rows_referred}
-use Rattle.dv_pipe.proofs.Items.{take-past}
 use Rattle.dv_pipe.proofs.RowsJoined.{rows-same}
 use Rattle.dv_pipe.proofs.joined.filter_of_joined.Goals as goal
 

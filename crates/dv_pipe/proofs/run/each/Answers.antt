@@ -4,10 +4,10 @@ use Rattle.std.specs.List.{flat_map}
 use Rattle.dv_sort.specs.Sorting.{front}
 use Rattle.dv_pipe.specs.Inner.Parts.{passed}
 use Rattle.dv_pipe.specs.Sources.{Row, rows_referred}
-use Rattle.dv_pipe.proofs.Items.{take-past}
 use Rattle.dv_pipe.proofs.Steps.{front_full, front_more, referred_parts}
 use Rattle.dv_pipe.proofs.run.each.Goals as goal
 use Rattle.dv_pipe.proofs.run.each.Goals.{else-documents-test, then-documents-test+then-is_full}
+use Rattle.dv_value.specs.Inner.ListLaws.{take-past}
 
 pub documents-preserved : goal.documents-preserved
 documents-preserved c =

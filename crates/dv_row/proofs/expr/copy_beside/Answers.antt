@@ -1,7 +1,8 @@
 use Rattle.std.proofs.Common.{◌∙◌, ◌≤◌, ap, sym, Some, length, arith}
 use Rattle.dv_value.specs.View.{tree}
+use Rattle.dv_value.specs.Inner.ListLaws.{take-past}
 use Rattle.dv_row.specs.Expressions.{with_field_behind}
-use Rattle.dv_row.proofs.Items.{take-past, none-there}
+use Rattle.dv_row.proofs.Items.{none-there}
 use Rattle.dv_row.proofs.Left.{copied-more}
 use Rattle.dv_row.proofs.expr.copy_beside.Goals as goal
 use Rattle.dv_row.proofs.expr.copy_beside.Goals.{else-fields-test, then-fields-test+in_default}

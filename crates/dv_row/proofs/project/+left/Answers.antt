@@ -4,12 +4,13 @@ use Rattle.std.specs.Option.{option_map, option_to_list}
 use Rattle.dv_value.specs.Tree.{Field, document, array, fields_of, elements_of, list_of_elements}
 use Rattle.dv_value.specs.View.{tree}
 use Rattle.dv_value.specs.Inner.Weight.{value_weighs_less}
+use Rattle.dv_value.specs.Inner.ListLaws.{take-read}
+use Rattle.dv_value.specs.Inner.TreeLaws.{fields_back, elements_back}
 use Rattle.dv_row.specs.declared.level.Level.{Level}
 use Rattle.dv_row.specs.Expressions.{with_field_behind}
 use Rattle.dv_row.specs.Projecting.{paths_behind, left_of_value, left_inside, fields_left, elements_left}
 use Rattle.dv_row.specs.Inner.Turns.{left_behind, IsFresh}
-use Rattle.dv_row.proofs.Items.{take-read}
-use Rattle.dv_row.proofs.Left.{fields-of_list, elements-of_list, single, elements-left_more}
+use Rattle.dv_row.proofs.Left.{single, elements-left_more}
 use Rattle.dv_row.proofs.Turning.{entered, going-first, going-in, going-out, gone, in-smaller, out-smaller, left-next, left-past, value-here, weighs-less, weighs-next}
 use Rattle.dv_row.proofs.project.+left.Goals as goal
 use Rattle.dv_row.proofs.project.+left.Goals.{list_left-in-Some+in_ok-push, list_left-in_default, go_on-then-stays+in_ok-show_field, go_on-else-stays+in_ok-kept+in_ok-push_field}
@@ -92,13 +93,13 @@ pub left_inside-returns-in_ok-left-in-Doc : goal.left_inside-returns-in_ok-left-
 unfolding left_inside
 left_inside-returns-in_ok-left-in-Doc t c =
     let ways = c.args.ways.now in
-    ap (λ fs. Some (document (fields_of fs))) c.in_ok-left-in-Doc.ensures ∙ ap (λ fs. Some (document fs)) (fields-of_list (fields_left c.args.keeps ways (fields_of c.in-Doc.document))) ∙ sym (ap (λ v. left_inside c.args.keeps ways (tree v)) c.in-Doc.is)
+    ap (λ fs. Some (document (fields_of fs))) c.in_ok-left-in-Doc.ensures ∙ ap (λ fs. Some (document fs)) (fields_back (fields_left c.args.keeps ways (fields_of c.in-Doc.document))) ∙ sym (ap (λ v. left_inside c.args.keeps ways (tree v)) c.in-Doc.is)
 
 pub left_inside-returns-in_ok-left-in-Array : goal.left_inside-returns-in_ok-left-in-Array
 unfolding left_inside
 left_inside-returns-in_ok-left-in-Array t c =
     let ways = c.args.ways.now in
-    ap (λ vs. Some (array (elements_of vs))) c.in_ok-left-in-Array.ensures ∙ ap (λ vs. Some (array vs)) (elements-of_list (elements_left c.args.keeps ways (elements_of c.in-Array.list))) ∙ sym (ap (λ v. left_inside c.args.keeps ways (tree v)) c.in-Array.is)
+    ap (λ vs. Some (array (elements_of vs))) c.in_ok-left-in-Array.ensures ∙ ap (λ vs. Some (array vs)) (elements_back (elements_left c.args.keeps ways (elements_of c.in-Array.list))) ∙ sym (ap (λ v. left_inside c.args.keeps ways (tree v)) c.in-Array.is)
 
 pub list_left-elements-init : goal.list_left-elements-init
 unfolding elements_left

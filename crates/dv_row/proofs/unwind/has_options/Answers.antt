@@ -1,7 +1,8 @@
 use Rattle.std.proofs.Common.{◌∙◌, sym}
 use Rattle.dv_value.specs.View.{tree}
+use Rattle.dv_value.specs.Inner.ListLaws.{none-of}
 use Rattle.dv_row.specs.Parsing.{is_option}
-use Rattle.dv_row.proofs.Items.{all-but-here, all-more, all-none, none-of}
+use Rattle.dv_row.proofs.Items.{all-but-here, all-more, all-none}
 use Rattle.dv_row.proofs.unwind.has_options.Goals as goal
 use Rattle.dv_row.proofs.unwind.has_options.Goals.{in-Some+else-not-is_option, in_default}
 

@@ -2,8 +2,8 @@ use Rattle.std.proofs.Common.{◌≡◌, ◌∙◌, ◌+◌, ◌-◌, ap, sym, t
 use Rattle.std.specs.Option.{option_map}
 use Rattle.dv_value.specs.Tree.{document, fields_of}
 use Rattle.dv_value.specs.View.{tree}
+use Rattle.dv_value.specs.Inner.ListLaws.{take-read}
 use Rattle.dv_row.specs.Inner.Crossings.{set_inward}
-use Rattle.dv_row.proofs.Items.{take-read}
 use Rattle.dv_row.proofs.OnWay.{set-innermost}
 use Rattle.dv_row.proofs.way.set_inside.Goals as goal
 

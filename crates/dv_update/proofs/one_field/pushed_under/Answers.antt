@@ -4,10 +4,10 @@ use Rattle.dv_value.specs.FieldChange.{with_value_pushed}
 use Rattle.dv_value.specs.Names.{value_under}
 use Rattle.dv_value.specs.Tree.{array, elements_of, list_of_elements}
 use Rattle.dv_value.specs.View.{tree}
+use Rattle.dv_value.specs.Inner.TreeLaws.{elements_again}
 use Rattle.dv_update.specs.Inner.Outcome.{applied_under}
 use Rattle.dv_update.specs.Update.{append}
 use Rattle.dv_update.proofs.Behind.{one-value}
-use Rattle.dv_update.proofs.Items.{elements_again}
 use Rattle.dv_update.proofs.OneField.{pushes_value, differs_pushed}
 use Rattle.dv_update.proofs.one_field.pushed_under.Goals as goal
 

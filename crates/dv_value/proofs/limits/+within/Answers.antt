@@ -1,6 +1,6 @@
 use Rattle.std.proofs.Common.{arith}
 use Rattle.dv_value.specs.View.{tree}
-use Rattle.dv_value.proofs.Items.{slice_get_seen}
+use Rattle.dv_value.specs.Inner.ListLaws.{slice_get_seen}
 use Rattle.dv_value.proofs.Rest.{fields_levels-drop, elements_levels-drop}
 use Rattle.dv_value.proofs.limits.+within.Goals as goal
 

@@ -1,8 +1,8 @@
 use Rattle.std.proofs.Common.{◌≡◌, ◌<◌, ℕ, List, length, get_or, ◌+◌, ◌∷◌, drop, sym, ap, ◌∙◌, arith}
 use Rattle.std.proofs.lemmas.Grind.{common_steps}
 use Rattle.std.proofs.lemmas.List.{drop_more}
-use Rattle.dv_value.proofs.Named.{bytes_eq-symmetric}
 use Rattle.dv_value.proofs.name_list.place_among.Goals as goal
+use Rattle.dv_value.specs.Inner.ByteLaws.{bytes_eq-symmetric}
 
 -- what is left begins with the name there
 next : (ns : List (List ℕ)) (place : ℕ) (n : List ℕ) → place < length ns → n ≡ get_or ns place n → drop place ns ≡ n ∷ drop (place + 1) ns

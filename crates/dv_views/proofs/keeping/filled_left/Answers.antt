@@ -2,7 +2,7 @@
 use Rattle.dv_change.specs.declared.told_rows.ToldRows.{ToldRows}
 use Rattle.dv_views.specs.declared.stage_operator.StageOperator.{StageOperator}
 use Rattle.dv_views.specs.Placed.{forms}
-use Rattle.dv_views.proofs.Building.{ok_then}
+use Rattle.dv_views.specs.Inner.ResultLaws.{ok_then}
 use Rattle.dv_views.proofs.keeping.filled_left.Goals as goal
 
 pub returns-clause-made : goal.returns-clause-made

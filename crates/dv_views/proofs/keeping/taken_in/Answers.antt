@@ -5,7 +5,7 @@ use Rattle.dv_change.specs.declared.told_rows.ToldRows.{ToldRows}
 use Rattle.dv_change.specs.Inner.ToldRows.{TakesTold}
 use Rattle.dv_views.specs.declared.stage_operator.StageOperator.{StageOperator}
 use Rattle.dv_views.specs.Inner.Operating.{HoldsStage, stage_makes}
-use Rattle.dv_views.proofs.Building.{ok_then}
+use Rattle.dv_views.specs.Inner.ResultLaws.{ok_then}
 use Rattle.dv_views.proofs.Rolling.{turns_once}
 use Rattle.dv_views.proofs.keeping.taken_in.Goals as goal
 

@@ -6,7 +6,7 @@ use Rattle.dv_change.specs.declared.told_rows.ToldRows.{ToldRows}
 use Rattle.dv_views.specs.declared.stage_operator.StageOperator.{StageOperator}
 use Rattle.dv_views.specs.Inner.Keeping.{kept_seen}
 use Rattle.dv_views.specs.Inner.Turned.{Turns, coming}
-use Rattle.dv_views.proofs.Building.{ok_then}
+use Rattle.dv_views.specs.Inner.ResultLaws.{ok_then}
 use Rattle.dv_views.proofs.Rolling.{turns_none}
 use Rattle.dv_views.proofs.keeping.taken_in_told.Goals as goal
 

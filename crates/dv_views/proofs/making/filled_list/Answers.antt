@@ -3,7 +3,8 @@ use Rattle.std.proofs.Common.{◌∙◌}
 use Rattle.dv_change.specs.declared.told_rows.ToldRows.{ToldRows}
 use Rattle.dv_views.specs.declared.stage_operator.StageOperator.{StageOperator}
 use Rattle.dv_views.specs.Inner.Keeping.{kept_seen}
-use Rattle.dv_views.proofs.Building.{list_filled, ok_then}
+use Rattle.dv_views.specs.Inner.ResultLaws.{ok_then}
+use Rattle.dv_views.proofs.Building.{list_filled}
 use Rattle.dv_views.proofs.making.filled_list.Goals as goal
 
 pub returns-clause-made : goal.returns-clause-made

@@ -1,7 +1,8 @@
 use Rattle.std.proofs.Common.{ap, sym, ◌∙◌}
 use Rattle.dv_views.specs.Inner.Filled.{firsts_of}
 use Rattle.dv_views.specs.Inner.Ground.{outs_of_mark}
-use Rattle.dv_views.proofs.Building.{live_placed, ok_then, whatever}
+use Rattle.dv_views.specs.Inner.ResultLaws.{ok_then}
+use Rattle.dv_views.proofs.Building.{live_placed, whatever}
 use Rattle.dv_views.proofs.making.firsts_of_view.Goals as goal
 
 pub returns-clause-firsts : goal.returns-clause-firsts

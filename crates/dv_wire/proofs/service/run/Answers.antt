@@ -1,9 +1,9 @@
 use Rattle.std.proofs.Common.{refl}
 use Rattle.std.proofs.KnownBytes.{Keeps-refl}
 use Rattle.std.proofs.lemmas.Result.{err_from_is_err_and}
-use Rattle.dv_wire.proofs.Asking.{no_more}
 use Rattle.dv_wire.proofs.Ran.{ran_done, ran_fault}
 use Rattle.dv_wire.proofs.service.run.Goals as goal
+use Rattle.dv_wire.specs.Inner.CountLaws.{no_more}
 
 pub returns-in_err-piece-clause-ran : goal.returns-in_err-piece-clause-ran
 returns-in_err-piece-clause-ran g c =

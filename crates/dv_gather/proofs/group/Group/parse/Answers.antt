@@ -1,7 +1,7 @@
 use Rattle.std.proofs.Common.{◌∙◌, ap}
 use Rattle.dv_value.specs.View.{tree}
+use Rattle.dv_value.specs.Inner.TreeLaws.{fields_again}
 use Rattle.dv_gather.specs.GroupParsing.{group_in, group_of}
-use Rattle.dv_gather.proofs.Gathered.{fields_again}
 use Rattle.dv_gather.proofs.group.Group.parse.Goals as goal
 
 pub returns-in-Doc : goal.returns-in-Doc

@@ -1,7 +1,7 @@
 use Rattle.std.proofs.Common.{◌∙◌, ap}
 use Rattle.dv_value.specs.View.{tree}
+use Rattle.dv_value.specs.Inner.TreeLaws.{fields_again}
 use Rattle.dv_gather.specs.Lookups.{lookup_in, lookup_of}
-use Rattle.dv_gather.proofs.Gathered.{fields_again}
 use Rattle.dv_gather.proofs.lookup.Lookup.parse.Goals as goal
 
 pub returns-in-Doc : goal.returns-in-Doc

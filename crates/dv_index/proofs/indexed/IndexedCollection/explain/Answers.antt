@@ -1,9 +1,9 @@
 use Rattle.std.proofs.Common.{◌∙◌, List, ap, map}
 use Rattle.dv_keyed.specs.Choice.{chosen}
 use Rattle.dv_keyed.specs.Inner.Index.{IndexTree, form_of}
+use Rattle.dv_keyed.specs.Inner.ListLaws.{paths-of-forms}
 use Rattle.dv_index.specs.Indexed.{IndexedTree, documents_covered, index_chosen, name_at}
 use Rattle.dv_index.specs.Search.{covered}
-use Rattle.dv_index.proofs.Places.{paths-of-forms}
 use Rattle.dv_index.proofs.indexed.IndexedCollection.explain.Goals as goal
 
 pub returns-clause-index : goal.returns-clause-index

@@ -6,10 +6,10 @@ use Rattle.dv_match.specs.Match.{matches}
 use Rattle.dv_path.specs.Parts.{part}
 use Rattle.dv_keyed.specs.declared.before.Bar.{Bar}
 use Rattle.dv_keyed.specs.declared.before.Ties.TheVariants.{ById}
+use Rattle.dv_keyed.specs.Inner.ListLaws.{map-kept}
 use Rattle.dv_index.specs.Indexed.{IndexedTree}
 use Rattle.dv_index.specs.Inner.Ahead.{is_ahead}
 use Rattle.dv_index.proofs.Foremost.{some-is}
-use Rattle.dv_index.proofs.Lists.{map-kept}
 use Rattle.dv_index.proofs.indexed.IndexedCollection.find_ahead.Goals as goal
 
 pub returns-clause-all : goal.returns-clause-all

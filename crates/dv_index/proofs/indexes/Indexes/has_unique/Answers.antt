@@ -2,8 +2,8 @@ use Rattle.std.proofs.Common.{◌∙◌, List, ap, sym}
 use Rattle.std.specs.List.{list_any}
 use Rattle.dv_keyed.specs.Index.{IndexForm}
 use Rattle.dv_keyed.specs.Inner.Index.{IndexTree, form_of}
-use Rattle.dv_index.proofs.Lists.{any-map}
 use Rattle.dv_index.proofs.indexes.Indexes.has_unique.Goals as goal
+use Rattle.dv_value.specs.Inner.ListLaws.{any-map}
 
 pub returns : goal.returns
 returns c =

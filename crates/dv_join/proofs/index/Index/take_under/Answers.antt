@@ -1,11 +1,12 @@
 -- Under the key stands nothing then, and under other keys what stood there.
-use Rattle.std.proofs.Common.{◌≡◌, ◌∙◌, [], ap, cond, sym, refl, true}
+use Rattle.std.proofs.Common.{◌≡◌, ◌∙◌, [], ap, cond, sym, refl}
 use Rattle.std.specs.BTreeMap.{get}
 use Rattle.std.specs.Option.{unwrap_or}
 use Rattle.std.specs.Ordering.{is_eq}
 use Rattle.dv_order.specs.Key.{key_order}
+use Rattle.dv_order.specs.Inner.KeyLaws.{equal-back}
 use Rattle.dv_join.specs.Inner.Indexed.{under}
-use Rattle.dv_join.proofs.Indexes.{key-back, none-there, under-like, under-put}
+use Rattle.dv_join.proofs.Indexes.{none-there, under-like, under-put}
 use Rattle.dv_join.proofs.index.Index.take_under.Goals as goal
 
 pub returns-in-Some : goal.returns-in-Some
@@ -20,7 +21,7 @@ returns-in-Some c =
       others = λ k.
           ap (λ o. unwrap_or o []) ((writes.3 (rw (← c.in-Some.ensures.value) refl)).0 k)
           ∙ under-put (is_eq (key_order key k)) w (get key_order m k) []
-          ∙ (λ i. cond (key-back key k i) (nothing i) (under k c.args.self.now));
+          ∙ (λ i. cond (equal-back key k i) (nothing i) (under k c.args.self.now));
     }
 
 pub returns-in-None : goal.returns-in-None

@@ -1,11 +1,11 @@
 use Rattle.std.proofs.Common.{◌∙◌, ◌&&◌, ap, not, sym}
 use Rattle.std.specs.Ordering.{is_eq}
 use Rattle.dv_order.specs.Key.{key_order}
+use Rattle.dv_order.specs.Inner.KeyLaws.{equal-back}
 use Rattle.dv_keyed.specs.declared.ids.Kept.{Kept}
 use Rattle.dv_keyed.specs.Inner.Ids.{ids_kept}
 use Rattle.dv_keyed.specs.Inner.Keys.{has_key}
 use Rattle.dv_keyed.proofs.Few.{alone-dropped, alone-stays, cond-and-not, dropped}
-use Rattle.dv_keyed.proofs.Lists.{equal-back}
 use Rattle.dv_keyed.proofs.ids.Ids.take_out.Goals as goal
 
 pub returns-then-eq : goal.returns-then-eq

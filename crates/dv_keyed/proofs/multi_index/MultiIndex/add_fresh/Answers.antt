@@ -1,7 +1,7 @@
 use Rattle.std.proofs.Common.{Bor, ◌∙◌, ap, arith, map, sym}
 use Rattle.dv_order.specs.Key.{KeyTree}
 use Rattle.dv_keyed.specs.Inner.Pairs.{has_pair}
-use Rattle.dv_keyed.proofs.Lists.{length-lent}
+use Rattle.dv_keyed.specs.Inner.ListLaws.{length-lent}
 use Rattle.dv_keyed.proofs.Noted.{noted-either, noted-still, none-held}
 use Rattle.dv_keyed.proofs.multi_index.MultiIndex.add_fresh.Goals as goal
 

@@ -1,11 +1,12 @@
 use Rattle.std.proofs.Common.{Bor, ◌∙◌, ◌&&◌, ap, map, not, sym}
 use Rattle.std.specs.Ordering.{is_eq}
 use Rattle.std.proofs.lemmas.Cmp.{tied_itself}
+use Rattle.std.proofs.Math.Bool.{and-true}
 use Rattle.dv_order.specs.Key.{KeyTree, key_order}
 use Rattle.dv_order.specs.Inner.KeyLaws.{key_order_total}
 use Rattle.dv_keyed.specs.Inner.Keys.{has_key}
 use Rattle.dv_keyed.specs.Inner.Pairs.{has_pair}
-use Rattle.dv_keyed.proofs.Noted.{and-true, less-kept, noted-still}
+use Rattle.dv_keyed.proofs.Noted.{less-kept, noted-still}
 use Rattle.dv_keyed.proofs.multi_index.MultiIndex.take_out_each.Goals as goal
 
 pub invariant_of-self : goal.invariant_of-self

@@ -4,7 +4,7 @@ use Rattle.std.specs.Ordering.{is_eq}
 use Rattle.dv_order.specs.Key.{KeyTree, key_order}
 use Rattle.dv_keyed.specs.Inner.Keys.{has_key}
 use Rattle.dv_keyed.specs.Inner.Pairs.{has_pair}
-use Rattle.dv_keyed.proofs.Lists.{any-one-more}
+use Rattle.dv_keyed.specs.Inner.ListLaws.{any-one-more}
 use Rattle.dv_keyed.proofs.Several.{on-err, added-none, added-more, keys-lent, outside, any-front}
 use Rattle.dv_keyed.proofs.pairs.Pairs.add_each.Goals as goal
 

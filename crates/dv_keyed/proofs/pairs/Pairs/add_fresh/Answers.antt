@@ -3,7 +3,8 @@ use Rattle.std.specs.Ordering.{is_eq}
 use Rattle.dv_order.specs.Key.{KeyTree, key_order}
 use Rattle.dv_keyed.specs.Inner.Keys.{has_key}
 use Rattle.dv_keyed.specs.Inner.Pairs.{has_pair}
-use Rattle.dv_keyed.proofs.Several.{same-id, taken-back}
+use Rattle.dv_keyed.specs.Inner.PairLaws.{same-id}
+use Rattle.dv_keyed.proofs.Several.{taken-back}
 use Rattle.dv_keyed.proofs.pairs.Pairs.add_fresh.Goals as goal
 
 pub returns-in-Err-clause-err : goal.returns-in-Err-clause-err

@@ -1,10 +1,10 @@
 use Rattle.std.proofs.Common.{Bor, ◌∙◌, ◌||◌, ap, sym, filter, map}
 use Rattle.std.proofs.lemmas.List.Folds.{list_any-append}
+use Rattle.std.proofs.Math.Bool.{or_assoc}
 use Rattle.std.specs.BTreeMap.Range.{range_contains}
 use Rattle.dv_order.specs.Key.{KeyTree, key_order}
 use Rattle.dv_keyed.specs.Inner.Keys.{has_key}
 use Rattle.dv_keyed.specs.Inner.Pairs.{Pair, has_id, pairs_of}
-use Rattle.dv_keyed.proofs.Lists.{or-assoc}
 use Rattle.dv_keyed.proofs.Ranges.{ids-of-entry, pairs-between}
 use Rattle.dv_keyed.proofs.pairs.Pairs.add_ids_between.Goals as goal
 
@@ -21,7 +21,7 @@ loop-found-preserved c = λ i.
     let was = has_key i before in
     let rest = c.next.new.self in
     ap (λ b. b || has_id i (pairs_of rest)) (ap (has_key i) c.in_ok-add_to.ensures ∙ list_any-append _ before c.in-Some.found.now)
-    ∙ or-assoc was (has_key i c.in-Some.found.now) (has_id i (pairs_of rest))
+    ∙ or_assoc was (has_key i c.in-Some.found.now) (has_id i (pairs_of rest))
     ∙ ap (λ b. was || b) (sym (ids-of-entry i (c.in-Some.field-0-0.now, c.in-Some.found.now) rest))
     ∙ ap (λ es. was || has_id i (pairs_of es)) (sym c.in-Some.ensures.steps)
     ∙ c.loop-found.invariant i

@@ -2,13 +2,13 @@ use Rattle.std.proofs.Common.{Bor, ◌∙◌, ◌||◌, ◌&&◌, ap, filter, ma
 use Rattle.std.specs.Ordering.{is_lt}
 use Rattle.std.proofs.lemmas.List.Folds.{list_any-append}
 use Rattle.std.proofs.lemmas.Result.{on_ok_weaker}
+use Rattle.std.proofs.Math.Bool.{or-false}
 use Rattle.dv_order.specs.Key.{KeyTree, key_order}
 use Rattle.dv_keyed.specs.Inner.Keys.{has_key}
 use Rattle.dv_keyed.specs.Inner.Pairs.{has_pair}
 use Rattle.dv_keyed.specs.Inner.Ids.{has_in}
 use Rattle.dv_keyed.proofs.Entries.{pair-found}
 use Rattle.dv_keyed.proofs.Few.{front-has}
-use Rattle.dv_keyed.proofs.Lists.{or-false}
 use Rattle.dv_keyed.proofs.pairs.Pairs.add_ids_until.Goals as goal
 
 pub returns-in-Some : goal.returns-in-Some

@@ -2,7 +2,8 @@ use Rattle.std.proofs.Common.{◌∙◌, ap, [], List}
 use Rattle.std.specs.List.{list_any}
 use Rattle.dv_keyed.specs.Inner.Keys.{has_key}
 use Rattle.dv_keyed.specs.Inner.Pairs.{Pair, has_another_at, is_under_another}
-use Rattle.dv_keyed.proofs.Gone.{each-key, none-gone}
+use Rattle.dv_keyed.specs.Inner.PairLaws.{none-gone}
+use Rattle.dv_keyed.proofs.Gone.{each-key}
 use Rattle.dv_keyed.proofs.pairs.Pairs.clash.Goals as goal
 
 pub returns : goal.returns

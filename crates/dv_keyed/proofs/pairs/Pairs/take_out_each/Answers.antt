@@ -3,7 +3,7 @@ use Rattle.std.specs.List.{list_any}
 use Rattle.std.specs.Ordering.{is_eq}
 use Rattle.dv_order.specs.Key.{KeyTree, key_order}
 use Rattle.dv_keyed.specs.Inner.Pairs.{has_pair}
-use Rattle.dv_keyed.proofs.Lists.{any-one-more}
+use Rattle.dv_keyed.specs.Inner.ListLaws.{any-one-more}
 use Rattle.dv_keyed.proofs.Several.{taken-none, taken-more, keys-lent}
 use Rattle.dv_keyed.proofs.pairs.Pairs.take_out_each.Goals as goal
 

@@ -4,7 +4,7 @@ use Rattle.std.specs.Ordering.{is_eq}
 use Rattle.dv_order.specs.Key.{KeyTree, key_order}
 use Rattle.dv_keyed.specs.Inner.Keys.{has_key}
 use Rattle.dv_keyed.specs.Inner.Pairs.{has_pair}
-use Rattle.dv_keyed.proofs.Left.{keys-left}
+use Rattle.dv_keyed.specs.Inner.PairLaws.{keys-left}
 use Rattle.dv_keyed.proofs.trial.Trial.exchange.Goals as goal
 
 pub returns-clause-gone : goal.returns-clause-gone

@@ -1,7 +1,7 @@
 use Rattle.std.proofs.Common.{◌∙◌, ap, sym, inr}
 use Rattle.dv_value.specs.View.{tree}
+use Rattle.dv_value.specs.Inner.ListLaws.{none-of}
 use Rattle.dv_pipe.specs.StageParsing.{stage_of}
-use Rattle.dv_pipe.proofs.Items.{none-of}
 use Rattle.dv_pipe.proofs.Single.{stage-of_others, stage-of_none, stage-of_one}
 use Rattle.dv_pipe.proofs.stage.Stage.parse.Goals as goal
 

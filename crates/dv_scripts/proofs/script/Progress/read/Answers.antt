@@ -5,8 +5,9 @@ use Rattle.std.specs.Io.KnownBytes.{Consumes}
 use Rattle.dv_streams.specs.Stream.{once_more}
 use Rattle.dv_scripts.specs.Inner.Pieces.{StopsIn, TakesPiece}
 use Rattle.dv_scripts.specs.Script.{standing_of}
-use Rattle.dv_scripts.proofs.Scripts.{asked, asked_most, asked_once_more, at_end, at_failure, at_limit, few_asked, last_stops, line_left, never_read, no_more, none_asked, not_flushed, nothing_read, one_more, read_more, read_stops}
+use Rattle.dv_scripts.proofs.Scripts.{asked, asked_most, asked_once_more, at_end, at_failure, at_limit, few_asked, last_stops, line_left, never_read, none_asked, not_flushed, nothing_read, read_more, read_stops}
 use Rattle.dv_scripts.proofs.script.Progress.read.Goals as goal
+use Rattle.dv_wire.specs.Inner.CountLaws.{one_more, no_more}
 
 -- what a read leaves in a piece of this length
 read_piece : (n : ℕ) (old new : List ℕ) → n ≡ length old → length new ≡ length old → take n (new ++ drop (length new) old) ≡ new

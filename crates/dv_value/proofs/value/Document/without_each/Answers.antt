@@ -1,7 +1,7 @@
 use Rattle.std.proofs.Common.{◌≡◌, ◌+◌, ◌++◌, ◌∷◌, [], List, ℕ, Bool, true, false, map, drop, drop_of_length-le, sym, refl, subst, arith}
 use Rattle.dv_value.specs.Tree.{Field}
 use Rattle.dv_value.specs.View.{tree}
-use Rattle.dv_value.proofs.Items.{drop_item}
+use Rattle.dv_value.specs.Inner.ListLaws.{drop_item}
 use Rattle.dv_value.proofs.Removed.{IsCopied, none_copied, copied_whole, copied_fresh, one_copied, one_passed, all_copied, told}
 use Rattle.dv_value.proofs.value.Document.without_each.Goals as goal
 use Rattle.dv_value.proofs.value.Document.without_each.Goals.{then-is_none+in_ok-try_clone+in_ok-add, else-is_none}

@@ -1,0 +1,65 @@
+-- Lists: the items of a loop, and tests of items.
+use Rattle.std.proofs.Common.{◌≡◌, ◌∙◌, ℕ, zero, suc, ◌+◌, ◌≤◌, ◌<◌, ◌++◌, ◌||◌, Bool, true, false, cond, List, [], ◌∷◌, length, map, take, drop, drop_of_length-le, get_or, Option, Some, None, refl, ap, sym, add-one, arith}
+use Rattle.std.specs.List.{list_any, slice_get}
+use Rattle.std.specs.Option.{option_map}
+use Rattle.std.proofs.lemmas.List.{length-map, take_more}
+use Rattle.std.proofs.lemmas.Option.{slice_get_read, slice_get-map}
+
+-- the item at a place, as what is seen of it
+pub slice_get_seen : {X Y : Type 0} (view : X → Y) (xs : List X) (ys : List Y) (place : ℕ) (x : X) → map view xs ≡ ys → place < length xs → x ≡ get_or xs place x → slice_get ys place ≡ Some (view x)
+slice_get_seen view xs ys place x seen within is =
+    let here : slice_get xs place ≡ Some x = slice_get_read xs (length xs) place x refl within is in
+    rw (← seen, slice_get-map view xs place, here) refl
+
+-- what is left from a place on begins with the item there
+pub drop_item : {X : Type 0} (xs : List X) (place : ℕ) (x : X) → slice_get xs place ≡ Some x → drop place xs ≡ x ∷ drop (place + 1) xs
+drop_item [] place x e = absurd cc
+drop_item (y ∷ ys) zero x e = cc
+drop_item (y ∷ ys) (suc place) x e = rw (drop_item ys place x e, add-one, add-one) refl
+
+-- past the last item nothing is left
+pub drop_seen : {X Y : Type 0} (view : X → Y) (xs : List X) (ys : List Y) (place : ℕ) → map view xs ≡ ys → length xs ≤ place → drop place ys ≡ []
+drop_seen view xs ys place seen past = drop_of_length-le ys (rw (← seen, length-map) past)
+
+-- past it there is none, and all is taken
+pub none-past : {X : Type 0} (xs : List X) (i : ℕ) → length xs ≤ i → slice_get xs i ≡ None
+none-past [] i h = refl
+none-past (x ∷ xs) zero h = absurd (omega arith)
+none-past (x ∷ xs) (suc i) h = none-past xs i (omega arith)
+
+pub take-past : {X : Type 0} (xs : List X) (i : ℕ) → length xs ≤ i → take i xs ≡ xs
+take-past [] zero h = refl
+take-past [] (suc i) h = refl
+take-past (x ∷ xs) zero h = absurd (omega arith)
+take-past (x ∷ xs) (suc i) h = ap (λ l. x ∷ l) (take-past xs i (omega arith))
+
+-- with the item at a place one more is taken
+pub take-read : {X : Type 0} (xs : List X) (i : ℕ) (x : X) → i < length xs → x ≡ get_or xs i x → take (i + 1) xs ≡ take i xs ++ x ∷ []
+take-read xs i x within is = take_more xs i x within ∙ ap (λ y. take i xs ++ y ∷ []) (sym is)
+
+pub positive : {X : Type 0} (xs : List X) → (xs ≡ [] → ⊥) → 0 < length xs
+positive [] some = absurd (some refl)
+positive (x ∷ xs) some = omega arith
+
+-- what is made of nothing is nothing
+pub none-of : {X Y : Type 0} (f : X → Y) (r : Option X) (o : Option Y) → option_map f r ≡ o → ((x : X) → r ≡ Some x → ⊥) → o ≡ None
+none-of f None o e h = sym e
+none-of f (Some x) o e h = absurd (h x refl)
+
+-- ---- tests
+
+pub any-map : {X Y : Type 0} (p : Y → Bool) (view : X → Y) (xs : List X) → list_any p (map view xs) ≡ list_any (λ x. p (view x)) xs
+any-map p view [] = refl
+any-map p view (x ∷ xs) = ap (λ b. p (view x) || b) (any-map p view xs)
+
+pub cond-or : (b a : Bool) → cond b true a ≡ a || b
+cond-or true true = refl
+cond-or true false = refl
+cond-or false true = refl
+cond-or false false = refl
+
+-- two answers that are true in the same cases are the same
+pub same-truth : (a b : Bool) → (a ≡ true → b ≡ true) → (b ≡ true → a ≡ true) → a ≡ b
+same-truth true b to from = sym (to refl)
+same-truth false true to from = from refl
+same-truth false false to from = refl
