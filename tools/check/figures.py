@@ -31,6 +31,8 @@ LAW = re.compile(r"^ *(?:pub(?:\([^)]*\))? )?fn (\w+)(?:<[^>]*>)?\((?:(?!mut )[^
 DROPPED = re.compile(r"^ *let _ = [\w.]+\.len\(\);", re.M)
 BY_PLACE = re.compile(r"for place in [\w.]+\.\.\w+\.len\(\) \{\s*(?:let|if let|match)[^;{]*\.(?:entry|field)\(place\)")
 LISTED = re.compile(r"`([^`]+)`(:?)")
+# Types that two crates have for one thing: what a group holds, evaluated and kept live (CASES has a table of these names).
+ONE_MEANING = {"AccumulatorState", "GroupState", "SumState"}
 # Rows of the tables in CASES whose files are neither code nor definitions nor proofs of the product.
 OUTSIDE = {"tests", "the model", "the model and notation", "the prompt", "what makes and tries scripts", "bench", "documents"}
 
@@ -57,12 +59,12 @@ class Sources:
                 for match in LAW.finditer(text) if not match[1].startswith("law_")]
 
     def shared_types(self):
-        """Names of types that several files declare."""
+        """Names of types that several files declare, for different things."""
         places = defaultdict(list)
         for path, text in self.own.items():
             for match in TYPE.finditer(text):
                 places[match[1]].append(at(path, text, match.start()))
-        return ["%s: %s" % (name, ", ".join(where)) for name, where in sorted(places.items()) if len(where) > 1]
+        return ["%s: %s" % (name, ", ".join(where)) for name, where in sorted(places.items()) if len(where) > 1 and name not in ONE_MEANING]
 
     def passed_on(self):
         """Names of lower crates that a crate passes on, and that no crate imports from it."""

@@ -1,4 +1,4 @@
--- How far sums can be from 0, total by total and group by group.
+-- How far sums can be from 0, state by state and group by group.
 use Rattle.std.proofs.Common.{◌≡◌, ◌∙◌, ap, sym, subst, List, [], ◌∷◌, ℕ, zero, suc, ◌<◌, ◌≤◌, length, map, slice_set, get_or, arith, Option, Some, Bool, true, false, cond}
 use Rattle.std.proofs.lemmas.Int.{ints}
 use Rattle.std.specs.Map.{lookup}
@@ -11,21 +11,21 @@ use Rattle.dv_value.specs.Tree.{Tree}
 use Rattle.dv_order.specs.Key.{KeyTree, key_order}
 use Rattle.dv_gather.specs.declared.accumulator.Accumulator.{Accumulator}
 use Rattle.dv_gather.specs.declared.accumulator.Accumulator.TheVariants.{Sum, Min, Max, Push}
-use Rattle.dv_gather.specs.declared.total.Total as memory
-use Rattle.dv_gather.specs.declared.tally.Tally.{Tally}
-use Rattle.dv_gather.specs.Inner.Bounds.{IsWithinCount, AreWithin, EachWithin}
+use Rattle.dv_gather.specs.declared.accumulator_state.AccumulatorState as memory
+use Rattle.dv_gather.specs.declared.group_state.GroupState as stored
+use Rattle.dv_gather.specs.Inner.SumBounds.{IsWithinCount, AreWithin, EachWithin}
 use Rattle.dv_gather.specs.Grouping.{Accumulation}
-use Rattle.dv_gather.specs.Inner.Tallies.{Tallied, started, started_from, totals_of_none, without_rows}
-use Rattle.dv_gather.specs.Inner.Totals.{Total, summed, best, all, of_none}
-use Rattle.dv_gather.specs.Inner.TotalView.{total_seen, tally_seen, tallies_seen}
+use Rattle.dv_gather.specs.Inner.GroupStates.{GroupState, started, started_from, states_of_none, without_rows}
+use Rattle.dv_gather.specs.Inner.AccumulatorStates.{AccumulatorState, sum_state, extreme_state, array_state, of_none}
+use Rattle.dv_gather.specs.Inner.StateView.{state_seen, group_state_seen, groups_seen}
 use Rattle.dv_gather.proofs.GroupRows.{seen-inserted}
 
--- ---- totals
+-- ---- states
 
-later : (t : Total) (m n : ℕ) → m ≤ n → IsWithinCount m t → IsWithinCount n t
-later (summed x narrow) m n le h = (omega (arith, ints), omega (arith, ints))
-later (best e v) m n le h = tt
-later (all vs) m n le h = tt
+later : (t : AccumulatorState) (m n : ℕ) → m ≤ n → IsWithinCount m t → IsWithinCount n t
+later (sum_state x narrow) m n le h = (omega (arith, ints), omega (arith, ints))
+later (extreme_state e v) m n le h = tt
+later (array_state vs) m n le h = tt
 
 none-yet : (a : Accumulator) (count : ℕ) → IsWithinCount count (of_none a)
 none-yet Sum count = (omega (arith, ints), omega (arith, ints))
@@ -33,49 +33,49 @@ none-yet Min count = tt
 none-yet Max count = tt
 none-yet Push count = tt
 
--- the total at a place
-pub at-place : (place count : ℕ) (ts : List memory.Total) (t : memory.Total) → place < length ts → AreWithin place count (map total_seen ts) → IsWithinCount count (total_seen (get_or ts place t))
+-- the state at a place
+pub at-place : (place count : ℕ) (ts : List memory.AccumulatorState) (t : memory.AccumulatorState) → place < length ts → AreWithin place count (map state_seen ts) → IsWithinCount count (state_seen (get_or ts place t))
 at-place place count [] t within h = absurd (omega arith)
 at-place zero count (u ∷ ts) t within h = h.0
 at-place (suc place) count (u ∷ ts) t within h = at-place place count ts t (omega arith) h.1
 
-pub one-more : (place count : ℕ) (ts : List memory.Total) (now : memory.Total) → IsWithinCount (suc count) (total_seen now) → AreWithin place count (map total_seen ts) → AreWithin (suc place) count (map total_seen (slice_set ts place now))
+pub one-more : (place count : ℕ) (ts : List memory.AccumulatorState) (now : memory.AccumulatorState) → IsWithinCount (suc count) (state_seen now) → AreWithin place count (map state_seen ts) → AreWithin (suc place) count (map state_seen (slice_set ts place now))
 one-more place count [] now is h = tt
 one-more zero count (t ∷ ts) now is h = (is, h.1)
 one-more (suc place) count (t ∷ ts) now is h = (h.0, one-more place count ts now is h.1)
 
-pub none-more : (place count : ℕ) (ts : List Total) → AreWithin place count ts → AreWithin (suc place) count ts
+pub none-more : (place count : ℕ) (ts : List AccumulatorState) → AreWithin place count ts → AreWithin (suc place) count ts
 none-more place count [] h = tt
 none-more zero count (t ∷ ts) h = (later t count (suc count) (omega arith) h.0, h.1)
 none-more (suc place) count (t ∷ ts) h = (h.0, none-more place count ts h.1)
 
-pub all-later : (m n : ℕ) (ts : List Total) → m ≤ n → AreWithin 0 m ts → AreWithin 0 n ts
+pub all-later : (m n : ℕ) (ts : List AccumulatorState) → m ≤ n → AreWithin 0 m ts → AreWithin 0 n ts
 all-later m n [] le h = tt
 all-later m n (t ∷ ts) le h = (later t m n le h.0, all-later m n ts le h.1)
 
-pub row-taken : (place count : ℕ) (ts : List Total) → AreWithin place count ts → AreWithin 0 (suc count) ts
-row-taken place count [] h = tt
-row-taken zero count (t ∷ ts) h = all-later count (suc count) (t ∷ ts) (omega arith) h
-row-taken (suc place) count (t ∷ ts) h = (h.0, row-taken place count ts h.1)
+pub row-added : (place count : ℕ) (ts : List AccumulatorState) → AreWithin place count ts → AreWithin 0 (suc count) ts
+row-added place count [] h = tt
+row-added zero count (t ∷ ts) h = all-later count (suc count) (t ∷ ts) (omega arith) h
+row-added (suc place) count (t ∷ ts) h = (h.0, row-added place count ts h.1)
 
 -- ---- groups
 
-none-started : (fields : List Accumulation) (count : ℕ) → AreWithin 0 count (totals_of_none fields)
+none-started : (fields : List Accumulation) (count : ℕ) → AreWithin 0 count (states_of_none fields)
 none-started [] count = tt
 none-started (a ∷ fields) count = (none-yet a.accumulator count, none-started fields count)
 
-pub started-within : (fields : List Accumulation) (k : Tree) (t : Tallied) (count : ℕ) → AreWithin 0 count t.1 → AreWithin 0 count (started fields k t).1
+pub started-within : (fields : List Accumulation) (k : Tree) (t : GroupState) (count : ℕ) → AreWithin 0 count t.1 → AreWithin 0 count (started fields k t).1
 started-within fields k t count h = go t.0
   where
     go : (ks : List Tree) → AreWithin 0 count (started_from fields k ks t.1).1
     go [] = none-started fields count
     go (l ∷ ls) = h
 
-pub each-later : (m n : ℕ) (es : List (KeyTree × Tallied)) → m ≤ n → EachWithin m es → EachWithin n es
+pub each-later : (m n : ℕ) (es : List (KeyTree × GroupState)) → m ≤ n → EachWithin m es → EachWithin n es
 each-later m n [] le h = tt
 each-later m n (e ∷ es) le h = (all-later m n e.1.1 le h.0, each-later m n es le h.1)
 
-inserted : (count : ℕ) (es : List (KeyTree × Tallied)) (k : KeyTree) (t : Tallied) → EachWithin count es → AreWithin 0 count t.1 → EachWithin count (insert_entry key_order es k t)
+inserted : (count : ℕ) (es : List (KeyTree × GroupState)) (k : KeyTree) (t : GroupState) → EachWithin count es → AreWithin 0 count t.1 → EachWithin count (insert_entry key_order es k t)
 inserted count [] k t h is = (is, tt)
 inserted count (e ∷ es) k t h is = go (key_order k e.0) (inserted count es k t h.1 is)
   where
@@ -85,21 +85,21 @@ inserted count (e ∷ es) k t h is = go (key_order k e.0) (inserted count es k t
     go Greater rest = (h.0, rest)
 
 -- the group of a key, or one without rows
-pub found-within : (count : ℕ) (es : List (KeyTree × Tally)) (k : KeyTree) (none was : Tally) (o : Option Tally) → tally_seen none ≡ without_rows → was ≡ unwrap_or o none → o ≡ lookup (is_at (key_order k)) es → EachWithin count (tallies_seen es) → AreWithin 0 count (tally_seen was).1
+pub found-within : (count : ℕ) (es : List (KeyTree × stored.GroupState)) (k : KeyTree) (none was : stored.GroupState) (o : Option stored.GroupState) → group_state_seen none ≡ without_rows → was ≡ unwrap_or o none → o ≡ lookup (is_at (key_order k)) es → EachWithin count (groups_seen es) → AreWithin 0 count (group_state_seen was).1
 found-within count es k none was o empty there at h =
-    let Within : Tally → Type 0 = λ t. AreWithin 0 count (tally_seen t).1 in
-    subst Within (sym there) (subst (λ (p : Option Tally). Within (unwrap_or p none)) (sym at) (among es h))
+    let Within : stored.GroupState → Type 0 = λ t. AreWithin 0 count (group_state_seen t).1 in
+    subst Within (sym there) (subst (λ (p : Option stored.GroupState). Within (unwrap_or p none)) (sym at) (among es h))
   where
-    among : (fs : List (KeyTree × Tally)) → EachWithin count (tallies_seen fs) → AreWithin 0 count (tally_seen (unwrap_or (lookup (is_at (key_order k)) fs) none)).1
-    among [] h = subst (λ (t : Tallied). AreWithin 0 count t.1) (sym empty) tt
+    among : (fs : List (KeyTree × stored.GroupState)) → EachWithin count (groups_seen fs) → AreWithin 0 count (group_state_seen (unwrap_or (lookup (is_at (key_order k)) fs) none)).1
+    among [] h = subst (λ (t : GroupState). AreWithin 0 count t.1) (sym empty) tt
     among (f ∷ fs) h = here (is_at (key_order k) f.0) (among fs h.1)
       where
-        here : (b : Bool) → AreWithin 0 count (tally_seen (unwrap_or (lookup (is_at (key_order k)) fs) none)).1 → AreWithin 0 count (tally_seen (unwrap_or (cond b (Some f.1) (lookup (is_at (key_order k)) fs)) none)).1
+        here : (b : Bool) → AreWithin 0 count (group_state_seen (unwrap_or (lookup (is_at (key_order k)) fs) none)).1 → AreWithin 0 count (group_state_seen (unwrap_or (cond b (Some f.1) (lookup (is_at (key_order k)) fs)) none)).1
         here true rest = h.0
         here false rest = rest
 
 -- a row more in the group of its key
-pub put-within : (count : ℕ) (es final : List (KeyTree × Tally)) (k : KeyTree) (now : Tally) → final ≡ insert_entry key_order es k now → EachWithin count (tallies_seen es) → AreWithin 0 (suc count) (tally_seen now).1 → EachWithin (suc count) (tallies_seen final)
+pub put-within : (count : ℕ) (es final : List (KeyTree × stored.GroupState)) (k : KeyTree) (now : stored.GroupState) → final ≡ insert_entry key_order es k now → EachWithin count (groups_seen es) → AreWithin 0 (suc count) (group_state_seen now).1 → EachWithin (suc count) (groups_seen final)
 put-within count es final k now written h is =
-    let seen : tallies_seen final ≡ insert_entry key_order (tallies_seen es) k (tally_seen now) = ap tallies_seen written ∙ seen-inserted tally_seen key_order es k now in
-    subst (EachWithin (suc count)) (sym seen) (inserted (suc count) (tallies_seen es) k (tally_seen now) (each-later count (suc count) (tallies_seen es) (omega arith) h) is)
+    let seen : groups_seen final ≡ insert_entry key_order (groups_seen es) k (group_state_seen now) = ap groups_seen written ∙ seen-inserted group_state_seen key_order es k now in
+    subst (EachWithin (suc count)) (sym seen) (inserted (suc count) (groups_seen es) k (group_state_seen now) (each-later count (suc count) (groups_seen es) (omega arith) h) is)

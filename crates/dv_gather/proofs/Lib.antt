@@ -5,7 +5,7 @@ pub mod Shared
 pub mod Placed
 pub mod Grouped
 pub mod GroupRows
-pub mod Totalled
+pub mod AccumulatorStates
 pub mod Bounded
 pub mod Leaders
 pub mod Parted

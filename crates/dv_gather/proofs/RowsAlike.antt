@@ -8,7 +8,7 @@ use Rattle.dv_value.specs.Names.{has_name, has_zero, with_values}
 use Rattle.dv_row.specs.Expressions.{with_field_behind}
 use Rattle.dv_row.specs.Row.{Row}
 use Rattle.dv_gather.specs.Grouping.{Accumulation}
-use Rattle.dv_gather.specs.Inner.Tallies.{IsRowOf, with_named, row_of}
+use Rattle.dv_gather.specs.Inner.GroupStates.{IsRowOf, with_named, row_of_values}
 
 has_name-values : (name : List ℕ) (d : Row) (vs : List Tree) → length vs ≡ length d → has_name name (with_values d vs) ≡ has_name name d
 has_name-values name [] [] same = refl
@@ -54,24 +54,24 @@ named-like (a ∷ fields) (v ∷ vs) (w ∷ ws) us d same all enough =
         ap (with_values (with_named fields ws longer)) (sym (append_assoc us (v ∷ []) vs)) ∙ again long ∙ ap (with_named fields vs) (values-push d us a.name v w same)
 
 -- another row has as many fields, so that each has its own name there
-pub row-like : (fields : List Accumulation) (d : Row) (vs : List Tree) → IsRowOf fields d → length d ≡ length vs → length fields < length vs → with_values d vs ≡ row_of fields vs
+pub row-like : (fields : List Accumulation) (d : Row) (vs : List Tree) → IsRowOf fields d → length d ≡ length vs → length fields < length vs → with_values d vs ≡ row_of_values fields vs
 row-like fields d vs row all enough =
     ap (λ e. with_values e vs) row.1 ∙ go vs row.0 (sym (ap length row.1) ∙ all) enough
   where
-    go : (vs ws : List Tree) → length (row_of fields ws) ≡ length vs → length fields < length vs → with_values (row_of fields ws) vs ≡ row_of fields vs
+    go : (vs ws : List Tree) → length (row_of_values fields ws) ≡ length vs → length fields < length vs → with_values (row_of_values fields ws) vs ≡ row_of_values fields vs
     go [] ws all enough = absurd (omega arith)
     go (k ∷ vs) [] all enough = absurd (omega arith)
     go (k ∷ vs) (l ∷ ws) all enough = named-like fields vs ws (k ∷ []) ((codes "_id", l) ∷ []) refl (omega (arith, all)) (omega arith)
 
 -- what stands among rows of groups is one
-pub last-row : {X : Type 0} (fields : List Accumulation) (values : X → List Tree) (xs : List X) (left rest : List Row) (place : ℕ) (last : Option (Bor Row)) → left ++ rest ≡ map (λ x. row_of fields (values x)) xs → option_copied last ≡ slice_get left place → IfSome last (λ d. IsRowOf fields d.now)
+pub last-row : {X : Type 0} (fields : List Accumulation) (values : X → List Tree) (xs : List X) (left rest : List Row) (place : ℕ) (last : Option (Bor Row)) → left ++ rest ≡ map (λ x. row_of_values fields (values x)) xs → option_copied last ≡ slice_get left place → IfSome last (λ d. IsRowOf fields d.now)
 last-row fields values xs left rest place None are here = tt
 last-row {X = X} fields values xs left rest place (Some d) are here = among xs left place are (sym here)
   where
-    among : (xs : List X) (left : List Row) (place : ℕ) → left ++ rest ≡ map (λ x. row_of fields (values x)) xs → slice_get left place ≡ Some d.now → IsRowOf fields d.now
+    among : (xs : List X) (left : List Row) (place : ℕ) → left ++ rest ≡ map (λ x. row_of_values fields (values x)) xs → slice_get left place ≡ Some d.now → IsRowOf fields d.now
     among xs [] place are here = absurd cc
     among [] (e ∷ left) place are here = absurd cc
     among (x ∷ xs) (e ∷ left) zero are here = (values x, cc)
     among (x ∷ xs) (e ∷ left) (suc place) are here =
-        let behind : left ++ rest ≡ map (λ x. row_of fields (values x)) xs = cc in
+        let behind : left ++ rest ≡ map (λ x. row_of_values fields (values x)) xs = cc in
         among xs left place behind here

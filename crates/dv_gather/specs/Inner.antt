@@ -1,18 +1,18 @@
 -- Definitions and lemmas that need not be believed: invariants, codings, and words of bodies and proofs.
+pub mod AccumulatorStates
 pub mod Alike
-pub mod Bounds
 pub mod Counting
 pub mod Examples
 pub mod Gathering
 pub mod GroupCode
 pub mod GroupLaws
+pub mod GroupStates
 pub mod GroupView
 pub mod KeySets
 pub mod Leading
 pub mod Places
-pub mod Tallies
-pub mod TotalView
-pub mod Totals
+pub mod StateView
+pub mod SumBounds
 pub mod Valid
 pub mod Laws
 pub mod KeyLaws

@@ -3,16 +3,16 @@
 ghost use Rattle.std.specs.Prelude.{◌≡◌, [], ℕ, suc, map, IfOk, OnOk};
 ghost use Rattle.dv_row.specs.Inner.ExpressionView.{expression_seen};
 ghost use Rattle.dv_row.specs.Inner.RowValueView.{row_value};
-ghost use Rattle.dv_gather.specs.Inner.Bounds.{EachWithin, most};
+ghost use Rattle.dv_gather.specs.Inner.SumBounds.{EachWithin, most};
 ghost use Rattle.dv_gather.specs.Grouping as defined;
 ghost use Rattle.dv_gather.specs.GroupParsing.{grouping};
 ghost use Rattle.dv_gather.specs.Inner.GroupView.{accumulation};
 ghost use Rattle.dv_gather.specs.Inner.KeySets.{referred};
-ghost use Rattle.dv_gather.specs.Inner.Tallies.{finished_row, with_row_put, with_rows_put};
-ghost use Rattle.dv_gather.specs.Inner.TotalView.{tallies_seen};
+ghost use Rattle.dv_gather.specs.Inner.GroupStates.{row_of_state, groups_with_row, groups_with_rows};
+ghost use Rattle.dv_gather.specs.Inner.StateView.{groups_seen};
 
 use crate::accumulator::Accumulator;
-use crate::tally::Tally;
+use crate::group_state::GroupState;
 use dv_order::{Key, key_of, laws};
 use dv_row::{Expr, RowValue};
 use dv_value::{Document, NoMemory, Str, Value};
@@ -96,36 +96,40 @@ impl Group {
         ensures { IfOk result (λ left. left.items ≡ defined.grouped self.now (referred rows.now)) }
     {
         laws::keys_stand_as_their_values();
-        let tallies = self.tallies(alloc, rows)?;
-        self.finished(alloc, tallies)
+        let groups = self.groups(alloc, rows)?;
+        self.rows_of_groups(alloc, groups)
     }
 
     /// The groups of the rows, by their keys.
-    fn tallies(&self, alloc: Global, rows: &[&Document]) -> Result<BTreeMap<Key, Tally>, NoMemory>
-        ensures { IfOk result (λ tallies. tallies_seen tallies.entries ≡ with_rows_put self.now (referred rows.now) []) }
-    {
-        let mut tallies = BTreeMap::new(alloc);
-        'rows: for row in rows {
-            self.put(alloc, &mut tallies, row)?;
-        }
-        Ok(tallies)
-    }
-
-    /// Takes a row into the group of its key.
-    fn put(
+    fn groups(
         &self,
         alloc: Global,
-        tallies: &mut BTreeMap<Key, Tally>,
+        rows: &[&Document],
+    ) -> Result<BTreeMap<Key, GroupState>, NoMemory>
+        ensures { IfOk result (λ groups. groups_seen groups.entries ≡ groups_with_rows self.now (referred rows.now) []) }
+    {
+        let mut groups = BTreeMap::new(alloc);
+        'rows: for row in rows {
+            self.add(alloc, &mut groups, row)?;
+        }
+        Ok(groups)
+    }
+
+    /// Adds a row to the group of its key.
+    fn add(
+        &self,
+        alloc: Global,
+        groups: &mut BTreeMap<Key, GroupState>,
         row: &Document,
     ) -> Result<(), NoMemory>
-        requires { EachWithin most (tallies_seen tallies.old.entries) }
-        ensures put { OnOk result (tallies_seen tallies.new.entries ≡ with_row_put self.now row.now (tallies_seen tallies.old.entries)) }
-        ensures within { OnOk result ((count : ℕ) → EachWithin count (tallies_seen tallies.old.entries) → EachWithin (suc count) (tallies_seen tallies.new.entries)) }
+        requires { EachWithin most (groups_seen groups.old.entries) }
+        ensures groups { OnOk result (groups_seen groups.new.entries ≡ groups_with_row self.now row.now (groups_seen groups.old.entries)) }
+        ensures within { OnOk result ((count : ℕ) → EachWithin count (groups_seen groups.old.entries) → EachWithin (suc count) (groups_seen groups.new.entries)) }
     {
         let key = self.key_in(alloc, row)?;
         let place = key_of(key.get())?;
-        let tally = tallies.entry(place)?.or_insert(Tally::new(alloc));
-        tally.add(alloc, key, self.fields(), row)
+        let state = groups.entry(place)?.or_insert(GroupState::new(alloc));
+        state.add(alloc, key, self.fields(), row)
     }
 
     /// The row's key, null if it is missing. Fails with `NoMemory` when memory runs out.
@@ -139,16 +143,16 @@ impl Group {
     }
 
     /// The rows of the groups, ascending by their keys.
-    fn finished(
+    fn rows_of_groups(
         &self,
         alloc: Global,
-        tallies: BTreeMap<Key, Tally>,
+        groups: BTreeMap<Key, GroupState>,
     ) -> Result<Vec<Document>, NoMemory>
-        ensures { IfOk result (λ left. left.items ≡ map (λ e. finished_row self.now.fields e.1) (tallies_seen tallies.entries)) }
+        ensures { IfOk result (λ left. left.items ≡ map (λ e. row_of_state self.now.fields e.1) (groups_seen groups.entries)) }
     {
-        let mut left = Vec::with_capacity(alloc, tallies.len())?;
-        'groups: for tally in tallies.into_values() {
-            let row = tally.row(alloc, &self.fields, left.last())?;
+        let mut left = Vec::with_capacity(alloc, groups.len())?;
+        'groups: for state in groups.into_values() {
+            let row = state.row(alloc, &self.fields, left.last())?;
             left.push(row)?;
         }
         Ok(left)

@@ -2,20 +2,20 @@
 #![tactic(auto)]
 
 mod accumulator;
-mod adding;
+mod accumulator_state;
 mod alike;
 mod extreme;
 mod group;
 mod group_parsing;
+mod group_state;
 mod joining;
 mod keys;
 pub mod laws;
 mod lookup;
 mod lookup_parsing;
-mod tally;
-mod total;
+mod sum_state;
 
 pub use accumulator::Accumulator;
-pub use adding::{addend, is_int64, sum_value};
 pub use group::{Group, GroupField};
 pub use lookup::{Join, Lookup};
+pub use sum_state::{addend, is_int64, sum_value};

@@ -121,10 +121,10 @@ module _ (a b : PosTree) where
   diff-two : (old new : Positioned) → IsPositioned old → IsPositioned new → AllByRecursion IsOne (keys_of old) → AllByRecursion IsOne (keys_of new) → length (diff old new) ≤ 2
   diff-two old new are-old are-new all-old all-new =
       let left = filter (goes new) old in
-      let came = filter (λ (e : PosTree × Row). not (stands_as (at e.0 old) e.1)) new in
+      let added = filter (λ (e : PosTree × Row). not (stands_as (at e.0 old) e.1)) new in
       let two = two-at-most (keys_of left ++ keys_of new) (apart-both (keys_of left) (keys_of new) (less-apart (keys_of left) (positioned-filter (goes new) old are-old).ascending) (less-apart (keys_of new) are-new.ascending) (all-gone new old))
       (all-both IsOne (keys_of left) (keys_of new) (all-filter (goes new) IsOne old all-old) all-new) in
-      omega (arith, two, both-length (gones old new) (puts old new), both-length (keys_of left) (keys_of new), map-length {A = PosTree × Row} (λ e. Gone e.0) left, map-length {A = PosTree × Row} (λ e. Put e.0 e.1) came, map-length {A = PosTree × Row} (λ e. e.0) left, map-length {A = PosTree × Row} (λ e. e.0) new, filter-length (λ e. not (stands_as (at e.0 old) e.1)) new)
+      omega (arith, two, both-length (gones old new) (puts old new), both-length (keys_of left) (keys_of new), map-length {A = PosTree × Row} (λ e. Gone e.0) left, map-length {A = PosTree × Row} (λ e. Put e.0 e.1) added, map-length {A = PosTree × Row} (λ e. e.0) left, map-length {A = PosTree × Row} (λ e. e.0) new, filter-length (λ e. not (stands_as (at e.0 old) e.1)) new)
 
 -- ---- the rows of the groups of two keys
 

@@ -1,12 +1,12 @@
 pub mod Under
-pub mod Telling
+pub mod Transitions
 pub mod Owed
 pub mod Bounds
 pub mod Forgetting
 pub mod Lawful
-pub mod SumsKept
+pub mod Summing
 pub mod Pushing
 pub mod Ranking
-pub mod Following
+pub mod AccumulatorStates
 pub mod Places
-pub mod Bundled
+pub mod GroupStates

@@ -27,7 +27,7 @@ use Rattle.dv_change.specs.Inner.Told.{diff_told, told_along, with_old}
 use Rattle.dv_change.specs.Inner.ToldLaws.{along-diff, told-parts}
 use Rattle.dv_gather.specs.Grouping.{Grouping, row_shown}
 use Rattle.dv_group.specs.Inner.Grouped.{IsKeyPlace, at-grouped, beside, group_ordered, grouped-places, one-part}
-use Rattle.dv_group.specs.Inner.Members.{AreMembers, KeptGroups, row_has_key, is_key, group_members, moved, moved_all, moved_as, put_some, row_key, rows_in, rows_with, set_at, shown_as, shown_of, with_shown}
+use Rattle.dv_group.specs.Inner.Members.{AreMembers, LiveGroups, row_has_key, is_key, group_members, moved, moved_all, moved_as, put_some, row_key, rows_in, rows_with, set_at, shown_as, shown_of, with_shown}
 use Rattle.dv_group.specs.Placed.{grouped_at}
 
 -- ---- a row more, where there is one
@@ -324,7 +324,7 @@ module _ (g : Grouping) where
 
   -- ---- the same in memory: a change that is told, and the groups before and after
 
-  module _ (rows : Positioned) (change : Change) (are : IsPositioned rows) (exact : IsExactChange change) (kept still : KeptGroups) (taken : Taken) (told : taken ≡ with_old rows change)
+  module _ (rows : Positioned) (change : Change) (are : IsPositioned rows) (exact : IsExactChange change) (kept still : LiveGroups) (taken : Taken) (told : taken ≡ with_old rows change)
       (are-kept : AreMembers g (λ k. group_members k kept) rows)
       (is-moved : (k : KeyTree) → group_members k still ≡ moved_as g k (group_members k kept) taken) where
     pub are-still : AreMembers g (λ k. group_members k still) (with_change rows change)
@@ -347,11 +347,11 @@ module _ (g : Grouping) where
       members-along changes (with_change rows change) next is (positioned-changed rows change are exact.0) exact.1 (still-members rows change are exact.0 was next kept (λ k. refl)) are-moved
 
 -- groups that are the same have the same rows
-pub members-same : (g h : Grouping) (es fs : KeptGroups) (left : Positioned) → h ≡ g → fs ≡ es → AreMembers g (λ k. group_members k es) left → AreMembers h (λ k. group_members k fs) left
+pub members-same : (g h : Grouping) (es fs : LiveGroups) (left : Positioned) → h ≡ g → fs ≡ es → AreMembers g (λ k. group_members k es) left → AreMembers h (λ k. group_members k fs) left
 members-same g h es fs left same groups members = λ k. ap (group_members k) groups ∙ members k ∙ ap (λ (i : Grouping). rows_with i k left) (sym same)
 
 -- under a key that no group has stands nothing
-pub none-under : (k : KeyTree) (es : KeptGroups) → list_any (λ l. is_eq (key_order k l)) (keys_of es) ≡ false → group_members k es ≡ []
+pub none-under : (k : KeyTree) (es : LiveGroups) → list_any (λ l. is_eq (key_order k l)) (keys_of es) ≡ false → group_members k es ≡ []
 none-under k [] none = refl
 none-under k (e ∷ es) none = by (is_eq (key_order k e.0)) none (none-under k es)
   where

@@ -1,4 +1,4 @@
--- What has come of the values of each field, place by place.
+-- The states of accumulators, place by place.
 use Rattle.std.specs.Prelude.{◌≡◌, ◌⊎◌, ◌≤◌, ◌<◌, ℕ, zero, suc, ◌+◌, List, [], ◌∷◌, drop, get_or, length, map, slice_set, refl}
 use Rattle.std.proofs.Common.{add-one, ap, arith, inl, inr, subst, sym, ◌∙◌}
 use Rattle.std.proofs.lemmas.List.{drop_more}
@@ -6,11 +6,11 @@ use Rattle.dv_value.specs.Tree.{Field}
 use Rattle.dv_row.specs.Row.{Row}
 use Rattle.dv_change.specs.Positions.{PosTree}
 use Rattle.dv_gather.specs.Grouping.{Accumulation}
-use Rattle.dv_group.specs.declared.running.Running as memory
-use Rattle.dv_group.specs.declared.running.Motion.{Motion}
-use Rattle.dv_group.specs.Inner.Room.{AreNarrowIn, HasRoomFor, HaveRoom, IsNarrowIn}
-use Rattle.dv_group.specs.Inner.Running.{Running, moved_at, moved_by, moved_from, with_told}
-use Rattle.dv_group.specs.Inner.RunningView.{running_seen}
+use Rattle.dv_group.specs.declared.accumulator_state.AccumulatorState as memory
+use Rattle.dv_group.specs.declared.accumulator_state.RowChange.{RowChange}
+use Rattle.dv_group.specs.Inner.SumBounds.{AreSummableIn, HasRoomFor, HaveRoom, IsSummableIn}
+use Rattle.dv_group.specs.Inner.AccumulatorStates.{AccumulatorState, states_after_at, state_after, states_after_from, with_state_values}
+use Rattle.dv_group.specs.Inner.StateView.{state_seen}
 
 pub drop-one : {A : Type 0} (n : ℕ) (xs : List A) → drop 1 (drop n xs) ≡ drop (suc n) xs
 drop-one zero xs = refl
@@ -21,81 +21,81 @@ drop-one (suc n) (x ∷ xs) = drop-one n xs
 pub place-left : {X Y : Type 0} (f : X → Y) (xs : List X) (n : ℕ) (x : X) → n < length xs → x ≡ get_or xs n x → map f (drop n xs) ≡ f x ∷ map f (drop (n + 1) xs)
 place-left f xs n x within is = ap (map f) (drop_more xs n x within) ∙ ap (λ y. f y ∷ map f (drop (n + 1) xs)) (sym is)
 
-module _ (way : Motion) (a : Accumulation) (p : PosTree) (d : Row) where
+module _ (change : RowChange) (a : Accumulation) (p : PosTree) (d : Row) where
   -- ---- room
 
-  pub room-first : (fields : List Accumulation) (ts : List Running) → HaveRoom way (a ∷ fields) p d ts → HaveRoom way (a ∷ []) p d ts
+  pub room-first : (fields : List Accumulation) (ts : List AccumulatorState) → HaveRoom change (a ∷ fields) p d ts → HaveRoom change (a ∷ []) p d ts
   room-first fields [] room = tt
   room-first fields (t ∷ ts) room = (room.0, tt)
 
-  pub room-rest : (fields : List Accumulation) (ts : List Running) → HaveRoom way (a ∷ fields) p d ts → HaveRoom way fields p d (drop 1 ts)
+  pub room-rest : (fields : List Accumulation) (ts : List AccumulatorState) → HaveRoom change (a ∷ fields) p d ts → HaveRoom change fields p d (drop 1 ts)
   room-rest [] ts room = tt
   room-rest (b ∷ fields) [] room = tt
   room-rest (b ∷ fields) (t ∷ ts) room = room.1
 
-  pub room-at : (place : ℕ) (ts : List memory.Running) (none : memory.Running) → place < length ts → HaveRoom way (a ∷ []) p d (drop place (map running_seen ts)) → HasRoomFor way a p d (running_seen (get_or ts place none))
+  pub room-at : (place : ℕ) (ts : List memory.AccumulatorState) (none : memory.AccumulatorState) → place < length ts → HaveRoom change (a ∷ []) p d (drop place (map state_seen ts)) → HasRoomFor change a p d (state_seen (get_or ts place none))
   room-at place [] none within room = absurd (omega arith)
   room-at zero (t ∷ ts) none within room = room.0
   room-at (suc place) (t ∷ ts) none within room = room-at place ts none (omega arith) room
 
-  -- ---- what is moved
+  -- ---- a row is added, or removed
 
-  pub moved-here : (place : ℕ) (ts : List memory.Running) (none now : memory.Running) → place < length ts → running_seen now ≡ moved_by way a p d (running_seen (get_or ts place none)) → map running_seen (slice_set ts place now) ≡ moved_at way p d place a (map running_seen ts)
-  moved-here place [] none now within moved = absurd (omega arith)
-  moved-here zero (t ∷ ts) none now within moved = ap (λ s. s ∷ map running_seen ts) moved
-  moved-here (suc place) (t ∷ ts) none now within moved = ap (λ l. running_seen t ∷ l) (moved-here place ts none now (omega arith) moved)
+  pub after-here : (place : ℕ) (ts : List memory.AccumulatorState) (none now : memory.AccumulatorState) → place < length ts → state_seen now ≡ state_after change a p d (state_seen (get_or ts place none)) → map state_seen (slice_set ts place now) ≡ states_after_at change p d place a (map state_seen ts)
+  after-here place [] none now within changed = absurd (omega arith)
+  after-here zero (t ∷ ts) none now within changed = ap (λ s. s ∷ map state_seen ts) changed
+  after-here (suc place) (t ∷ ts) none now within changed = ap (λ l. state_seen t ∷ l) (after-here place ts none now (omega arith) changed)
 
-  pub moved-nowhere : (place : ℕ) (ts : List memory.Running) → length ts ≤ place → map running_seen ts ≡ moved_at way p d place a (map running_seen ts)
-  moved-nowhere place [] past = refl
-  moved-nowhere zero (t ∷ ts) past = absurd (omega arith)
-  moved-nowhere (suc place) (t ∷ ts) past = ap (λ l. running_seen t ∷ l) (moved-nowhere place ts (omega arith))
+  pub after-nowhere : (place : ℕ) (ts : List memory.AccumulatorState) → length ts ≤ place → map state_seen ts ≡ states_after_at change p d place a (map state_seen ts)
+  after-nowhere place [] past = refl
+  after-nowhere zero (t ∷ ts) past = absurd (omega arith)
+  after-nowhere (suc place) (t ∷ ts) past = ap (λ l. state_seen t ∷ l) (after-nowhere place ts (omega arith))
 
-  pub behind-moved : (place : ℕ) (ts : List Running) → drop (suc place) (moved_at way p d place a ts) ≡ drop (suc place) ts
-  behind-moved place [] = refl
-  behind-moved zero (t ∷ ts) = refl
-  behind-moved (suc place) (t ∷ ts) = behind-moved place ts
+  pub behind-after : (place : ℕ) (ts : List AccumulatorState) → drop (suc place) (states_after_at change p d place a ts) ≡ drop (suc place) ts
+  behind-after place [] = refl
+  behind-after zero (t ∷ ts) = refl
+  behind-after (suc place) (t ∷ ts) = behind-after place ts
 
 module _ (a : Accumulation) (d : Row) where
-  -- ---- what was narrow
+  -- ---- what was summable
 
-  pub narrow-here : (place : ℕ) (ts : List memory.Running) (none : memory.Running) → place < length ts → IsNarrowIn (running_seen (get_or ts place none)) a d → AreNarrowIn (drop place (map running_seen ts)) (a ∷ []) d
-  narrow-here place [] none within narrow = absurd (omega arith)
-  narrow-here zero (t ∷ ts) none within narrow = (narrow, tt)
-  narrow-here (suc place) (t ∷ ts) none within narrow = narrow-here place ts none (omega arith) narrow
+  pub summable-here : (place : ℕ) (ts : List memory.AccumulatorState) (none : memory.AccumulatorState) → place < length ts → IsSummableIn (state_seen (get_or ts place none)) a d → AreSummableIn (drop place (map state_seen ts)) (a ∷ []) d
+  summable-here place [] none within summable = absurd (omega arith)
+  summable-here zero (t ∷ ts) none within summable = (summable, tt)
+  summable-here (suc place) (t ∷ ts) none within summable = summable-here place ts none (omega arith) summable
 
-  pub narrow-nowhere : (place : ℕ) (ts : List memory.Running) → length ts ≤ place → AreNarrowIn (drop place (map running_seen ts)) (a ∷ []) d
-  narrow-nowhere zero [] past = tt
-  narrow-nowhere (suc place) [] past = tt
-  narrow-nowhere zero (t ∷ ts) past = absurd (omega arith)
-  narrow-nowhere (suc place) (t ∷ ts) past = narrow-nowhere place ts (omega arith)
+  pub summable-nowhere : (place : ℕ) (ts : List memory.AccumulatorState) → length ts ≤ place → AreSummableIn (drop place (map state_seen ts)) (a ∷ []) d
+  summable-nowhere zero [] past = tt
+  summable-nowhere (suc place) [] past = tt
+  summable-nowhere zero (t ∷ ts) past = absurd (omega arith)
+  summable-nowhere (suc place) (t ∷ ts) past = summable-nowhere place ts (omega arith)
 
-  pub narrow-join : (fields : List Accumulation) (ts : List Running) → AreNarrowIn ts (a ∷ []) d → AreNarrowIn (drop 1 ts) fields d → AreNarrowIn ts (a ∷ fields) d
-  narrow-join fields [] one rest = tt
-  narrow-join fields (t ∷ ts) one rest = (one.0, rest)
+  pub summable-join : (fields : List Accumulation) (ts : List AccumulatorState) → AreSummableIn ts (a ∷ []) d → AreSummableIn (drop 1 ts) fields d → AreSummableIn ts (a ∷ fields) d
+  summable-join fields [] one rest = tt
+  summable-join fields (t ∷ ts) one rest = (one.0, rest)
 
 -- ---- one step
 
--- a field's turn among all: what has come of it follows, and the others are left
-module _ (way : Motion) (a : Accumulation) (p : PosTree) (d : Row) (fields : List Accumulation) (place : ℕ) (first so_far after all : List Running) (R : Type 0)
-    (same : drop place so_far ≡ drop place first) (followed : after ≡ moved_at way p d place a so_far) where
-  pub step-moved : moved_from way p d place (a ∷ fields) so_far ≡ all → moved_from way p d (place + 1) fields after ≡ all
-  step-moved moved = rw add-one (ap (moved_from way p d (suc place) fields) followed ∙ moved)
+-- a field's turn among all: its state changes, and the others are left
+module _ (change : RowChange) (a : Accumulation) (p : PosTree) (d : Row) (fields : List Accumulation) (place : ℕ) (first so_far after all : List AccumulatorState) (R : Type 0)
+    (same : drop place so_far ≡ drop place first) (followed : after ≡ states_after_at change p d place a so_far) where
+  pub step-after : states_after_from change p d place (a ∷ fields) so_far ≡ all → states_after_from change p d (place + 1) fields after ≡ all
+  step-after changed = rw add-one (ap (states_after_from change p d (suc place) fields) followed ∙ changed)
 
   pub step-same : drop (place + 1) after ≡ drop (place + 1) first
-  step-same = rw add-one (ap (drop (suc place)) followed ∙ behind-moved way a p d place so_far ∙ sym (drop-one place so_far) ∙ ap (drop 1) same ∙ drop-one place first)
+  step-same = rw add-one (ap (drop (suc place)) followed ∙ behind-after change a p d place so_far ∙ sym (drop-one place so_far) ∙ ap (drop 1) same ∙ drop-one place first)
 
-  pub step-room : HaveRoom way (a ∷ fields) p d (drop place first) → HaveRoom way fields p d (drop (place + 1) first)
-  step-room room = rw add-one (subst (λ ts. HaveRoom way fields p d ts) (drop-one place first) (room-rest way a p d fields (drop place first) room))
+  pub step-room : HaveRoom change (a ∷ fields) p d (drop place first) → HaveRoom change fields p d (drop (place + 1) first)
+  step-room room = rw add-one (subst (λ ts. HaveRoom change fields p d ts) (drop-one place first) (room-rest change a p d fields (drop place first) room))
 
-  pub step-narrow : AreNarrowIn (drop place so_far) (a ∷ []) d → (AreNarrowIn (drop place first) (a ∷ fields) d → R) → AreNarrowIn (drop (place + 1) first) fields d → R
-  step-narrow one narrow rest =
-      narrow (narrow-join a d fields (drop place first) (subst (λ ts. AreNarrowIn ts (a ∷ []) d) same one) (subst (λ ts. AreNarrowIn ts fields d) (ap (λ n. drop n first) (add-one place) ∙ sym (drop-one place first)) rest))
+  pub step-summable : AreSummableIn (drop place so_far) (a ∷ []) d → (AreSummableIn (drop place first) (a ∷ fields) d → R) → AreSummableIn (drop (place + 1) first) fields d → R
+  step-summable one summable rest =
+      summable (summable-join a d fields (drop place first) (subst (λ ts. AreSummableIn ts (a ∷ []) d) same one) (subst (λ ts. AreSummableIn ts fields d) (ap (λ n. drop n first) (add-one place) ∙ sym (drop-one place first)) rest))
 
--- ---- what is told
+-- ---- the values of states
 
--- where one of the two ends, nothing more is told
-pub told-ended : (fields : List Accumulation) (ts : List Running) (fs : List Field) → (length fields ≡ 0) ⊎ (length ts ≡ 0) → with_told fields ts fs ≡ fs
-told-ended [] ts fs over = refl
-told-ended (a ∷ fields) [] fs over = refl
-told-ended (a ∷ fields) (t ∷ ts) fs (inl none) = absurd (omega (arith, none))
-told-ended (a ∷ fields) (t ∷ ts) fs (inr none) = absurd (omega (arith, none))
+-- where one of the two ends, no more values come
+pub values-ended : (fields : List Accumulation) (ts : List AccumulatorState) (fs : List Field) → (length fields ≡ 0) ⊎ (length ts ≡ 0) → with_state_values fields ts fs ≡ fs
+values-ended [] ts fs over = refl
+values-ended (a ∷ fields) [] fs over = refl
+values-ended (a ∷ fields) (t ∷ ts) fs (inl none) = absurd (omega (arith, none))
+values-ended (a ∷ fields) (t ∷ ts) fs (inr none) = absurd (omega (arith, none))

@@ -1,4 +1,4 @@
--- The values of a group's rows at their positions, as a row comes or goes.
+-- The values of a group's rows at their positions, as a row is added or removed.
 use Rattle.std.specs.Prelude.{◌≡◌, Bool, true, false, cond, List, [], ◌∷◌, map, Option, None, Some, refl}
 use Rattle.std.proofs.Common.{ap, sym, ◌∙◌}
 use Rattle.std.specs.declared.cmp.Ordering.{Ordering}
@@ -18,16 +18,16 @@ use Rattle.dv_change.specs.Inner.PositionLaws.{pos_order_total}
 use Rattle.dv_change.specs.Positions.{IsExact, PosTree, pos_order}
 use Rattle.dv_change.specs.Inner.RowLaws.{all-implied, past, positioned-tail, put-front}
 use Rattle.dv_gather.specs.Grouping.{Accumulation, values_over, with_present}
-use Rattle.dv_group.specs.declared.running.Motion.{Motion}
-use Rattle.dv_group.specs.declared.running.Motion.TheVariants.{Comes, Goes}
-use Rattle.dv_group.specs.Inner.Running.{Values, field_value, moved_by, pushed, pushed_over, repushed, values_in, with_first, with_pushed}
-use Rattle.dv_group.specs.Inner.RunningView.{values_seen}
+use Rattle.dv_group.specs.declared.accumulator_state.RowChange.{RowChange}
+use Rattle.dv_group.specs.declared.accumulator_state.RowChange.TheVariants.{Added, Removed}
+use Rattle.dv_group.specs.Inner.AccumulatorStates.{Values, field_value, state_after, array_state, pushed_over, repushed, values_in, with_first, with_pushed}
+use Rattle.dv_group.specs.Inner.StateView.{values_seen}
 
 module _ {V W : Type 0} (f : V → W) where
   abbrev pub each_seen : List (PosTree × V) → List (PosTree × W)
   each_seen es = map (λ e. (e.0, f e.1)) es
 
-  -- one comes, or goes, as it is seen
+  -- one is added, or removed, as it is seen
   pub seen-put : (p : PosTree) (v : V) (es : List (PosTree × V)) → each_seen (put p v es) ≡ put p (f v) (each_seen es)
   seen-put p v [] = refl
   seen-put p v (e ∷ es) = by (pos_order p e.0) (seen-put p v es)
@@ -45,7 +45,7 @@ module _ {V W : Type 0} (f : V → W) where
       by true rest = refl
       by false rest = ap (λ fs. (e.0, f e.1) ∷ fs) rest
 
--- a value comes among others, or goes
+-- a value is added among others, or removed
 pub values_put : (p : PosTree) (v : Value) (vs : List (PosTree × Value)) → values_seen (put p v vs) ≡ put p (tree v) (values_seen vs)
 values_put p v vs = seen-put tree p v vs
 
@@ -88,7 +88,7 @@ module _ (a : Accumulation) where
   gone-behind p q None vs h = refl
   gone-behind p q (Some w) vs h = ap (λ b. cond b vs ((q, w) ∷ gone p vs)) (sym h)
 
-  -- a row comes where none stands
+  -- a row is added where none stands
   pub pushed-put : (p : PosTree) (d : Row) (rows : Positioned) → IsPositioned rows → IsExact p → at p rows ≡ None → pushed_over a (put p d rows) ≡ with_pushed p (of d) (pushed_over a rows)
   pushed-put p d [] are x none = put-below p (of d) [] tt
   pushed-put p d (r ∷ rows) are x none = by (pos_order p r.0) refl (pushed-put p d rows (positioned-tail r rows are) x)
@@ -102,7 +102,7 @@ module _ (a : Accumulation) where
           let behind : at p rows ≡ None = ap (λ o. cond (is_eq o) (Some r.1) (at p rows)) (sym h) ∙ none in
           ap (with_first r.0 (of r.1)) (rest behind) ∙ put-behind p (of d) r.0 (of r.1) (pushed_over a rows) h
 
-  -- where no row stands, no value goes
+  -- where no row stands, no value is removed
   none-gone : (p : PosTree) (rows : Positioned) → at p rows ≡ None → gone p (pushed_over a rows) ≡ pushed_over a rows
   none-gone p [] none = refl
   none-gone p (r ∷ rows) none = by (is_eq (pos_order p r.0)) refl none (none-gone p rows)
@@ -111,7 +111,7 @@ module _ (a : Accumulation) where
       by true h none rest = cc
       by false h none rest = sym (gone-behind p r.0 (of r.1) (pushed_over a rows) h) ∙ ap (with_first r.0 (of r.1)) (rest none)
 
-  -- a row goes
+  -- a row is removed
   pub pushed-gone : (p : PosTree) (rows : Positioned) → IsPositioned rows → pushed_over a (gone p rows) ≡ gone p (pushed_over a rows)
   pushed-gone p [] are = refl
   pushed-gone p (r ∷ rows) are = by (is_eq (pos_order p r.0)) refl (pushed-gone p rows (positioned-tail r rows are))
@@ -129,7 +129,7 @@ module _ (a : Accumulation) where
   pushed-values [] = refl
   pushed-values (r ∷ rows) = values-first r.0 (of r.1) (pushed_over a rows) ∙ ap (with_present (of r.1)) (pushed-values rows)
 
--- what comes of the values moves as they do
-pub pushed-moved : (way : Motion) (a : Accumulation) (p : PosTree) (d : Row) (vs : Values) → moved_by way a p d (pushed vs) ≡ pushed (repushed way a p d vs)
-pushed-moved Comes a p d vs = refl
-pushed-moved Goes a p d vs = refl
+-- the state of the values changes as they do
+pub pushed-after : (change : RowChange) (a : Accumulation) (p : PosTree) (d : Row) (vs : Values) → state_after change a p d (array_state vs) ≡ array_state (repushed change a p d vs)
+pushed-after Added a p d vs = refl
+pushed-after Removed a p d vs = refl

@@ -27,10 +27,10 @@ use Rattle.dv_gather.specs.declared.accumulator.Accumulator.{Accumulator}
 use Rattle.dv_gather.specs.declared.accumulator.Accumulator.TheVariants.{Sum, Min, Max, Push}
 use Rattle.dv_gather.specs.Extremes.{extreme_from, is_null, extreme_stands_so}
 use Rattle.dv_gather.specs.Grouping.{Accumulation, accumulated, values_over, with_present}
-use Rattle.dv_gather.specs.Inner.Totals.{best, of_none}
-use Rattle.dv_group.specs.Inner.Running.{value_of_first, rank, ranked_over, field_value, with_ranked, without_ranked}
+use Rattle.dv_gather.specs.Inner.AccumulatorStates.{extreme_state, of_none}
+use Rattle.dv_group.specs.Inner.AccumulatorStates.{value_of_first, rank, ranked_over, field_value, with_ranked, without_ranked}
 
--- ---- a row that comes and goes
+-- ---- a row that is added and removed
 
 over : {A : Type 0} (b : Bool) (x y s : A) → (b ≡ true → s ≡ x) → cond b x (cond b y s) ≡ s
 over true x y s is = sym (is refl)
@@ -151,7 +151,7 @@ module _ (a : Accumulation) where
           ∙ ap (λ s. cond (is_eq (pos_order q p)) (cond (ranks_at part d) (Some d) s) s) (at-ranked part q rows are)
           ∙ comes (ranks_at part) (is_eq (pos_order q p)) d (at q rows) (same-there p d rows are exact None none q))
 
-  -- a row that stands at a position goes
+  -- a row that stands at a position is removed
   pub ranked-gone : (p : PosTree) (d : Row) (rows : Positioned) → IsPositioned rows → IsExact p → at p rows ≡ Some d → ranked_over a (gone p rows) ≡ without_ranked a.accumulator (field_value a d) p (ranked_over a rows)
   ranked-gone p d rows are exact some =
       let left : IsPositioned (gone p rows) = positioned-gone p rows are in
@@ -305,7 +305,7 @@ module _ (a : Accumulation) where
 -- ---- the least and the greatest
 
 -- an extreme is what ranks best, where it stands as ranks do
-extreme-best : (e : _) (accumulator : Accumulator) → of_none accumulator ≡ best e null → ((v w : Tree) → is_gt (part_order (rank accumulator v) (rank accumulator w)) ≡ extreme_stands_so e (order w v)) → (vs : List Tree) (b : Tree) → best_from accumulator b vs ≡ extreme_from e b vs
+extreme-best : (e : _) (accumulator : Accumulator) → of_none accumulator ≡ extreme_state e null → ((v w : Tree) → is_gt (part_order (rank accumulator v) (rank accumulator w)) ≡ extreme_stands_so e (order w v)) → (vs : List Tree) (b : Tree) → best_from accumulator b vs ≡ extreme_from e b vs
 extreme-best e accumulator of so [] b = refl
 extreme-best e accumulator of so (v ∷ vs) b = ap (λ s. best_from accumulator (cond (not (is_null v) && (is_null b || s)) v b) vs) (so b v) ∙ extreme-best e accumulator of so vs (cond (not (is_null v) && (is_null b || extreme_stands_so e (order v b))) v b)
 

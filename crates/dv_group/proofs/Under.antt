@@ -17,21 +17,21 @@ use Rattle.dv_change.specs.Inner.Ordered.{gone}
 use Rattle.dv_change.specs.Positions.{IsExact, PosTree}
 use Rattle.dv_change.specs.Inner.RowLaws.{positioned-none}
 use Rattle.dv_gather.specs.Grouping.{Grouping, row_shown}
-use Rattle.dv_group.specs.declared.bundle.Bundle.{Bundle}
-use Rattle.dv_group.specs.declared.kept.Kept.{Kept}
+use Rattle.dv_group.specs.declared.group_state.GroupState.{GroupState}
+use Rattle.dv_group.specs.declared.live_group.LiveGroup.{LiveGroup}
 use Rattle.dv_group.specs.Inner.Grouped.{beside}
-use Rattle.dv_group.specs.Inner.Room.{IsBundle}
-use Rattle.dv_group.specs.declared.shift.Shift.{Shift}
-use Rattle.dv_group.specs.declared.shift.Telling.{Telling}
-use Rattle.dv_group.specs.declared.shift.Telling.TheVariants.{Told, Untold}
-use Rattle.dv_group.specs.Inner.Members.{AreBundles, IsKept, IsRowOf, IsShift, IsTold, KeptGroups, are_one, group_members, is_key, moved, put_some, rows_in, set_at, shown_of, with_shown}
-use Rattle.dv_group.proofs.Bundled.{set-over}
+use Rattle.dv_group.specs.Inner.SumBounds.{IsGroupState}
+use Rattle.dv_group.specs.declared.transition.Transition.{Transition}
+use Rattle.dv_group.specs.declared.transition.RowsWanted.{RowsWanted}
+use Rattle.dv_group.specs.declared.transition.RowsWanted.TheVariants.{Unwanted, Wanted}
+use Rattle.dv_group.specs.Inner.Members.{AreLiveGroups, IsLiveGroup, IsRowIfMade, IsTransition, IsShownIfWanted, LiveGroups, are_one, group_members, is_key, moved, put_some, rows_in, set_at, shown_of, with_shown}
+use Rattle.dv_group.proofs.GroupStates.{set-over}
 
 -- under equal keys stands the same
-pub members-alike : (k l : KeyTree) → key_order k l ≡ Equal → (es : KeptGroups) → group_members k es ≡ group_members l es
+pub members-alike : (k l : KeyTree) → key_order k l ≡ Equal → (es : LiveGroups) → group_members k es ≡ group_members l es
 members-alike k l e es = ap rows_in (found es)
   where
-    found : (es : KeptGroups) → lookup (is_at (key_order k)) es ≡ lookup (is_at (key_order l)) es
+    found : (es : LiveGroups) → lookup (is_at (key_order k)) es ≡ lookup (is_at (key_order l)) es
     found [] = refl
     found (x ∷ es) = λ i. cond (beside k l x.0 e i) (Some x.1) (found es i)
 
@@ -40,9 +40,9 @@ pub none-first : {A : Type 0} (xs : List A) → slice_get xs 0 ≡ None → xs �
 none-first [] e = refl
 none-first (x ∷ xs) e = absurd cc
 
-module _ (es fs : KeptGroups) (key : KeyTree) where
+module _ (es fs : LiveGroups) (key : KeyTree) where
   -- one key's rows become others
-  pub changed-under : (change : Positioned → Positioned) (new : Option Kept) → rows_in new ≡ change (group_members key es) → ((k : KeyTree) → lookup (is_at (key_order k)) fs ≡ cond (is_at (key_order key) k) new (lookup (is_at (key_order k)) es))
+  pub changed-under : (change : Positioned → Positioned) (new : Option LiveGroup) → rows_in new ≡ change (group_members key es) → ((k : KeyTree) → lookup (is_at (key_order k)) fs ≡ cond (is_at (key_order key) k) new (lookup (is_at (key_order k)) es))
       → (k : KeyTree) → group_members k fs ≡ cond (is_eq (key_order k key)) (change (group_members k es)) (group_members k es)
   changed-under change new is written k = ap rows_in (written k ∙ ap (λ b. cond b new (lookup (is_at (key_order k)) es)) (equal-back key k)) ∙ by (is_eq (key_order k key)) refl
     where
@@ -55,7 +55,7 @@ cond-over true x y z = refl
 cond-over false x y z = refl
 
 -- what is written under a key twice stands as it was written last
-pub written-over : (es ms fs : KeptGroups) (key : KeyTree) (first last : Option Kept)
+pub written-over : (es ms fs : LiveGroups) (key : KeyTree) (first last : Option LiveGroup)
     → ((k : KeyTree) → lookup (is_at (key_order k)) ms ≡ cond (is_at (key_order key) k) first (lookup (is_at (key_order k)) es))
     → ((k : KeyTree) → lookup (is_at (key_order k)) fs ≡ cond (is_at (key_order key) k) last (lookup (is_at (key_order k)) ms))
     → (k : KeyTree) → lookup (is_at (key_order k)) fs ≡ cond (is_at (key_order key) k) last (lookup (is_at (key_order k)) es)
@@ -63,17 +63,17 @@ written-over es ms fs key first last before behind k =
     behind k ∙ ap (cond (is_at (key_order key) k) last) (before k) ∙ cond-over (is_at (key_order key) k) last first (lookup (is_at (key_order k)) es)
 
 -- what is written under a copy of a key stands under the key
-pub written-under : (es fs : KeptGroups) (key own : KeyTree) (new : Option Kept) → own ≡ key
+pub written-under : (es fs : LiveGroups) (key own : KeyTree) (new : Option LiveGroup) → own ≡ key
     → ((k : KeyTree) → lookup (is_at (key_order k)) fs ≡ cond (is_at (key_order own) k) new (lookup (is_at (key_order k)) es))
     → (k : KeyTree) → lookup (is_at (key_order k)) fs ≡ cond (is_at (key_order key) k) new (lookup (is_at (key_order k)) es)
 written-under es fs key own new same written k = written k ∙ ap (λ (l : KeyTree). cond (is_at (key_order l) k) new (lookup (is_at (key_order k)) es)) same
 
 -- what is written in the slot of a group stands under its key
-pub written-there : (m n : BTreeMap KeyTree Kept) (key : KeyTree) (old new : Kept) → Some old ≡ get key_order m key → WritesThrough key_order (key_order key) m new n
+pub written-there : (m n : BTreeMap KeyTree LiveGroup) (key : KeyTree) (old new : LiveGroup) → Some old ≡ get key_order m key → WritesThrough key_order (key_order key) m new n
     → (k : KeyTree) → lookup (is_at (key_order k)) n.entries ≡ cond (is_at (key_order key) k) (Some new) (lookup (is_at (key_order k)) m.entries)
 written-there m n key old new there writes = (writes.3 (rw (← there) refl)).0
 
-pub found-there : (m n : BTreeMap KeyTree Kept) (key : KeyTree) (old new : Kept) → Some old ≡ get key_order m key → WritesThrough key_order (key_order key) m new n → Some new ≡ get key_order n key
+pub found-there : (m n : BTreeMap KeyTree LiveGroup) (key : KeyTree) (old new : LiveGroup) → Some old ≡ get key_order m key → WritesThrough key_order (key_order key) m new n → Some new ≡ get key_order n key
 found-there m n key old new there writes = sym (writes.3 (rw (← there) refl)).1
 
 -- ---- two keys
@@ -85,7 +85,7 @@ one-key (Some a) None one k = cc
 one-key (Some a) (Some b) one k = equal-back k a ∙ beside a b k ((Equal-is (key_order a b)).0 one) ∙ equal-back b k
 
 -- the row of the group of a key comes once, where another key is equal
-pub shown-once : (g : Grouping) (es : KeptGroups) (key other : Option KeyTree) → are_one key other ≡ true → with_shown g (λ k. group_members k es) key [] ≡ shown_of g (λ k. group_members k es) key other
+pub shown-once : (g : Grouping) (es : LiveGroups) (key other : Option KeyTree) → are_one key other ≡ true → with_shown g (λ k. group_members k es) key [] ≡ shown_of g (λ k. group_members k es) key other
 shown-once g es None other one = cc
 shown-once g es (Some k) None one = cc
 shown-once g es (Some k) (Some l) one =
@@ -102,80 +102,80 @@ shown-once g es (Some k) (Some l) one =
 -- ---- sound groups
 
 module _ (g : Grouping) where
-  abbrev SoundEntry : KeyTree × Kept → Type 0
-  SoundEntry e = IsKept g e.1
+  abbrev SoundEntry : KeyTree × LiveGroup → Type 0
+  SoundEntry e = IsLiveGroup g e.1
 
   -- one whose row isn't made
-  pub kept-of : (b : Bundle) (kept : Kept) → kept.bundle ≡ b → kept.row ≡ None → IsBundle g.fields b → IsKept g kept
-  kept-of b kept is none sound = record {
-    bundle = subst (λ (x : Bundle). IsBundle g.fields x) (sym is) sound;
-    row = subst (IsRowOf g kept.bundle.members) (sym none) tt;
+  pub live-of : (b : GroupState) (live : LiveGroup) → live.state ≡ b → live.row ≡ None → IsGroupState g.fields b → IsLiveGroup g live
+  live-of b live is none sound = record {
+    state = subst (λ (x : GroupState). IsGroupState g.fields x) (sym is) sound;
+    row = subst (IsRowIfMade g live.state.members) (sym none) tt;
   }
 
   -- one whose row is made
-  row-of : (rows : Positioned) (row : Option Row) → row ≡ row_shown g (forget rows) → IsRowOf g rows row
-  row-of rows None is = tt
-  row-of rows (Some d) is = is
+  row-if-made : (rows : Positioned) (row : Option Row) → row ≡ row_shown g (forget rows) → IsRowIfMade g rows row
+  row-if-made rows None is = tt
+  row-if-made rows (Some d) is = is
 
-  told-row : (telling : Telling) (rows : Positioned) (row : Option Row) → IsTold telling g rows row → IsRowOf g rows row
-  told-row Untold rows row is = subst (IsRowOf g rows) (sym is) tt
-  told-row (Told lender) rows row is = row-of rows row is
+  shown-row : (wish : RowsWanted) (rows : Positioned) (row : Option Row) → IsShownIfWanted wish g rows row → IsRowIfMade g rows row
+  shown-row Unwanted rows row is = subst (IsRowIfMade g rows) (sym is) tt
+  shown-row (Wanted lender) rows row is = row-if-made rows row is
 
-  -- one whose row is what is told of it
-  pub kept-told : (telling : Telling) (before : Kept) (row : Option Row) → IsTold telling g before.bundle.members row → IsKept g before → IsKept g (record { bundle = before.bundle; row = row })
-  kept-told telling before row is sound = record { bundle = sound.bundle; row = told-row telling before.bundle.members row is }
+  -- one whose row is what is shown of it
+  pub live-shown : (wish : RowsWanted) (before : LiveGroup) (row : Option Row) → IsShownIfWanted wish g before.state.members row → IsLiveGroup g before → IsLiveGroup g (record { state = before.state; row = row })
+  live-shown wish before row is sound = record { state = sound.state; row = shown-row wish before.state.members row is }
 
-  -- ---- what is told
+  -- ---- what is shown
 
   -- of the same rows
-  pub told-alike : (telling : Telling) (was now rows more : Positioned) (shift : Shift) → was ≡ rows → now ≡ more → IsShift telling g was now shift → IsShift telling g rows more shift
-  told-alike telling was now rows more shift before after told =
-      (subst (λ (es : Positioned). IsTold telling g es shift.before) before told.0, subst (λ (es : Positioned). IsTold telling g es shift.after) after told.1)
+  pub shown-alike : (wish : RowsWanted) (was now rows more : Positioned) (transition : Transition) → was ≡ rows → now ≡ more → IsTransition wish g was now transition → IsTransition wish g rows more transition
+  shown-alike wish was now rows more transition before after shown =
+      (subst (λ (es : Positioned). IsShownIfWanted wish g es transition.before) before shown.0, subst (λ (es : Positioned). IsShownIfWanted wish g es transition.after) after shown.1)
 
-  with-entry : (k : KeyTree) (b : Kept) (es : KeptGroups) → IsKept g b → AreBundles g es → AreBundles g (insert_entry key_order es k b)
+  with-entry : (k : KeyTree) (b : LiveGroup) (es : LiveGroups) → IsLiveGroup g b → AreLiveGroups g es → AreLiveGroups g (insert_entry key_order es k b)
   with-entry k b [] sound all = (sound, tt)
   with-entry k b (e ∷ es) sound all = by (key_order k e.0) (with-entry k b es sound all.1)
     where
-      by : (r : Ordering) → AreBundles g (insert_entry key_order es k b) → AreBundles g (match_ordering r ((k, b) ∷ e ∷ es) ((e.0, b) ∷ es) (e ∷ insert_entry key_order es k b))
+      by : (r : Ordering) → AreLiveGroups g (insert_entry key_order es k b) → AreLiveGroups g (match_ordering r ((k, b) ∷ e ∷ es) ((e.0, b) ∷ es) (e ∷ insert_entry key_order es k b))
       by Less rest = (sound, all)
       by Equal rest = (sound, all.1)
       by Greater rest = (all.0, rest)
 
-  pub bundles-put : (k : KeyTree) (b : Kept) (es fs : KeptGroups) → fs ≡ insert_entry key_order es k b → IsKept g b → AreBundles g es → AreBundles g fs
-  bundles-put k b es fs is sound all = subst (AreBundles g) (sym is) (with-entry k b es sound all)
+  pub groups-put : (k : KeyTree) (b : LiveGroup) (es fs : LiveGroups) → fs ≡ insert_entry key_order es k b → IsLiveGroup g b → AreLiveGroups g es → AreLiveGroups g fs
+  groups-put k b es fs is sound all = subst (AreLiveGroups g) (sym is) (with-entry k b es sound all)
 
-  without-entry : (k : KeyTree) (es : KeptGroups) → AreBundles g es → AreBundles g (remove_entry (is_at (key_order k)) es)
+  without-entry : (k : KeyTree) (es : LiveGroups) → AreLiveGroups g es → AreLiveGroups g (remove_entry (is_at (key_order k)) es)
   without-entry k [] all = tt
   without-entry k (e ∷ es) all = by (is_eq (key_order k e.0)) (without-entry k es all.1)
     where
-      by : (b : Bool) → AreBundles g (remove_entry (is_at (key_order k)) es) → AreBundles g (cond b es (e ∷ remove_entry (is_at (key_order k)) es))
+      by : (b : Bool) → AreLiveGroups g (remove_entry (is_at (key_order k)) es) → AreLiveGroups g (cond b es (e ∷ remove_entry (is_at (key_order k)) es))
       by true rest = all.1
       by false rest = (all.0, rest)
 
-  pub bundles-left : (k : KeyTree) (es fs : KeptGroups) → fs ≡ remove_entry (is_at (key_order k)) es → AreBundles g es → AreBundles g fs
-  bundles-left k es fs is all = subst (AreBundles g) (sym is) (without-entry k es all)
+  pub groups-left : (k : KeyTree) (es fs : LiveGroups) → fs ≡ remove_entry (is_at (key_order k)) es → AreLiveGroups g es → AreLiveGroups g fs
+  groups-left k es fs is all = subst (AreLiveGroups g) (sym is) (without-entry k es all)
 
-  with-value : (test : KeyTree → Bool) (w : Kept) (es : KeptGroups) → IsKept g w → AreBundles g es → AreBundles g (set_value test es w)
+  with-value : (test : KeyTree → Bool) (w : LiveGroup) (es : LiveGroups) → IsLiveGroup g w → AreLiveGroups g es → AreLiveGroups g (set_value test es w)
   with-value test w [] sound all = tt
   with-value test w (e ∷ es) sound all = by (test e.0) (with-value test w es sound all.1)
     where
-      by : (b : Bool) → AreBundles g (set_value test es w) → AreBundles g (cond b ((e.0, w) ∷ es) (e ∷ set_value test es w))
+      by : (b : Bool) → AreLiveGroups g (set_value test es w) → AreLiveGroups g (cond b ((e.0, w) ∷ es) (e ∷ set_value test es w))
       by true rest = (sound, all.1)
       by false rest = (all.0, rest)
 
-  pub bundles-written : (key : KeyTree) (w : Kept) (es fs : KeptGroups) → fs ≡ set_value (is_at (key_order key)) es w → IsKept g w → AreBundles g es → AreBundles g fs
-  bundles-written key w es fs is sound all = subst (AreBundles g) (sym is) (with-value (is_at (key_order key)) w es sound all)
+  pub groups-written : (key : KeyTree) (w : LiveGroup) (es fs : LiveGroups) → fs ≡ set_value (is_at (key_order key)) es w → IsLiveGroup g w → AreLiveGroups g es → AreLiveGroups g fs
+  groups-written key w es fs is sound all = subst (AreLiveGroups g) (sym is) (with-value (is_at (key_order key)) w es sound all)
 
-  members-positioned : (k : KeyTree) (es : KeptGroups) → AreBundles g es → IsPositioned (group_members k es)
+  members-positioned : (k : KeyTree) (es : LiveGroups) → AreLiveGroups g es → IsPositioned (group_members k es)
   members-positioned k [] all = positioned-none
   members-positioned k (e ∷ es) all = by (is_eq (key_order k e.0)) (members-positioned k es all.1)
     where
       by : (b : Bool) → IsPositioned (group_members k es) → IsPositioned (rows_in (cond b (Some e.1) (lookup (is_at (key_order k)) es)))
-      by true rest = all.0.bundle.positioned
+      by true rest = all.0.state.positioned
       by false rest = rest
 
-  -- what is set in a group takes the place of what goes
-  pub stays-one : (pos : PosTree) (key other : Option KeyTree) (new : Option Row) → are_one key other ≡ true → (es : KeptGroups) → IsExact pos → AreBundles g es → (k : KeyTree)
+  -- what is set in a group takes the place of what is removed
+  pub stays-one : (pos : PosTree) (key other : Option KeyTree) (new : Option Row) → are_one key other ≡ true → (es : LiveGroups) → IsExact pos → AreLiveGroups g es → (k : KeyTree)
       → cond (is_key k key) (set_at pos new (group_members k es)) (group_members k es) ≡ moved pos key other new k (group_members k es)
   stays-one pos key other new one es exact all k =
       by (is_key k key) ∙ ap (λ b. cond b (set_at pos new (cond (is_key k key) (gone pos rows) rows)) (cond (is_key k key) (gone pos rows) rows)) (one-key key other one k)
@@ -187,10 +187,10 @@ module _ (g : Grouping) where
       by true = sym (set-over pos new rows (members-positioned k es all) exact)
       by false = refl
 
-  pub bundle-there : (k : KeyTree) (b : Kept) (es : KeptGroups) → lookup (is_at (key_order k)) es ≡ Some b → AreBundles g es → IsKept g b
-  bundle-there k b [] there all = cc
-  bundle-there k b (e ∷ es) there all = by (is_eq (key_order k e.0)) there (λ there. bundle-there k b es there all.1)
+  pub group-there : (k : KeyTree) (b : LiveGroup) (es : LiveGroups) → lookup (is_at (key_order k)) es ≡ Some b → AreLiveGroups g es → IsLiveGroup g b
+  group-there k b [] there all = cc
+  group-there k b (e ∷ es) there all = by (is_eq (key_order k e.0)) there (λ there. group-there k b es there all.1)
     where
-      by : (c : Bool) → cond c (Some e.1) (lookup (is_at (key_order k)) es) ≡ Some b → (lookup (is_at (key_order k)) es ≡ Some b → IsKept g b) → IsKept g b
-      by true there rest = let same : e.1 ≡ b = cc in subst (λ (c : Kept). IsKept g c) same all.0
+      by : (c : Bool) → cond c (Some e.1) (lookup (is_at (key_order k)) es) ≡ Some b → (lookup (is_at (key_order k)) es ≡ Some b → IsLiveGroup g b) → IsLiveGroup g b
+      by true there rest = let same : e.1 ≡ b = cc in subst (λ (c : LiveGroup). IsLiveGroup g c) same all.0
       by false there rest = rest there

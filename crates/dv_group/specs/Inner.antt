@@ -3,6 +3,6 @@ pub mod Members
 pub mod Held
 pub mod Turned
 pub mod Grouped
-pub mod Running
-pub mod RunningView
-pub mod Room
+pub mod AccumulatorStates
+pub mod StateView
+pub mod SumBounds

@@ -10,11 +10,11 @@ ghost use Rattle.dv_gather.specs.Grouping.{row_shown};
 ghost use Rattle.dv_group.specs.Inner.Grouped.{group_empty, group_even, group_ordered};
 ghost use Rattle.dv_group.specs.Inner.Held.{HoldsGroups};
 ghost use Rattle.dv_group.specs.Inner.Members as defined;
-ghost use Rattle.dv_group.specs.Inner.Members.{AreBundles, AreGroupRows, FollowTaken, changes_shown, group_members};
+ghost use Rattle.dv_group.specs.Inner.Members.{AreLiveGroups, AreGroupRows, FollowTaken, changes_shown, group_members};
 ghost use Rattle.dv_group.specs.Placed.{grouped_at};
 
 use crate::groups::{Groups, follow, follow_all};
-use crate::shift::{Shifts, Telling, with_row};
+use crate::transition::{RowsWanted, Transitions, with_row};
 use dv_change::{Input, Operator, Ordered, Taken, Ticks, hand_over};
 use dv_gather::Group;
 use dv_order::Key;
@@ -23,8 +23,8 @@ use std::alloc::Global;
 use std::collections::BTreeMap;
 
 /// The groups of rows, each a row at its key, kept by changes that tell what stood at their positions. Looks only at the groups of
-/// the changed row, and of these at the row that comes or goes, the first one and the one with the least or greatest value; with a
-/// `$push`, it copies the array that it returns.
+/// the changed row, and of these at the row that is added or removed, the first one and the one with the least or greatest value;
+/// with a `$push`, it copies the array that it returns.
 #[derive(Drop)]
 pub struct GroupOperator {
     alloc: Global,
@@ -38,7 +38,7 @@ impl GroupOperator {
     /// The stage, which has taken in nothing. Fails with `NoMemory` when memory runs out.
     pub fn new(alloc: Global, group: &Group) -> Result<Self, NoMemory>
         ensures group { IfOk result (λ o. o.group ≡ group.now) }
-        ensures sound { IfOk result (λ o. AreBundles o.group o.groups.entries) }
+        ensures sound { IfOk result (λ o. AreLiveGroups o.group o.groups.entries) }
         ensures holds { IfOk result (λ o. HoldsGroups o [] []) }
     {
         Ok(GroupOperator {
@@ -56,46 +56,46 @@ impl GroupOperator {
         ticks: &mut Ticks,
         out: &mut Vec<Taken>,
     ) -> Result<(), NoMemory>
-        requires { AreBundles self.old.group self.old.groups.entries }
+        requires { AreLiveGroups self.old.group self.old.groups.entries }
         ensures group { OnOk result (self.new.group ≡ self.old.group) }
         ensures groups { OnOk result (FollowTaken self.old.group taken self.old.groups.entries self.new.groups.entries) }
-        ensures sound { OnOk result (AreBundles self.new.group self.new.groups.entries) }
+        ensures sound { OnOk result (AreLiveGroups self.new.group self.new.groups.entries) }
         ensures out { OnOk result (out.new.items ≡ out.old.items ++ changes_shown self.old.group self.old.groups.entries self.new.groups.entries taken) }
         ensures ticks { OnOk result (ticks.new ≡ raised ticks.old (1 + length (changes_shown self.old.group self.old.groups.entries self.new.groups.entries taken))) }
         ensures begins { OnErr result (BeginsWith out.new.items out.old.items) }
         ensures no_fewer { OnErr result (ticks.old ≤ ticks.new) }
     {
-        let shifts = follow(
+        let transitions = follow(
             self.alloc,
             &self.group,
             &mut self.groups,
             taken,
-            Telling::Told(self.last.as_ref()),
+            RowsWanted::Wanted(self.last.as_ref()),
         )?;
-        self.tell(&shifts, ticks, out)
+        self.tell(&transitions, ticks, out)
     }
 
     /// Tells what leads from the rows before to those after.
     fn tell(
         &mut self,
-        shifts: &Shifts,
+        transitions: &Transitions,
         ticks: &mut Ticks,
         out: &mut Vec<Taken>,
     ) -> Result<(), NoMemory>
         ensures group { self.new.group ≡ self.old.group }
         ensures groups { self.new.groups.entries ≡ self.old.groups.entries }
-        ensures out { OnOk result (out.new.items ≡ out.old.items ++ diff_told shifts.now.before shifts.now.after) }
-        ensures ticks { OnOk result (ticks.new ≡ raised ticks.old (1 + length (diff_told shifts.now.before shifts.now.after))) }
+        ensures out { OnOk result (out.new.items ≡ out.old.items ++ diff_told transitions.now.before transitions.now.after) }
+        ensures ticks { OnOk result (ticks.new ≡ raised ticks.old (1 + length (diff_told transitions.now.before transitions.now.after))) }
         ensures begins { OnErr result (BeginsWith out.new.items out.old.items) }
         ensures no_fewer { OnErr result (ticks.old ≤ ticks.new) }
     {
-        self.keep_last(shifts.after())?;
-        hand_over(shifts.before(), shifts.after(), ticks, out)
+        self.keep_last(transitions.after())?;
+        hand_over(transitions.before(), transitions.after(), ticks, out)
     }
 
     /// The rows of all groups.
     fn all_shown(&self) -> Result<Ordered<Document>, NoMemory>
-        requires { AreBundles self.now.group self.now.groups.entries }
+        requires { AreLiveGroups self.now.group self.now.groups.entries }
         ensures positioned { IfOk result (λ rows. IsPositioned rows) }
         ensures rows { IfOk result (λ rows. AreGroupRows self.now.group self.now.groups.entries rows) }
     {
@@ -109,7 +109,7 @@ impl GroupOperator {
 
     /// The rows, with that of the group of the key.
     fn with_group(&self, rows: Ordered<Document>, key: &Key) -> Result<Ordered<Document>, NoMemory>
-        requires { AreBundles self.now.group self.now.groups.entries }
+        requires { AreLiveGroups self.now.group self.now.groups.entries }
         ensures { IfOk result (λ more. more ≡ defined.with_shown self.now.group (λ k. group_members k self.now.groups.entries) (Some key.now) rows) }
     {
         let row = self.row_of(key, self.lender(&rows))?;
@@ -118,11 +118,11 @@ impl GroupOperator {
 
     /// The row of the group of the key, where it has rows. A row before it lends its names.
     fn row_of(&self, key: &Key, before: Option<&Document>) -> Result<Option<Document>, NoMemory>
-        requires { AreBundles self.now.group self.now.groups.entries }
+        requires { AreLiveGroups self.now.group self.now.groups.entries }
         ensures { IfOk result (λ row. row ≡ row_shown self.now.group (forget (group_members key.now self.now.groups.entries))) }
     {
         match self.groups.get(key) {
-            Some(kept) => kept.shown(self.alloc, &self.group, before),
+            Some(live) => live.shown(self.alloc, &self.group, before),
             None => Ok(None),
         }
     }
@@ -150,7 +150,7 @@ impl GroupOperator {
 impl Operator for GroupOperator {
     ghost makes = { λ o others rows. grouped_at o.group rows };
 
-    ghost sound = { λ o. AreBundles o.group o.groups.entries };
+    ghost sound = { λ o. AreLiveGroups o.group o.groups.entries };
 
     ghost holds = { HoldsGroups };
 

@@ -12,7 +12,7 @@ use dv_value::NoMemory;
 use std::alloc::Global;
 
 /// The groups of rows, each a row at its key, kept by changes. Looks only at the groups of the changed row, and of these at the row
-/// that comes or goes, the first one and the one with the least or greatest value; with a `$push`, it copies the array that it
+/// that is added or removed, the first one and the one with the least or greatest value; with a `$push`, it copies the array that it
 /// returns.
 #[derive(Drop)]
 pub struct GroupTurn {

@@ -3,11 +3,11 @@
 ghost use Rattle.std.specs.Prelude.{◌≡◌, [], IfOk, OnOk, Some};
 ghost use Rattle.dv_order.specs.Key.{KeyTree};
 ghost use Rattle.dv_group.specs.Inner.Members as defined;
-ghost use Rattle.dv_group.specs.Inner.Members.{AreBundles, AreShiftsOfKeys, AreShiftsOfTaken, FollowTaken, IsShiftOfKey, SetInGroup, group_members, moved, moved_all, own_key};
+ghost use Rattle.dv_group.specs.Inner.Members.{AreLiveGroups, AreTransitionsOfKeys, AreTransitionsOfTaken, FollowTaken, IsTransitionOfKey, SetInGroup, group_members, moved, moved_all, own_key};
 
-use crate::bundle::Bundle;
-use crate::kept::Kept;
-use crate::shift::{Shift, Shifts, Telling};
+use crate::group_state::GroupState;
+use crate::live_group::LiveGroup;
+use crate::transition::{RowsWanted, Transition, Transitions};
 use dv_change::{Pos, Taken};
 use dv_gather::Group;
 use dv_order::{Key, key_of};
@@ -16,44 +16,44 @@ use std::alloc::Global;
 use std::collections::BTreeMap;
 
 /// The groups, by their keys.
-pub(crate) type Groups = BTreeMap<Key, Kept>;
+pub(crate) type Groups = BTreeMap<Key, LiveGroup>;
 
-/// Takes in changes of rows, one after the other, of which nothing is told. Fails where memory is wanting.
+/// Takes in changes of rows, one after the other, where no rows of groups are wanted. Fails where memory is wanting.
 pub(crate) fn follow_all(
     alloc: Global,
     group: &Group,
     groups: &mut Groups,
     all: Vec<Taken>,
 ) -> Result<(), NoMemory>
-    requires { AreBundles group.now groups.old.entries }
+    requires { AreLiveGroups group.now groups.old.entries }
     ensures rows { OnOk result ((k : KeyTree) → group_members k groups.new.entries ≡ moved_all group.now k (group_members k groups.old.entries) all.items) }
-    ensures sound { OnOk result (AreBundles group.now groups.new.entries) }
+    ensures sound { OnOk result (AreLiveGroups group.now groups.new.entries) }
 {
     'all: for taken in all {
-        follow(alloc, group, groups, taken, Telling::Untold)?;
+        follow(alloc, group, groups, taken, RowsWanted::Unwanted)?;
     }
     Ok(())
 }
 
-/// Takes in a change of a row: the one that stood at its position goes from the group of its key, and the one that stands there now
-/// comes into that of its own. Gives the rows of these groups before it and after it, where they are told. Fails where memory is
-/// wanting.
+/// Takes in a change of a row: the one that stood at its position is removed from the group of its key, and the one that stands
+/// there now is added to that of its own. Gives the rows of these groups before it and after it, where they are wanted. Fails where
+/// memory is wanting.
 pub(crate) fn follow(
     alloc: Global,
     group: &Group,
     groups: &mut Groups,
     taken: Taken,
-    telling: Telling<'_>,
-) -> Result<Shifts, NoMemory>
-    requires { AreBundles group.now groups.old.entries }
+    wish: RowsWanted<'_>,
+) -> Result<Transitions, NoMemory>
+    requires { AreLiveGroups group.now groups.old.entries }
     ensures rows { OnOk result (FollowTaken group.now taken groups.old.entries groups.new.entries) }
-    ensures sound { OnOk result (AreBundles group.now groups.new.entries) }
-    ensures told { IfOk result (λ shifts. AreShiftsOfTaken telling.entry group.now groups.old.entries groups.new.entries taken shifts) }
+    ensures sound { OnOk result (AreLiveGroups group.now groups.new.entries) }
+    ensures shown { IfOk result (λ all. AreTransitionsOfTaken wish.entry group.now groups.old.entries groups.new.entries taken all) }
 {
     let Taken { pos, old, new } = taken;
     let key = key_of_row(alloc, group, &old)?;
     let other = key_of_row(alloc, group, &new)?;
-    move_row(alloc, group, groups, pos, &key, &other, new, telling)
+    move_row(alloc, group, groups, pos, &key, &other, new, wish)
 }
 
 /// The key of the row, where there is one. Fails where memory is wanting.
@@ -69,9 +69,8 @@ fn key_of_row(alloc: Global, group: &Group, row: &Option<Document>) -> Result<Op
     }
 }
 
-/// Takes what stands at the position out of the group of the one key, and puts the row there into that of the other one, where
-/// there are keys and a row. Gives the rows of these groups before it and after it, where they are told. Fails where memory is
-/// wanting.
+/// Removes what stands at the position from the group of the one key, and adds the row there to that of the other one, where there
+/// are keys and a row. Gives the rows of these groups before it and after it, where they are wanted. Fails where memory is wanting.
 fn move_row(
     alloc: Global,
     group: &Group,
@@ -80,23 +79,23 @@ fn move_row(
     key: &Option<Key>,
     other: &Option<Key>,
     new: Option<Document>,
-    telling: Telling<'_>,
-) -> Result<Shifts, NoMemory>
-    requires { AreBundles group.now groups.old.entries }
+    wish: RowsWanted<'_>,
+) -> Result<Transitions, NoMemory>
+    requires { AreLiveGroups group.now groups.old.entries }
     ensures rows { OnOk result ((k : KeyTree) → group_members k groups.new.entries ≡ moved pos key.now other.now new k (group_members k groups.old.entries)) }
-    ensures sound { OnOk result (AreBundles group.now groups.new.entries) }
-    ensures told { IfOk result (λ shifts. AreShiftsOfKeys telling.entry group.now groups.old.entries groups.new.entries key.now other.now shifts) }
+    ensures sound { OnOk result (AreLiveGroups group.now groups.new.entries) }
+    ensures shown { IfOk result (λ all. AreTransitionsOfKeys wish.entry group.now groups.old.entries groups.new.entries key.now other.now all) }
 {
     pos.law_exact();
-    let empty = Shifts::none(alloc);
+    let empty = Transitions::none(alloc);
     if are_one(key, other) {
-        let shift = set_in(alloc, group, groups, key, pos, new, telling)?;
-        let one = empty.with(alloc, key, shift)?;
+        let transition = set_in(alloc, group, groups, key, pos, new, wish)?;
+        let one = empty.with(alloc, key, transition)?;
         return Ok(one);
     }
     let place = pos.try_clone()?;
-    let left = set_in(alloc, group, groups, key, place, None, telling)?;
-    let come = set_in(alloc, group, groups, other, pos, new, telling)?;
+    let left = set_in(alloc, group, groups, key, place, None, wish)?;
+    let come = set_in(alloc, group, groups, other, pos, new, wish)?;
     let first = empty.with(alloc, key, left)?;
     let both = first.with(alloc, other, come)?;
     Ok(both)
@@ -110,23 +109,23 @@ fn set_in(
     key: &Option<Key>,
     pos: Pos,
     row: Option<Document>,
-    telling: Telling<'_>,
-) -> Result<Shift, NoMemory>
-    requires { AreBundles group.now groups.old.entries }
+    wish: RowsWanted<'_>,
+) -> Result<Transition, NoMemory>
+    requires { AreLiveGroups group.now groups.old.entries }
     ensures rows { OnOk result (SetInGroup key.now pos row groups.old.entries groups.new.entries) }
-    ensures sound { OnOk result (AreBundles group.now groups.new.entries) }
-    ensures told { IfOk result (λ shift. IsShiftOfKey telling.entry group.now groups.old.entries groups.new.entries key.now shift) }
+    ensures sound { OnOk result (AreLiveGroups group.now groups.new.entries) }
+    ensures shown { IfOk result (λ transition. IsTransitionOfKey wish.entry group.now groups.old.entries groups.new.entries key.now transition) }
 {
     match key {
-        Some(key) => set_under(alloc, group, groups, key, pos, row, telling),
-        None => Ok(Shift {
+        Some(key) => set_under(alloc, group, groups, key, pos, row, wish),
+        None => Ok(Transition {
             before: None,
             after: None,
         }),
     }
 }
 
-/// Sets what stands at the position in the group of the key. A group without rows goes.
+/// Sets what stands at the position in the group of the key. A group without rows is removed.
 fn set_under(
     alloc: Global,
     group: &Group,
@@ -134,22 +133,22 @@ fn set_under(
     key: &Key,
     pos: Pos,
     row: Option<Document>,
-    telling: Telling<'_>,
-) -> Result<Shift, NoMemory>
-    requires { AreBundles group.now groups.old.entries }
+    wish: RowsWanted<'_>,
+) -> Result<Transition, NoMemory>
+    requires { AreLiveGroups group.now groups.old.entries }
     ensures rows { OnOk result (SetInGroup (Some key.now) pos row groups.old.entries groups.new.entries) }
-    ensures sound { OnOk result (AreBundles group.now groups.new.entries) }
-    ensures told { IfOk result (λ shift. IsShiftOfKey telling.entry group.now groups.old.entries groups.new.entries (Some key.now) shift) }
+    ensures sound { OnOk result (AreLiveGroups group.now groups.new.entries) }
+    ensures shown { IfOk result (λ transition. IsTransitionOfKey wish.entry group.now groups.old.entries groups.new.entries (Some key.now) transition) }
 {
-    let Some(kept) = groups.get_mut(key) else {
-        return set_first(alloc, group, groups, key, pos, row, telling);
+    let Some(live) = groups.get_mut(key) else {
+        return set_first(alloc, group, groups, key, pos, row, wish);
     };
-    let shift = kept.set(alloc, group, pos, row, telling)?;
-    if kept.is_empty() {
+    let transition = live.set(alloc, group, pos, row, wish)?;
+    if live.is_empty() {
         drop(groups.remove(key));
-        return Ok(shift);
+        return Ok(transition);
     }
-    Ok(shift)
+    Ok(transition)
 }
 
 /// Sets what stands at the position in a new group of the key, which has none.
@@ -160,19 +159,19 @@ fn set_first(
     key: &Key,
     pos: Pos,
     row: Option<Document>,
-    telling: Telling<'_>,
-) -> Result<Shift, NoMemory>
-    requires sound { AreBundles group.now groups.old.entries }
+    wish: RowsWanted<'_>,
+) -> Result<Transition, NoMemory>
+    requires sound { AreLiveGroups group.now groups.old.entries }
     requires none { group_members key.now groups.old.entries ≡ [] }
     ensures rows { OnOk result (SetInGroup (Some key.now) pos row groups.old.entries groups.new.entries) }
-    ensures sound { OnOk result (AreBundles group.now groups.new.entries) }
-    ensures told { IfOk result (λ shift. IsShiftOfKey telling.entry group.now groups.old.entries groups.new.entries (Some key.now) shift) }
+    ensures sound { OnOk result (AreLiveGroups group.now groups.new.entries) }
+    ensures shown { IfOk result (λ transition. IsTransitionOfKey wish.entry group.now groups.old.entries groups.new.entries (Some key.now) transition) }
 {
-    let bundle = Bundle::new(alloc, group)?;
-    let mut kept = Kept::of(bundle);
-    let shift = kept.set(alloc, group, pos, row, telling)?;
-    groups.insert(key.try_clone()?, kept)?;
-    Ok(shift)
+    let state = GroupState::new(alloc, group)?;
+    let mut live = LiveGroup::of(state);
+    let transition = live.set(alloc, group, pos, row, wish)?;
+    groups.insert(key.try_clone()?, live)?;
+    Ok(transition)
 }
 
 /// Whether there are two keys, and they are equal.

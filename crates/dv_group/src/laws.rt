@@ -13,8 +13,8 @@ pub fn grouped_rows_are_the_rows_of_groups()
     ensures { (group : Grouping) (rows : Positioned) → forget (grouped_at group rows) ≡ grouped group (forget rows) }
 {}
 
-/// Of the rows of groups, a change of a row changes two at most: that of the group that it leaves, and that of the one to which it
-/// comes.
+/// Of the rows of groups, a change of a row changes two at most: that of the group from which it is removed, and that of the one to
+/// which it is added.
 #[tactic(auto, using(crate::proofs::Lawful::lawful))]
 pub fn a_group_hands_on_two_changes()
     ensures { (group : Grouping) → ChangesAtMost 2 (grouped_at group) }

@@ -1,15 +1,15 @@
 //! The operator for `$group`.
 #![tactic(auto)]
 
-mod bundle;
+mod accumulator_state;
 mod group_operator;
+mod group_state;
 mod group_turn;
 mod groups;
-mod kept;
 pub mod laws;
-mod running;
-mod shift;
-mod summing;
+mod live_group;
+mod sum_state;
+mod transition;
 
 pub use group_operator::GroupOperator;
 pub use group_turn::GroupTurn;

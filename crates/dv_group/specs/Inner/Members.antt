@@ -16,12 +16,12 @@ use Rattle.dv_change.specs.Inner.Ordered.{gone, put}
 use Rattle.dv_change.specs.Inner.Told.{diff_told}
 use Rattle.dv_change.specs.Positions.{PosTree}
 use Rattle.dv_gather.specs.Grouping.{Grouping, key_in, row_shown}
-use Rattle.dv_group.specs.declared.kept.Kept.{Kept}
-use Rattle.dv_group.specs.declared.shift.Shift.{Shift}
-use Rattle.dv_group.specs.declared.shift.Shifts.{Shifts}
-use Rattle.dv_group.specs.declared.shift.Telling.{Telling}
-use Rattle.dv_group.specs.declared.shift.Telling.TheVariants.{Told, Untold}
-use Rattle.dv_group.specs.Inner.Room.{IsBundle}
+use Rattle.dv_group.specs.declared.live_group.LiveGroup.{LiveGroup}
+use Rattle.dv_group.specs.declared.transition.Transition.{Transition}
+use Rattle.dv_group.specs.declared.transition.Transitions.{Transitions}
+use Rattle.dv_group.specs.declared.transition.RowsWanted.{RowsWanted}
+use Rattle.dv_group.specs.declared.transition.RowsWanted.TheVariants.{Unwanted, Wanted}
+use Rattle.dv_group.specs.Inner.SumBounds.{IsGroupState}
 use Rattle.dv_group.specs.Placed.{grouped_at}
 
 -- the key of a row
@@ -37,31 +37,31 @@ abbrev pub rows_with : Grouping → KeyTree → Positioned → Positioned
 rows_with g k rows = filter (λ e. row_has_key g k e.1) rows
 
 -- groups under keys
-abbrev pub KeptGroups : Type 0
-KeptGroups = List (KeyTree × Kept)
+abbrev pub LiveGroups : Type 0
+LiveGroups = List (KeyTree × LiveGroup)
 
 -- the rows of a group, where there is one
-abbrev pub rows_in : Option Kept → Positioned
+abbrev pub rows_in : Option LiveGroup → Positioned
 rows_in None = []
-rows_in (Some kept) = kept.bundle.members
+rows_in (Some live) = live.state.members
 
 -- the rows under a key
-abbrev pub group_members : KeyTree → KeptGroups → Positioned
+abbrev pub group_members : KeyTree → LiveGroups → Positioned
 group_members k es = rows_in (lookup (is_at (key_order k)) es)
 
--- a row that is made is that of these rows
-abbrev pub IsRowOf : Grouping → Positioned → Option Row → Type 0
-IsRowOf g rows None = ⊤
-IsRowOf g rows (Some row) = Some row ≡ row_shown g (forget rows)
+-- a row that was made is that of these rows
+abbrev pub IsRowIfMade : Grouping → Positioned → Option Row → Type 0
+IsRowIfMade g rows None = ⊤
+IsRowIfMade g rows (Some row) = Some row ≡ row_shown g (forget rows)
 
 -- a group is sound, and so is its row
-pub record IsKept (g : Grouping) (kept : Kept) : Type 0 where
-  pub bundle : IsBundle g.fields kept.bundle
-  pub row : IsRowOf g kept.bundle.members kept.row
+pub record IsLiveGroup (g : Grouping) (live : LiveGroup) : Type 0 where
+  pub state : IsGroupState g.fields live.state
+  pub row : IsRowIfMade g live.state.members live.row
 
 -- each group is sound
-abbrev pub AreBundles : Grouping → KeptGroups → Type 0
-AreBundles g es = AllByRecursion (λ e. IsKept g e.1) es
+abbrev pub AreLiveGroups : Grouping → LiveGroups → Type 0
+AreLiveGroups g es = AllByRecursion (λ e. IsLiveGroup g e.1) es
 
 -- under each key stand the rows that have it
 abbrev pub AreMembers : Grouping → (KeyTree → Positioned) → Positioned → Type 0
@@ -96,7 +96,7 @@ with_shown g under (Some k) rows = put_some (Up k ∷ []) (row_shown g (forget (
 abbrev pub shown_of : Grouping → (KeyTree → Positioned) → Option KeyTree → Option KeyTree → Positioned
 shown_of g under key other = with_shown g under other (with_shown g under key [])
 
--- what stands under k, where a row goes from a position under one key, and one comes to it under another
+-- what stands under k, where a row is removed from a position under one key, and one is added at it under another
 abbrev pub moved : PosTree → Option KeyTree → Option KeyTree → Option Row → KeyTree → Positioned → Positioned
 moved pos key other new k rows = cond (is_key k other) (set_at pos new (cond (is_key k key) (gone pos rows) rows)) (cond (is_key k key) (gone pos rows) rows)
 
@@ -112,57 +112,57 @@ abbrev pub moved_all : Grouping → KeyTree → Positioned → List Taken → Po
 moved_all g k rows all = fold (moved_as g k) rows all
 
 -- the rows of the groups of which a change that is told takes a row, or gives one to
-abbrev pub shown_as : Grouping → KeptGroups → Taken → Positioned
+abbrev pub shown_as : Grouping → LiveGroups → Taken → Positioned
 shown_as g es taken = shown_of g (λ k. group_members k es) (own_key g taken.old) (own_key g taken.new)
 
 -- the changes that are told of them, from groups to those that came of them
-abbrev pub changes_shown : Grouping → KeptGroups → KeptGroups → Taken → List Taken
+abbrev pub changes_shown : Grouping → LiveGroups → LiveGroups → Taken → List Taken
 changes_shown g old new taken = diff_told (shown_as g old taken) (shown_as g new taken)
 
 -- groups after a change that is told
-abbrev pub FollowTaken : Grouping → Taken → KeptGroups → KeptGroups → Type 0
+abbrev pub FollowTaken : Grouping → Taken → LiveGroups → LiveGroups → Type 0
 FollowTaken g taken old new = (k : KeyTree) → group_members k new ≡ moved_as g k (group_members k old) taken
 
 -- groups after the row at a position of the group of a key, where there is one, became this one, or none
-abbrev pub SetInGroup : Option KeyTree → PosTree → Option Row → KeptGroups → KeptGroups → Type 0
+abbrev pub SetInGroup : Option KeyTree → PosTree → Option Row → LiveGroups → LiveGroups → Type 0
 SetInGroup key pos row old new = (k : KeyTree) → group_members k new ≡ cond (is_key k key) (set_at pos row (group_members k old)) (group_members k old)
 
 -- whatever rows the groups are of, these are the rows of the groups
-abbrev pub AreGroupRows : Grouping → KeptGroups → Positioned → Type 0
+abbrev pub AreGroupRows : Grouping → LiveGroups → Positioned → Type 0
 AreGroupRows g es rows = (left : Positioned) → IsPositioned left → AreMembers g (λ k. group_members k es) left → rows ≡ grouped_at g left
 
 -- ---- the rows of groups before a change and after it
 
--- the row of a group of these rows, where it is told
-abbrev pub IsTold : Telling → Grouping → Positioned → Option Row → Type 0
-IsTold Untold g rows row = row ≡ None
-IsTold (Told lender) g rows row = row ≡ row_shown g (forget rows)
+-- the row of a group of these rows, where it is wanted
+abbrev pub IsShownIfWanted : RowsWanted → Grouping → Positioned → Option Row → Type 0
+IsShownIfWanted Unwanted g rows row = row ≡ None
+IsShownIfWanted (Wanted lender) g rows row = row ≡ row_shown g (forget rows)
 
 -- the rows of a group before a change of its rows, and after it
-abbrev pub IsShift : Telling → Grouping → Positioned → Positioned → Shift → Type 0
-IsShift telling g was now shift = IsTold telling g was shift.before × IsTold telling g now shift.after
+abbrev pub IsTransition : RowsWanted → Grouping → Positioned → Positioned → Transition → Type 0
+IsTransition wish g was now transition = IsShownIfWanted wish g was transition.before × IsShownIfWanted wish g now transition.after
 
 -- the same of the group of a key, where there is a key
-abbrev pub IsShiftAt : Telling → Grouping → (KeyTree → Positioned) → (KeyTree → Positioned) → Option KeyTree → Shift → Type 0
-IsShiftAt telling g was now None shift = ⊤
-IsShiftAt telling g was now (Some k) shift = IsShift telling g (was k) (now k) shift
+abbrev pub IsTransitionAt : RowsWanted → Grouping → (KeyTree → Positioned) → (KeyTree → Positioned) → Option KeyTree → Transition → Type 0
+IsTransitionAt wish g was now None transition = ⊤
+IsTransitionAt wish g was now (Some k) transition = IsTransition wish g (was k) (now k) transition
 
 -- rows with the one of a key, where there are both
 abbrev pub with_row : Option KeyTree → Option Row → Positioned → Positioned
 with_row None row rows = rows
 with_row (Some k) row rows = put_some (Up k ∷ []) row rows
 
--- the rows of the groups of two keys before a change and after it, where they are told
-abbrev pub AreShifts : Telling → Grouping → (KeyTree → Positioned) → (KeyTree → Positioned) → Option KeyTree → Option KeyTree → Shifts → Type 0
-AreShifts Untold g was now key other shifts = ⊤
-AreShifts (Told lender) g was now key other shifts = (shifts.before ≡ shown_of g was key other) × (shifts.after ≡ shown_of g now key other)
+-- the rows of the groups of two keys before a change and after it, where they are wanted
+abbrev pub AreTransitions : RowsWanted → Grouping → (KeyTree → Positioned) → (KeyTree → Positioned) → Option KeyTree → Option KeyTree → Transitions → Type 0
+AreTransitions Unwanted g was now key other transitions = ⊤
+AreTransitions (Wanted lender) g was now key other transitions = (transitions.before ≡ shown_of g was key other) × (transitions.after ≡ shown_of g now key other)
 
 -- the same of groups before a change and after it: for a key, for two keys, and for those of a change that is told
-abbrev pub IsShiftOfKey : Telling → Grouping → KeptGroups → KeptGroups → Option KeyTree → Shift → Type 0
-IsShiftOfKey telling g old new key shift = IsShiftAt telling g (λ k. group_members k old) (λ k. group_members k new) key shift
+abbrev pub IsTransitionOfKey : RowsWanted → Grouping → LiveGroups → LiveGroups → Option KeyTree → Transition → Type 0
+IsTransitionOfKey wish g old new key transition = IsTransitionAt wish g (λ k. group_members k old) (λ k. group_members k new) key transition
 
-abbrev pub AreShiftsOfKeys : Telling → Grouping → KeptGroups → KeptGroups → Option KeyTree → Option KeyTree → Shifts → Type 0
-AreShiftsOfKeys telling g old new key other shifts = AreShifts telling g (λ k. group_members k old) (λ k. group_members k new) key other shifts
+abbrev pub AreTransitionsOfKeys : RowsWanted → Grouping → LiveGroups → LiveGroups → Option KeyTree → Option KeyTree → Transitions → Type 0
+AreTransitionsOfKeys wish g old new key other transitions = AreTransitions wish g (λ k. group_members k old) (λ k. group_members k new) key other transitions
 
-abbrev pub AreShiftsOfTaken : Telling → Grouping → KeptGroups → KeptGroups → Taken → Shifts → Type 0
-AreShiftsOfTaken telling g old new taken shifts = AreShiftsOfKeys telling g old new (own_key g taken.old) (own_key g taken.new) shifts
+abbrev pub AreTransitionsOfTaken : RowsWanted → Grouping → LiveGroups → LiveGroups → Taken → Transitions → Type 0
+AreTransitionsOfTaken wish g old new taken transitions = AreTransitionsOfKeys wish g old new (own_key g taken.old) (own_key g taken.new) transitions

@@ -3,10 +3,10 @@ use Rattle.std.specs.Prelude.{map}
 use Rattle.dv_change.specs.Changes.{Positioned}
 use Rattle.dv_gather.specs.Grouping.{Grouping}
 use Rattle.dv_group.specs.Inner.Held.{HoldsGroups}
-use Rattle.dv_group.specs.Inner.Members.{AreBundles}
+use Rattle.dv_group.specs.Inner.Members.{AreLiveGroups}
 use Rattle.dv_group.specs.declared.group_turn.GroupTurn.{GroupTurn}
 
--- what it groups by, and what it tells of each group
+-- what it groups by, and what it returns for each group
 abbrev pub grouping_of : GroupTurn → Grouping
 grouping_of t = t.keeping.operator.group
 
@@ -14,6 +14,6 @@ grouping_of t = t.keeping.operator.group
 abbrev pub rows_left : GroupTurn → Positioned
 rows_left t = t.keeping.rows.entries
 
--- its rows stand at exact positions, in their order, each group has those with its key, and what has come of their values
+-- its rows stand at exact positions, in their order, and each group has those with its key, and the states over them
 abbrev pub IsSoundGroups : GroupTurn → Type 0
-IsSoundGroups t = AreBundles (grouping_of t) t.keeping.operator.groups.entries × HoldsGroups t.keeping.operator (map (λ m. m.entries) t.keeping.lists.items) (rows_left t)
+IsSoundGroups t = AreLiveGroups (grouping_of t) t.keeping.operator.groups.entries × HoldsGroups t.keeping.operator (map (λ m. m.entries) t.keeping.lists.items) (rows_left t)

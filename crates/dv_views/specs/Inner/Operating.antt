@@ -13,7 +13,7 @@ use Rattle.dv_flow.specs.Inner.Unwinding.{unwind_empty, unwind_even, unwind_orde
 use Rattle.dv_flow.specs.Placed.{front_at, matched_at, shown_at, sorted_at, unwound_at}
 use Rattle.dv_group.specs.Inner.Grouped.{group_empty, group_even, group_ordered}
 use Rattle.dv_group.specs.Inner.Held.{HoldsGroups}
-use Rattle.dv_group.specs.Inner.Members.{AreBundles}
+use Rattle.dv_group.specs.Inner.Members.{AreLiveGroups}
 use Rattle.dv_group.specs.Placed.{grouped_at}
 use Rattle.dv_join.specs.Inner.Placed.{looked_up_even, looked_up_ordered}
 use Rattle.dv_join.specs.Inner.Turning.{HoldsJoin, join_positioned}
@@ -41,7 +41,7 @@ IsSoundStage (Project o) = ⊤
 IsSoundStage (Unwind o) = ⊤
 IsSoundStage (Sort o) = ⊤
 IsSoundStage (Limit o) = IsCut o
-IsSoundStage (Group o) = AreBundles o.group o.groups.entries
+IsSoundStage (Group o) = AreLiveGroups o.group o.groups.entries
 IsSoundStage (Lookup o) = ⊤
 
 -- it may have taken in these lists and these rows

@@ -5,7 +5,7 @@ use Rattle.dv_order.specs.Key.{KeyTree}
 use Rattle.dv_change.specs.Changes.{Positioned}
 use Rattle.dv_change.specs.Inner.Changes.{IsPositioned}
 use Rattle.dv_change.specs.Inner.RowLaws.{positioned-none}
-use Rattle.dv_group.specs.Inner.Members.{KeptGroups, group_members}
+use Rattle.dv_group.specs.Inner.Members.{LiveGroups, group_members}
 use Rattle.dv_group.proofs.Owed.{all-grouped, none-under, positioned-group, with_each}
 use Rattle.dv_group.proofs.group_operator.GroupOperator.all_shown.Goals as goal
 
@@ -28,7 +28,7 @@ groups-preserved c =
     let key = c.in-Some.key.now in
     let step : c.groups.key-iterator ≡ (key, c.in-Some.field-0-1.now) ∷ c.next.new.self = search rules in
     record {
-      shown = ap (with_each g under (keys_of c.next.new.self)) c.in_ok-rows.ensures ∙ ap (λ (es : KeptGroups). with_each g under (keys_of es) c.groups.rows) (sym step) ∙ c.groups.invariant.shown;
+      shown = ap (with_each g under (keys_of c.next.new.self)) c.in_ok-rows.ensures ∙ ap (λ (es : LiveGroups). with_each g under (keys_of es) c.groups.rows) (sym step) ∙ c.groups.invariant.shown;
       positioned = subst (λ (rows : Positioned). IsPositioned rows) (sym c.in_ok-rows.ensures) (positioned-group g under key c.groups.rows c.law_own.ensures c.groups.invariant.positioned);
     }
 
@@ -38,5 +38,5 @@ returns-clause-rows c = λ left are members.
     let es = c.args.self.now.groups.entries in
     let under : KeyTree → Positioned = λ k. group_members k es in
     let none : c.groups.key-iterator ≡ [] = search rules in
-    let all : c.groups.rows ≡ with_each g under (keys_of es) [] = sym (ap (λ (es : KeptGroups). with_each g under (keys_of es) c.groups.rows) none) ∙ c.groups.invariant.shown in
+    let all : c.groups.rows ≡ with_each g under (keys_of es) [] = sym (ap (λ (es : LiveGroups). with_each g under (keys_of es) c.groups.rows) none) ∙ c.groups.invariant.shown in
     all ∙ all-grouped g under left members (keys_of es) (λ k none. none-under k es none) are (subst (λ (rows : Positioned). IsPositioned rows) all c.groups.invariant.positioned)

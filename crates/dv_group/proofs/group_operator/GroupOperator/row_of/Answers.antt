@@ -1,7 +1,7 @@
 -- The group of a key is sound.
 use Rattle.std.proofs.Common.{sym}
-use Rattle.dv_group.proofs.Under.{bundle-there}
+use Rattle.dv_group.proofs.Under.{group-there}
 use Rattle.dv_group.proofs.group_operator.GroupOperator.row_of.Goals as goal
 
 pub shown-requires : goal.shown-requires
-shown-requires c = bundle-there c.args.self.now.group c.args.key.now c.in-Some.kept.now c.args.self.now.groups.entries (sym c.in-Some.ensures.value) c.requires
+shown-requires c = group-there c.args.self.now.group c.args.key.now c.in-Some.live.now c.args.self.now.groups.entries (sym c.in-Some.ensures.value) c.requires

@@ -6,7 +6,7 @@ use Rattle.dv_change.specs.Difference.{diff}
 use Rattle.dv_change.specs.Inner.RowLaws.{positioned-none}
 use Rattle.dv_change.specs.Inner.ToldLaws.{along-diff}
 use Rattle.dv_gather.specs.Grouping.{Grouping}
-use Rattle.dv_group.specs.Inner.Members.{AreBundles, AreMembers, group_members, moved_all}
+use Rattle.dv_group.specs.Inner.Members.{AreLiveGroups, AreMembers, group_members, moved_all}
 use Rattle.dv_group.specs.Placed.{grouped_at}
 use Rattle.dv_group.proofs.Owed.{members-along, members-same, ok-any, ok-then}
 use Rattle.dv_group.proofs.group_operator.GroupOperatorOperator.fill.Goals as goal
@@ -15,8 +15,8 @@ pub returns-clause-sound : goal.returns-clause-sound
 returns-clause-sound c =
     let p = c.keep_last.new.self in
     ok-any c.puts_of.result
-    (subst (λ (g : Grouping). AreBundles g p.groups.entries) (sym c.keep_last.ensures.group)
-    (subst (AreBundles c.args.self.now.group) (sym c.keep_last.ensures.groups) c.in_ok-follow_all.ensures.sound))
+    (subst (λ (g : Grouping). AreLiveGroups g p.groups.entries) (sym c.keep_last.ensures.group)
+    (subst (AreLiveGroups c.args.self.now.group) (sym c.keep_last.ensures.groups) c.in_ok-follow_all.ensures.sound))
 
 pub returns-clause-makes : goal.returns-clause-makes
 returns-clause-makes c =

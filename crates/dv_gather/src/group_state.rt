@@ -1,0 +1,178 @@
+//! What a group holds.
+
+ghost use Rattle.std.specs.Prelude.{◌≡◌, ℕ, suc, map, IfOk, IfSome, OnOk};
+ghost use Rattle.dv_value.specs.View.{tree};
+ghost use Rattle.dv_row.specs.Inner.RowValueView.{row_value};
+ghost use Rattle.dv_gather.specs.Inner.SumBounds.{AreWithin, most};
+ghost use Rattle.dv_gather.specs.Inner.GroupView.{accumulation};
+ghost use Rattle.dv_gather.specs.Inner.GroupStates as defined;
+ghost use Rattle.dv_gather.specs.Inner.GroupStates.{IsRowOf};
+ghost use Rattle.dv_gather.specs.Inner.StateView.{keys_seen, group_state_seen, state_seen};
+
+use crate::accumulator_state::{AccumulatorState, add_at};
+use crate::group::GroupField;
+use dv_row::{RowValue, push_field};
+use dv_value::{Document, NoMemory, Value};
+use std::alloc::Global;
+
+/// What a group holds: its key, and the state of the accumulator of each field, in its order.
+#[derive(Debug, Drop)]
+pub(crate) struct GroupState {
+    /// The key as the first row spells it, where there was a row.
+    key: Option<Value>,
+    states: Vec<AccumulatorState>,
+}
+
+impl GroupState {
+    /// A group of no rows. Takes no memory.
+    pub(crate) fn new(alloc: Global) -> Self
+        ensures { group_state_seen result ≡ defined.without_rows }
+    {
+        GroupState {
+            key: None,
+            states: Vec::new(alloc),
+        }
+    }
+
+    /// Adds a row of the group, which has this key. Fails where memory is wanting.
+    pub(crate) fn add(
+        &mut self,
+        alloc: Global,
+        key: RowValue<'_>,
+        fields: &[GroupField],
+        row: &Document,
+    ) -> Result<(), NoMemory>
+        requires { AreWithin 0 most (group_state_seen self.old).1 }
+        ensures state { OnOk result (group_state_seen self.new ≡ defined.group_with_keyed_row (map accumulation fields.now) (row_value key.entry) row.now (group_state_seen self.old)) }
+        ensures within { OnOk result ((count : ℕ) → AreWithin 0 count (group_state_seen self.old).1 → AreWithin 0 (suc count) (group_state_seen self.new).1) }
+    {
+        self.start(alloc, key, fields)?;
+        self.add_values(alloc, fields, row)
+    }
+
+    /// Begins with the key and the states over no rows, where there was no row.
+    fn start(
+        &mut self,
+        alloc: Global,
+        key: RowValue<'_>,
+        fields: &[GroupField],
+    ) -> Result<(), NoMemory>
+        ensures { OnOk result (group_state_seen self.new ≡ defined.started (map accumulation fields.now) (row_value key.entry) (group_state_seen self.old)) }
+    {
+        if self.key.is_some() {
+            return Ok(());
+        }
+        self.states = states_of_none(alloc, fields)?;
+        self.key = Some(key.into_value()?);
+        Ok(())
+    }
+
+    /// Adds the row's values to the states.
+    fn add_values(
+        &mut self,
+        alloc: Global,
+        fields: &[GroupField],
+        row: &Document,
+    ) -> Result<(), NoMemory>
+        requires { AreWithin 0 most (group_state_seen self.old).1 }
+        ensures state { OnOk result (group_state_seen self.new ≡ defined.with_row_values (map accumulation fields.now) row.now (group_state_seen self.old)) }
+        ensures within { OnOk result ((count : ℕ) → AreWithin 0 count (group_state_seen self.old).1 → AreWithin 0 (suc count) (group_state_seen self.new).1) }
+    {
+        add_each(alloc, &mut self.states, fields, row)
+    }
+
+    /// The group's row. That of another group, if there is one, lends its names. Fails where memory is wanting.
+    pub(crate) fn row(
+        self,
+        alloc: Global,
+        fields: &[GroupField],
+        another: Option<&Document>,
+    ) -> Result<Document, NoMemory>
+        requires { IfSome another (λ other. IsRowOf (map accumulation fields.now) other.now) }
+        ensures { IfOk result (λ row. row ≡ defined.row_of_state (map accumulation fields.now) (group_state_seen self)) }
+    {
+        let values = self.values(alloc)?;
+        let mut row = match another {
+            // A row with so many fields has each of the names.
+            Some(other) if other.len() == values.len() && fields.len() < values.len() => {
+                Document::like(other, values)?
+            }
+            _ => named_row(alloc, fields, values)?,
+        };
+        // Its length is asked more than once before it is written.
+        row.keep_size();
+        Ok(row)
+    }
+
+    /// The key, and the values of the states. Fails where memory is wanting.
+    fn values(self, alloc: Global) -> Result<Vec<Value>, NoMemory>
+        ensures { IfOk result (λ values. map tree values.items ≡ defined.row_values (group_state_seen self)) }
+    {
+        let GroupState { key, states } = self;
+        let mut values = Vec::with_capacity(alloc, states.len().saturating_add(1))?;
+        values.push(key_or_null(key))?;
+        'states: for state in states {
+            values.push(state.value(alloc)?)?;
+        }
+        Ok(values)
+    }
+}
+
+/// The row of these values: the key, and one for each field. Fails where memory is wanting.
+fn named_row(alloc: Global, fields: &[GroupField], values: Vec<Value>) -> Result<Document, NoMemory>
+    ensures { IfOk result (λ row. row ≡ defined.row_of_values (map accumulation fields.now) (map tree values.items)) }
+{
+    let mut row = Document::new(alloc);
+    let mut values = values.into_iter();
+    let Some(key) = values.next() else {
+        return Ok(row);
+    };
+    push_field(&mut row, "_id", Some(key))?;
+    'fields: for field in fields {
+        let Some(value) = values.next() else {
+            break;
+        };
+        push_field(&mut row, field.name.as_str(), Some(value))?;
+    }
+    Ok(row)
+}
+
+/// Adds a row's values to the states of the fields. Fails where memory is wanting.
+fn add_each(
+    alloc: Global,
+    states: &mut Vec<AccumulatorState>,
+    fields: &[GroupField],
+    row: &Document,
+) -> Result<(), NoMemory>
+    requires { AreWithin 0 most (map state_seen states.old.items) }
+    ensures states { OnOk result (map state_seen states.new.items ≡ defined.with_values (map accumulation fields.now) row.now (map state_seen states.old.items)) }
+    ensures within { OnOk result ((count : ℕ) → AreWithin 0 count (map state_seen states.old.items) → AreWithin 0 (suc count) (map state_seen states.new.items)) }
+{
+    'fields: for (place, field) in fields.iter().enumerate() {
+        if let Some(value) = field.expr.value_in(alloc, row)? {
+            add_at(states, place, value)?;
+        }
+    }
+    Ok(())
+}
+
+/// The key of a group, null where there was no row.
+fn key_or_null(key: Option<Value>) -> Value
+    ensures { tree result ≡ defined.key_or_null (keys_seen key) }
+{
+    match key {
+        Some(key) => key,
+        None => Value::Null,
+    }
+}
+
+/// The states of the fields over no rows. Fails where memory is wanting.
+fn states_of_none(alloc: Global, fields: &[GroupField]) -> Result<Vec<AccumulatorState>, NoMemory>
+    ensures { IfOk result (λ states. map state_seen states.items ≡ defined.states_of_none (map accumulation fields.now)) }
+{
+    let mut states = Vec::with_capacity(alloc, fields.len())?;
+    'fields: for field in fields {
+        states.push(AccumulatorState::of_none(alloc, field.accumulator))?;
+    }
+    Ok(states)
+}

@@ -1,0 +1,115 @@
+-- A group to which rows are added, and from which rows are removed, stays sound, and shows its row.
+use Rattle.std.specs.Prelude.{◌≡◌, ◌≤◌, Bool, true, false, cond, codes, List, [], ◌∷◌, length, map, Option, None, Some, slice_get, refl}
+use Rattle.std.proofs.Common.{ap, subst, sym, ◌∙◌}
+use Rattle.std.specs.Cmp.{tied_itself}
+use Rattle.std.specs.List.{AllByRecursion}
+use Rattle.std.specs.Ordering.{is_eq}
+use Rattle.dv_value.specs.Tree.{Tree}
+use Rattle.dv_row.specs.Row.{Row}
+use Rattle.dv_change.specs.Changes.{Positioned, at, forget}
+use Rattle.dv_change.specs.Inner.Changes.{IsPositioned}
+use Rattle.dv_change.specs.Inner.Ordered.{gone, put}
+use Rattle.dv_change.specs.Inner.PositionLaws.{pos_order_total}
+use Rattle.dv_change.specs.Positions.{IsExact, PosTree, pos_order}
+use Rattle.dv_change.specs.Inner.RowLaws.{at-gone, at-put, at_back, positioned-gone, positioned-put, same_rows}
+use Rattle.dv_gather.specs.Grouping.{Accumulation, Grouping, key_in, row_shown, with_accumulated}
+use Rattle.dv_group.specs.declared.group_state.GroupState.{GroupState}
+use Rattle.dv_group.specs.declared.accumulator_state.AccumulatorState as memory
+use Rattle.dv_group.specs.declared.accumulator_state.AccumulatorState.TheVariants.{Sum}
+use Rattle.dv_group.specs.declared.accumulator_state.RowChange.TheVariants.{Added, Removed}
+use Rattle.dv_group.specs.declared.sum_state.SumState.{SumState}
+use Rattle.dv_group.specs.Inner.Members.{set_at}
+use Rattle.dv_group.specs.Inner.SumBounds.{AreSummableIn, HaveRoom, IsGroupState, IsSummable, IsSummableIn, IsSummableValue, most_rows}
+use Rattle.dv_group.specs.Inner.AccumulatorStates.{AccumulatorState, states_after_from, state_over, field_value, with_state_values}
+use Rattle.dv_group.specs.Inner.StateView.{state_seen}
+use Rattle.dv_group.proofs.AccumulatorStates.{all-added, all-with, all-without, all-may-be-added, all-may-be-removed, all-summable, all-values, all-removed}
+
+-- ---- rows at a position
+
+over-same : {A : Type 0} (b : Bool) (x y z : A) → cond b x (cond b y z) ≡ cond b x z
+over-same true x y z = refl
+over-same false x y z = refl
+
+-- a row is added in the place of one that is removed
+pub put-over : (p : PosTree) (d : Row) (rows : Positioned) → IsPositioned rows → IsExact p → put p d (gone p rows) ≡ put p d rows
+put-over p d rows are x =
+    same_rows (put p d (gone p rows)) (put p d rows) (positioned-put p d (gone p rows) (positioned-gone p rows are) x) (positioned-put p d rows are x)
+    (λ q y.
+    at-put q p d (gone p rows)
+    ∙ ap (cond (is_eq (pos_order q p)) (Some d)) (at-gone q p rows are.ascending ∙ ap (λ b. cond b None (at q rows)) (at_back p q))
+    ∙ over-same (is_eq (pos_order q p)) (Some d) None (at q rows)
+    ∙ sym (at-put q p d rows))
+
+-- nothing stands where a row was removed
+pub none-left : (p : PosTree) (rows : Positioned) → IsPositioned rows → at p (gone p rows) ≡ None
+none-left p rows are = at-gone p p rows are.ascending ∙ ap (λ o. cond (is_eq o) None (at p rows)) (tied_itself pos_order_total p)
+
+-- where nothing stands, nothing is removed
+gone-none : (p : PosTree) (rows : Positioned) → at p rows ≡ None → gone p rows ≡ rows
+gone-none p [] none = refl
+gone-none p (e ∷ rows) none = by (is_eq (pos_order p e.0)) none (λ none. gone-none p rows none)
+  where
+    by : (b : Bool) → cond b (Some e.1) (at p rows) ≡ None → (at p rows ≡ None → gone p rows ≡ rows) → cond b rows (e ∷ gone p rows) ≡ e ∷ rows
+    by true none rest = cc
+    by false none rest = ap (λ es. e ∷ es) (rest none)
+
+-- what is set takes the place of what is removed
+pub set-over : (p : PosTree) (r : Option Row) (rows : Positioned) → IsPositioned rows → IsExact p → set_at p r (gone p rows) ≡ set_at p r rows
+set-over p None rows are x = gone-none p (gone p rows) (none-left p rows are)
+set-over p (Some d) rows are x = put-over p d rows are x
+
+module _ (fields : List Accumulation) (p : PosTree) (x : IsExact p) (before : GroupState) (sound : IsGroupState fields before) where
+  -- ---- there is room
+
+  pub may-be-added : (d : Row) → length before.members ≤ most_rows → HaveRoom Added fields p d (map state_seen before.states.items)
+  may-be-added d few = subst (λ ts. HaveRoom Added fields p d ts) (sym sound.states) (all-may-be-added p d before.members sound.positioned x few fields sound.summable)
+
+  pub may-be-removed : (d : Row) → length before.members ≤ most_rows → at p before.members ≡ Some d → HaveRoom Removed fields p d (map state_seen before.states.items)
+  may-be-removed d few there = subst (λ ts. HaveRoom Removed fields p d ts) (sym sound.states) (all-may-be-removed p d before.members sound.positioned x few fields there sound.summable)
+
+  -- ---- a row is added, or removed
+
+  module _ (after : GroupState) where
+    pub added-sound : (d : Row) → at p before.members ≡ None → after.members ≡ put p d before.members → map state_seen after.states.items ≡ states_after_from Added p d 0 fields (map state_seen before.states.items) → AreSummableIn (map state_seen before.states.items) fields d → IsGroupState fields after
+    added-sound d none come after-is summable =
+        let each : AllByRecursion (λ a. IsSummable a d) fields = all-summable fields d before.members (subst (λ ts. AreSummableIn ts fields d) sound.states summable) in
+        record {
+          positioned = subst (λ (es : Positioned). IsPositioned es) (sym come) (positioned-put p d before.members sound.positioned x);
+          states = after-is ∙ ap (states_after_from Added p d 0 fields) sound.states ∙ all-added fields p d before.members sound.positioned x none ∙ ap (λ es. map (λ a. state_over a es) fields) (sym come);
+          summable = subst (λ (es : Positioned). AllByRecursion (λ e. AllByRecursion (λ a. IsSummable a e.1) fields) es) (sym come) (all-with (λ e. AllByRecursion (λ a. IsSummable a e.1) fields) p d before.members (λ q. each) sound.summable);
+        }
+
+    removed-summable : after.members ≡ gone p before.members → AllByRecursion (λ e. AllByRecursion (λ a. IsSummable a e.1) fields) after.members
+    removed-summable left = subst (λ (es : Positioned). AllByRecursion (λ e. AllByRecursion (λ a. IsSummable a e.1) fields) es) (sym left) (all-without (λ e. AllByRecursion (λ a. IsSummable a e.1) fields) p before.members sound.summable)
+
+    removed-positioned : after.members ≡ gone p before.members → IsPositioned after.members
+    removed-positioned left = subst (λ (es : Positioned). IsPositioned es) (sym left) (positioned-gone p before.members sound.positioned)
+
+    pub removed-sound : (d : Row) → at p before.members ≡ Some d → after.members ≡ gone p before.members → map state_seen after.states.items ≡ states_after_from Removed p d 0 fields (map state_seen before.states.items) → IsGroupState fields after
+    removed-sound d there left after-is = record {
+      positioned = removed-positioned left;
+      states = after-is ∙ ap (states_after_from Removed p d 0 fields) sound.states ∙ all-removed fields p d before.members sound.positioned x there ∙ ap (λ es. map (λ a. state_over a es) fields) (sym left);
+      summable = removed-summable left;
+    }
+
+    pub none-removed : at p before.members ≡ None → after.members ≡ gone p before.members → after.states ≡ before.states → IsGroupState fields after
+    none-removed none left same = record {
+      positioned = removed-positioned left;
+      states = ap (λ ts. map state_seen ts.items) same ∙ sound.states ∙ ap (λ es. map (λ a. state_over a es) fields) (sym (left ∙ gone-none p before.members none));
+      summable = removed-summable left;
+    }
+
+-- ---- what is shown
+
+pub summable-seen : (t : memory.AccumulatorState) (s : SumState) (a : Accumulation) (d : Row) (v : Option Tree) → t ≡ Sum s → v ≡ field_value a d → IsSummableValue v → IsSummableIn (state_seen t) a d
+summable-seen t s a d v is same summable = subst (λ u. IsSummableIn (state_seen u) a d) (sym is) (subst (λ (o : Option Tree). IsSummableValue o) same summable)
+
+-- the row of a group is made of its first row, and of the values of its states
+pub row-is-shown : (g : Grouping) (rows : Positioned) (e : PosTree × Row) (ts : List AccumulatorState) → IsPositioned rows → slice_get rows 0 ≡ Some e → ts ≡ map (λ a. state_over a rows) g.fields
+    → Some (with_state_values g.fields ts ((codes "_id", key_in g e.1) ∷ [])) ≡ row_shown g (forget rows)
+row-is-shown g [] e ts are first same = cc
+row-is-shown g (r ∷ rows) e ts are first same =
+    let own : r ≡ e = cc in
+    ap (λ us. Some (with_state_values g.fields us ((codes "_id", key_in g e.1) ∷ []))) same
+    ∙ ap Some (all-values g.fields (r ∷ rows) ((codes "_id", key_in g e.1) ∷ []) are)
+    ∙ ap (λ f. Some (with_accumulated g.fields (forget (r ∷ rows)) ((codes "_id", key_in g f.1) ∷ []))) (sym own)

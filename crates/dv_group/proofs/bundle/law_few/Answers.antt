@@ -1,5 +1,0 @@
-use Rattle.std.proofs.Common.{arith}
-use Rattle.dv_group.proofs.bundle.law_few.Goals as goal
-
-pub returns : goal.returns
-returns c = omega (arith, c.len-count.ensures)

@@ -1,7 +1,0 @@
-use Rattle.std.proofs.Common.{◌∙◌, [], ap, map, take_all}
-use Rattle.dv_gather.specs.Inner.GroupView.{accumulation}
-use Rattle.dv_group.specs.Inner.Running.{running_of}
-use Rattle.dv_group.proofs.bundle.totals_of_none.Goals as goal
-
-pub returns : goal.returns
-returns c = c.fields.invariant ∙ ap (λ fields. map (λ a. running_of a []) (map accumulation fields)) (take_all c.fields.field-index c.args.fields.now c.fields-test.false)

@@ -1,6 +1,0 @@
-use Rattle.std.proofs.Common.{◌∙◌, Some, ap, subst}
-use Rattle.dv_group.specs.Inner.Members.{IsRowOf}
-use Rattle.dv_group.proofs.kept.Kept.shown.Goals as goal
-
-pub returns-in_ok-try_clone-in-Some : goal.returns-in_ok-try_clone-in-Some
-returns-in_ok-try_clone-in-Some c = ap Some c.in_ok-try_clone-in-Some.ensures ∙ subst (IsRowOf c.args.group.now c.args.self.now.bundle.members) c.in-Some.is c.requires.row
