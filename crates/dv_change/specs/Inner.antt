@@ -17,6 +17,8 @@ pub mod Told
 pub mod ToldLaws
 pub mod Fed
 pub mod ToldRows
+pub mod Turning
 pub mod Linked
+pub mod Kept
 pub mod OrderedView
 pub mod Examples

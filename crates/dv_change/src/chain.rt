@@ -6,10 +6,10 @@ ghost use Rattle.dv_change.specs.Inner.Beginning.{BeginsWith};
 ghost use Rattle.dv_change.specs.Changes.{with_changes};
 ghost use Rattle.dv_change.specs.Inner.Changes.{IsExactChange};
 ghost use Rattle.dv_change.specs.declared.input.Input.TheVariants.{Named};
-ghost use Rattle.dv_change.specs.Inner.Linked.{IsLinked, LeadOn, MakeAsStages, StagesFollow, StayLinked, StayLinkedAlong, changes_returned, changes_returned_in, first_left, forms_of, work_done, work_done_in};
+ghost use Rattle.dv_change.specs.Inner.Linked.{AreLinked, HaveTakenNothing, IsLinked, LeadOn, MakeAsStages, StagesFollow, StagesStay, StayLinked, StayLinkedAlong};
+ghost use Rattle.dv_change.specs.Inner.Linked.{changes_of_one, changes_returned, changes_returned_in, forms_of, work_done, work_done_in, work_of_one};
 ghost use Rattle.dv_change.specs.Raised.{raised};
-ghost use Rattle.dv_change.specs.Work as defined;
-ghost use Rattle.dv_change.specs.Inner.Work.{HasAny, named_in, stage_work};
+ghost use Rattle.dv_change.specs.Inner.Work.{HasAny, named_in};
 
 use crate::change::Change;
 use crate::input::Input;
@@ -37,9 +37,9 @@ impl<T: Turn + Drop> Model for Chain<T> {
 impl<T: Turn + Drop> Chain<T> {
     /// A chain of turns that have taken in nothing.
     pub fn new(alloc: Global, turns: Vec<T>) -> Self
-        requires { AllByRecursion (λ t. T.sound t × (T.left t ≡ [])) turns.items }
+        requires { HaveTakenNothing T.turning turns.items }
         ensures turns { result ≡ turns.items }
-        ensures linked { IsLinked T.left T.others T.makes T.sound result [] }
+        ensures linked { IsLinked T.turning result [] }
     {
         Chain { alloc, turns }
     }
@@ -54,14 +54,14 @@ impl<T: Turn + Drop> Chain<T> {
         ticks: &mut Ticks,
         out: &mut Vec<Change>,
     ) -> Result<(), NoMemory>
-        requires linked { IsLinked T.left T.others T.makes T.sound self.old (first_left T.left T.others T.makes T.sound self.old) }
-        requires input { HasAny input (forms_of T.left T.others T.makes T.sound self.old) }
-        ensures forms { OnOk result (StagesFollow T.left T.others T.makes T.sound input change self.old self.new) }
-        ensures linked { OnOk result (StayLinked T.left T.others T.makes T.sound input change self.old self.new) }
-        ensures outs { OnOk result (MakeAsStages T.left T.others T.makes T.sound input change self.old self.new) }
-        ensures leads { OnOk result (LeadOn T.left T.others T.makes T.sound input change self.old self.new) }
-        ensures out { OnOk result (out.new.items ≡ out.old.items ++ changes_returned_in T.left T.others T.makes T.sound input change self.old) }
-        ensures ticks { OnOk result (ticks.new ≡ raised ticks.old (work_done_in T.left T.others T.makes T.sound input change self.old)) }
+        requires linked { AreLinked T.turning self.old }
+        requires input { HasAny input (forms_of T.turning self.old) }
+        ensures forms { OnOk result (StagesFollow T.turning input change self.old self.new) }
+        ensures linked { OnOk result (StayLinked T.turning input change self.old self.new) }
+        ensures outs { OnOk result (MakeAsStages T.turning input change self.old self.new) }
+        ensures leads { OnOk result (LeadOn T.turning input change self.old self.new) }
+        ensures out { OnOk result (out.new.items ≡ out.old.items ++ changes_returned_in T.turning input change self.old) }
+        ensures ticks { OnOk result (ticks.new ≡ raised ticks.old (work_done_in T.turning input change self.old)) }
         ensures begins { OnErr result (BeginsWith out.new.items out.old.items) }
         ensures no_fewer { OnErr result (ticks.old ≤ ticks.new) }
     {
@@ -85,14 +85,14 @@ fn feed_input<T: Turn>(
     ticks: &mut Ticks,
     out: &mut Vec<Change>,
 ) -> Result<(), NoMemory>
-    requires linked { IsLinked T.left T.others T.makes T.sound turns.old (first_left T.left T.others T.makes T.sound turns.old) }
-    requires input { HasAny input (forms_of T.left T.others T.makes T.sound turns.old) }
-    ensures forms { OnOk result (StagesFollow T.left T.others T.makes T.sound input change turns.old turns.new) }
-    ensures linked { OnOk result (StayLinked T.left T.others T.makes T.sound input change turns.old turns.new) }
-    ensures outs { OnOk result (MakeAsStages T.left T.others T.makes T.sound input change turns.old turns.new) }
-    ensures leads { OnOk result (LeadOn T.left T.others T.makes T.sound input change turns.old turns.new) }
-    ensures out { OnOk result (out.new.items ≡ out.old.items ++ changes_returned_in T.left T.others T.makes T.sound input change turns.old) }
-    ensures ticks { OnOk result (ticks.new ≡ raised ticks.old (work_done_in T.left T.others T.makes T.sound input change turns.old)) }
+    requires linked { AreLinked T.turning turns.old }
+    requires input { HasAny input (forms_of T.turning turns.old) }
+    ensures forms { OnOk result (StagesFollow T.turning input change turns.old turns.new) }
+    ensures linked { OnOk result (StayLinked T.turning input change turns.old turns.new) }
+    ensures outs { OnOk result (MakeAsStages T.turning input change turns.old turns.new) }
+    ensures leads { OnOk result (LeadOn T.turning input change turns.old turns.new) }
+    ensures out { OnOk result (out.new.items ≡ out.old.items ++ changes_returned_in T.turning input change turns.old) }
+    ensures ticks { OnOk result (ticks.new ≡ raised ticks.old (work_done_in T.turning input change turns.old)) }
     ensures begins { OnErr result (BeginsWith out.new.items out.old.items) }
     ensures no_fewer { OnErr result (ticks.old ≤ ticks.new) }
 {
@@ -114,13 +114,13 @@ fn feed<T: Turn>(
     ticks: &mut Ticks,
     out: &mut Vec<Change>,
 ) -> Result<(), NoMemory>
-    requires { T.sound turn.old }
-    ensures sound { OnOk result (T.sound turn.new) }
-    ensures makes { OnOk result (T.makes turn.new ≡ T.makes turn.old) }
-    ensures left { OnOk result (T.left turn.new ≡ with_changes (T.left turn.old) changes.items) }
-    ensures others { OnOk result (T.others turn.new ≡ T.others turn.old) }
-    ensures out { OnOk result (out.new.items ≡ out.old.items ++ defined.handed (T.makes turn.old (T.others turn.old)) (T.left turn.old) changes.items) }
-    ensures ticks { OnOk result (ticks.new ≡ raised ticks.old (stage_work (T.makes turn.old (T.others turn.old)) (T.left turn.old) changes.items)) }
+    requires { T.turning.sound turn.old }
+    ensures sound { OnOk result (T.turning.sound turn.new) }
+    ensures makes { OnOk result ((T.turning.form turn.new).makes ≡ (T.turning.form turn.old).makes) }
+    ensures left { OnOk result (T.turning.left turn.new ≡ with_changes (T.turning.left turn.old) changes.items) }
+    ensures others { OnOk result ((T.turning.form turn.new).named ≡ (T.turning.form turn.old).named) }
+    ensures out { OnOk result (out.new.items ≡ out.old.items ++ changes_of_one T.turning changes.items turn.old) }
+    ensures ticks { OnOk result (ticks.new ≡ raised ticks.old (work_of_one T.turning changes.items turn.old)) }
     ensures begins { OnErr result (BeginsWith out.new.items out.old.items) }
     ensures no_fewer { OnErr result (ticks.old ≤ ticks.new) }
 {
@@ -138,12 +138,12 @@ fn feed_all<T: Turn>(
     ticks: &mut Ticks,
     out: &mut Vec<Change>,
 ) -> Result<(), NoMemory>
-    requires linked { IsLinked T.left T.others T.makes T.sound turns.old (first_left T.left T.others T.makes T.sound turns.old) }
+    requires linked { AreLinked T.turning turns.old }
     requires exact { AllByRecursion IsExactChange changes.items }
-    ensures forms { OnOk result (forms_of T.left T.others T.makes T.sound turns.new ≡ forms_of T.left T.others T.makes T.sound turns.old) }
-    ensures linked { OnOk result (StayLinkedAlong T.left T.others T.makes T.sound changes.items turns.old turns.new) }
-    ensures out { OnOk result (out.new.items ≡ out.old.items ++ changes_returned T.left T.others T.makes T.sound changes.items turns.old) }
-    ensures ticks { OnOk result (ticks.new ≡ raised ticks.old (work_done T.left T.others T.makes T.sound changes.items turns.old)) }
+    ensures forms { OnOk result (StagesStay T.turning turns.old turns.new) }
+    ensures linked { OnOk result (StayLinkedAlong T.turning changes.items turns.old turns.new) }
+    ensures out { OnOk result (out.new.items ≡ out.old.items ++ changes_returned T.turning changes.items turns.old) }
+    ensures ticks { OnOk result (ticks.new ≡ raised ticks.old (work_done T.turning changes.items turns.old)) }
     ensures begins { OnErr result (BeginsWith out.new.items out.old.items) }
     ensures no_fewer { OnErr result (ticks.old ≤ ticks.new) }
 {
@@ -164,12 +164,12 @@ fn feed_named<T: Turn>(
     ticks: &mut Ticks,
     out: &mut Vec<Change>,
 ) -> Result<(), NoMemory>
-    requires linked { IsLinked T.left T.others T.makes T.sound turns.old (first_left T.left T.others T.makes T.sound turns.old) }
-    requires input { place < named_in (forms_of T.left T.others T.makes T.sound turns.old) }
-    ensures forms { OnOk result (StagesFollow T.left T.others T.makes T.sound (Named place) change turns.old turns.new) }
-    ensures linked { OnOk result (IsLinked T.left T.others T.makes T.sound turns.new (first_left T.left T.others T.makes T.sound turns.old)) }
-    ensures out { OnOk result (out.new.items ≡ out.old.items ++ changes_returned_in T.left T.others T.makes T.sound (Named place) change turns.old) }
-    ensures ticks { OnOk result (ticks.new ≡ raised ticks.old (work_done_in T.left T.others T.makes T.sound (Named place) change turns.old)) }
+    requires linked { AreLinked T.turning turns.old }
+    requires input { place < named_in (forms_of T.turning turns.old) }
+    ensures forms { OnOk result (StagesFollow T.turning (Named place) change turns.old turns.new) }
+    ensures linked { OnOk result (StayLinked T.turning (Named place) change turns.old turns.new) }
+    ensures out { OnOk result (out.new.items ≡ out.old.items ++ changes_returned_in T.turning (Named place) change turns.old) }
+    ensures ticks { OnOk result (ticks.new ≡ raised ticks.old (work_done_in T.turning (Named place) change turns.old)) }
     ensures begins { OnErr result (BeginsWith out.new.items out.old.items) }
     ensures no_fewer { OnErr result (ticks.old ≤ ticks.new) }
 {

@@ -5,6 +5,7 @@ ghost use Rattle.std.specs.List.{AllByRecursion};
 ghost use Rattle.dv_change.specs.Inner.Beginning.{BeginsWith};
 ghost use Rattle.dv_change.specs.Changes.{Positioned};
 ghost use Rattle.dv_change.specs.Inner.Changes.{IsExactChange, IsPositioned};
+ghost use Rattle.dv_change.specs.Inner.Kept.{kept_turning};
 ghost use Rattle.dv_change.specs.Inputs.{input_changed_at};
 ghost use Rattle.dv_change.specs.Inner.Told.{CountsChanges, ReturnsChanges, TakesIn, WhateverIsHeld, changes_told, list_at, with_old};
 
@@ -73,13 +74,7 @@ impl<O: Operator> Keeping<O> {
 }
 
 impl<O: Operator> Turn for Keeping<O> {
-    ghost left = { λ t. t.rows.entries };
-
-    ghost others = { λ t. map (λ m. m.entries) t.lists.items };
-
-    ghost makes = { λ t. O.makes t.operator };
-
-    ghost sound = { λ t. O.sound t.operator × O.holds t.operator (map (λ m. m.entries) t.lists.items) t.rows.entries };
+    ghost turning = { kept_turning O.makes O.sound O.holds };
 
     ghost positioned = { λ t sound. O.positioned t.operator (map (λ m. m.entries) t.lists.items) t.rows.entries sound.1 };
 

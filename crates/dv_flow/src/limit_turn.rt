@@ -1,7 +1,7 @@
 //! `$limit`, kept by changes.
 
 ghost use Rattle.std.specs.Prelude.{◌≡◌, []};
-ghost use Rattle.dv_flow.specs.Inner.Limiting.{IsSoundLimit, limit_count, limit_empty, limit_even, limit_left, limit_makes, limit_ordered, limit_positioned};
+ghost use Rattle.dv_flow.specs.Inner.Limiting.{IsSoundLimit, limit_count, limit_empty, limit_even, limit_left, limit_ordered, limit_positioned, limit_turning};
 
 use crate::limit::LimitOperator;
 use dv_change::{Change, Input, Keeping, Ticks, Turn};
@@ -28,13 +28,7 @@ impl LimitTurn {
 }
 
 impl Turn for LimitTurn {
-    ghost left = { limit_left };
-
-    ghost others = { λ t. [] };
-
-    ghost makes = { limit_makes };
-
-    ghost sound = { IsSoundLimit };
+    ghost turning = { limit_turning };
 
     ghost positioned = { λ t sound. (limit_positioned t sound, tt) };
 

@@ -1,7 +1,7 @@
 //! Stages that make their rows of each row by itself, kept by changes.
 
 ghost use Rattle.std.specs.Prelude.{◌≡◌, [], IfOk};
-ghost use Rattle.dv_flow.specs.Inner.Rows.{IsSoundRows, rows_left, rows_stage};
+ghost use Rattle.dv_flow.specs.Inner.Rows.{IsSoundRows, rows_left, rows_stage, rows_turning};
 
 use crate::by_row::{ByRow, RowOperator};
 use dv_change::{Change, Input, Keeping, Ticks, Turn};
@@ -29,13 +29,7 @@ impl<S: ByRow> RowTurn<S> {
 }
 
 impl<S: ByRow> Turn for RowTurn<S> {
-    ghost left = { rows_left };
-
-    ghost others = { λ t. [] };
-
-    ghost makes = { λ t named rows. S.makes (rows_stage t) rows };
-
-    ghost sound = { IsSoundRows };
+    ghost turning = { rows_turning S.makes };
 
     ghost positioned = { λ t sound. (sound.positioned, tt) };
 

@@ -2,8 +2,7 @@
 
 ghost use Rattle.std.specs.Prelude.{◌≡◌, [], IfOk};
 ghost use Rattle.dv_group.specs.Inner.Grouped.{group_empty, group_even, group_ordered};
-ghost use Rattle.dv_group.specs.Placed.{grouped_at};
-ghost use Rattle.dv_group.specs.Inner.Turned.{IsSoundGroups, grouping_of, rows_left};
+ghost use Rattle.dv_group.specs.Inner.Turned.{IsSoundGroups, group_turning, grouping_of, rows_left};
 
 use crate::group_operator::GroupOperator;
 use dv_change::{Change, Input, Keeping, Ticks, Turn};
@@ -33,13 +32,7 @@ impl GroupTurn {
 }
 
 impl Turn for GroupTurn {
-    ghost left = { rows_left };
-
-    ghost others = { λ t. [] };
-
-    ghost makes = { λ t named rows. grouped_at (grouping_of t) rows };
-
-    ghost sound = { IsSoundGroups };
+    ghost turning = { group_turning };
 
     ghost positioned = { λ t sound. (sound.1.positioned, tt) };
 

@@ -3,7 +3,7 @@
 ghost use Rattle.std.specs.Prelude.{◌≡◌, ◌∷◌, [], refl, IfOk};
 ghost use Rattle.dv_join.specs.Inner.Placed.{looked_up_even, looked_up_ordered};
 ghost use Rattle.dv_join.specs.Turning.{first_input};
-ghost use Rattle.dv_join.specs.Inner.Turning.{IsSoundJoin, join_positioned, lookup_kept, lookup_left, lookup_makes, lookup_others};
+ghost use Rattle.dv_join.specs.Inner.Turning.{IsSoundJoin, join_positioned, lookup_kept, lookup_left, lookup_others, lookup_turning};
 
 use crate::operator::LookupOperator;
 use dv_change::{Change, Input, Keeping, Ticks, Turn};
@@ -37,13 +37,7 @@ impl LookupTurn {
 }
 
 impl Turn for LookupTurn {
-    ghost left = { lookup_left };
-
-    ghost others = { lookup_others };
-
-    ghost makes = { lookup_makes };
-
-    ghost sound = { IsSoundJoin };
+    ghost turning = { lookup_turning };
 
     ghost positioned = { λ t sound. (sound.left, join_positioned t.keeping.operator (lookup_others t) (lookup_left t) sound) };
 

@@ -1,7 +1,6 @@
 //! Operators of several kinds in one chain.
 
-ghost use Rattle.std.specs.Prelude.{[]};
-ghost use Rattle.dv_tests_views.specs.Inner.Simple.{IsSoundSimple, simple_empty, simple_even, simple_left, simple_makes, simple_ordered, simple_positioned};
+ghost use Rattle.dv_tests_views.specs.Inner.Simple.{simple_empty, simple_even, simple_ordered, simple_positioned, simple_turning};
 
 use dv_change::{Change, Input, Ticks, Turn};
 use dv_flow::{LimitTurn, MatchTurn, ProjectTurn, SortTurn, UnwindTurn};
@@ -23,13 +22,7 @@ pub enum SimpleTurn {
 }
 
 impl Turn for SimpleTurn {
-    ghost left = { simple_left };
-
-    ghost others = { λ t. [] };
-
-    ghost makes = { simple_makes };
-
-    ghost sound = { IsSoundSimple };
+    ghost turning = { simple_turning };
 
     ghost positioned = { simple_positioned };
 

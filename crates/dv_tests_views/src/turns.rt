@@ -1,8 +1,7 @@
 //! Stages that are kept by changes: what they hand on, and what they count.
 
-ghost use Rattle.std.specs.List.{AllByRecursion};
-ghost use Rattle.std.specs.Prelude.{◌≡◌, [], IfOk, OnOk};
-ghost use Rattle.dv_change.specs.Inner.Linked.{IsLinked, first_left};
+ghost use Rattle.std.specs.Prelude.{IfOk, OnOk};
+ghost use Rattle.dv_change.specs.Inner.Linked.{AreLinked, HaveTakenNothing};
 
 use crate::simple_turn::SimpleTurn;
 use dv_change::{Chain, Change, Input, Ordered, Part, Pos, Taken, Ticks, Turn, hand_on, take_in};
@@ -115,8 +114,8 @@ fn feed<T: Turn>(
     ticks: &mut Ticks,
     out: &mut Vec<Change>,
 ) -> Result<(), Fail>
-    requires { T.sound turn.old }
-    ensures { OnOk result (T.sound turn.new) }
+    requires { T.turning.sound turn.old }
+    ensures { OnOk result (T.turning.sound turn.new) }
 {
     Ok(turn.change(Input::Left, change, ticks, out)?)
 }
@@ -127,7 +126,7 @@ fn turned<T: Turn>(
     turn: &mut T,
     rows: [&[u8]; 3],
 ) -> Result<([u64; 3], Vec<Told>), Fail>
-    requires { T.sound turn.old }
+    requires { T.turning.sound turn.old }
 {
     let (mut ticks, mut out) = (Ticks::new(), Vec::new(alloc));
     let [first, second, third] = rows;
@@ -293,8 +292,8 @@ fn changed<T: Turn + Drop>(
     ticks: &mut Ticks,
     rows: &mut BTreeMap<Pos, Document>,
 ) -> Result<Chain<T>, Fail>
-    requires linked { IsLinked T.left T.others T.makes T.sound chain (first_left T.left T.others T.makes T.sound chain) }
-    ensures linked { IfOk result (λ after. IsLinked T.left T.others T.makes T.sound after (first_left T.left T.others T.makes T.sound after)) }
+    requires linked { AreLinked T.turning chain }
+    ensures linked { IfOk result (λ after. AreLinked T.turning after) }
 {
     let mut chain = chain;
     let mut out = Vec::new(alloc);
@@ -310,7 +309,7 @@ fn counted<T: Turn + Drop>(
     turns: Vec<T>,
     puts: &[(u64, i32, i32)],
 ) -> Result<(BTreeMap<Pos, Document>, Vec<u64>), Fail>
-    requires { AllByRecursion (λ t. T.sound t × (T.left t ≡ [])) turns.items }
+    requires { HaveTakenNothing T.turning turns.items }
 {
     let mut chain = Chain::new(alloc, turns);
     let mut ticks = Ticks::new();

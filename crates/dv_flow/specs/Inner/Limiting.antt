@@ -14,6 +14,7 @@ use Rattle.dv_change.specs.Inner.Changes.{HaveOneLength, IsPositioned}
 use Rattle.dv_change.specs.Inner.Ordered.{put}
 use Rattle.dv_change.specs.Inner.Told.{change_to}
 use Rattle.dv_change.specs.Positions.{IsExact, PosTree, pos_order}
+use Rattle.dv_change.specs.Inner.Turning.{Turning}
 use Rattle.dv_flow.specs.declared.limit.LimitOperator.{LimitOperator}
 use Rattle.dv_flow.specs.declared.limit_turn.LimitTurn.{LimitTurn}
 use Rattle.dv_flow.specs.Placed.{front_at}
@@ -113,6 +114,10 @@ limit_makes t named rows = front_at (limit_count t) rows
 -- its operator has taken in these rows
 abbrev pub IsSoundLimit : LimitTurn → Type 0
 IsSoundLimit t = IsCut t.keeping.operator × HoldsLimit t.keeping.operator (map (λ m. m.entries) t.keeping.lists.items) (limit_left t)
+
+-- it is the stage of the first rows, which looks into no list
+abbrev pub limit_turning : Turning LimitTurn
+limit_turning = record { form = λ t. record { makes = limit_makes t; named = [] }; left = limit_left; sound = IsSoundLimit }
 
 pub limit_positioned : (t : LimitTurn) → IsSoundLimit t → IsPositioned (limit_left t)
 limit_positioned t sound = positioned_held t.keeping.operator (map (λ m. m.entries) t.keeping.lists.items) (limit_left t) sound.1

@@ -2,6 +2,7 @@
 use Rattle.std.specs.Prelude.{◌≡◌, List, [], map}
 use Rattle.dv_change.specs.Changes.{Positioned}
 use Rattle.dv_change.specs.Inner.Changes.{IsPositioned}
+use Rattle.dv_change.specs.Inner.Turning.{Turning}
 use Rattle.dv_flow.specs.declared.by_row.RowOperator.{RowOperator}
 use Rattle.dv_flow.specs.declared.row_turn.RowTurn.{RowTurn}
 
@@ -22,3 +23,7 @@ module _ {S : Type 0} where
   -- they stand at exact positions, in their order
   abbrev pub IsSoundRows : RowTurn S → Type 0
   IsSoundRows t = HoldsRows t.keeping.operator (map (λ m. m.entries) t.keeping.lists.items) (rows_left t)
+
+  -- it is a stage that makes these rows, and looks into no list
+  abbrev pub rows_turning : (S → Positioned → Positioned) → Turning (RowTurn S)
+  rows_turning makes = record { form = λ t. record { makes = λ named rows. makes (rows_stage t) rows; named = [] }; left = rows_left; sound = IsSoundRows }

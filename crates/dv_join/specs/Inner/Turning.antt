@@ -9,6 +9,7 @@ use Rattle.dv_gather.specs.declared.lookup.Lookup.{Lookup}
 use Rattle.dv_gather.specs.Joining.{joined_by}
 use Rattle.dv_change.specs.Changes.{Positioned}
 use Rattle.dv_change.specs.Inner.Changes.{IsPositioned}
+use Rattle.dv_change.specs.Inner.Turning.{Turning}
 use Rattle.dv_join.specs.declared.lookup.LookupTurn.{LookupTurn}
 use Rattle.dv_join.specs.declared.operator.LookupOperator.{LookupOperator}
 use Rattle.dv_join.specs.Inner.Indexed.{IsJoinIndexOf}
@@ -59,3 +60,7 @@ lookup_makes t named rows = looked_up_at (lookup_kept t) rows (first_input named
 -- the rows of both sides stand at exact positions, in their order, and are indexed by their keys
 abbrev pub IsSoundJoin : LookupTurn → Type 0
 IsSoundJoin t = HoldsJoin t.keeping.operator (lookup_others t) (lookup_left t)
+
+-- it is the stage of the joined rows, which looks into the list
+abbrev pub lookup_turning : Turning LookupTurn
+lookup_turning = record { form = λ t. record { makes = lookup_makes t; named = lookup_others t }; left = lookup_left; sound = IsSoundJoin }

@@ -3,6 +3,7 @@ use Rattle.std.specs.Prelude.{◌≡◌, List, [], refl}
 use Rattle.std.specs.List.{AllByRecursion}
 use Rattle.dv_change.specs.Changes.{Positioned}
 use Rattle.dv_change.specs.Inner.Changes.{HaveOneLength, IsPositioned}
+use Rattle.dv_change.specs.Inner.Turning.{Turning}
 use Rattle.dv_tests_views.specs.declared.simple_turn.SimpleTurn.{SimpleTurn}
 use Rattle.dv_tests_views.specs.declared.simple_turn.SimpleTurn.TheVariants.{Limit, Match, Project, Sort, Unwind}
 use Rattle.dv_flow.specs.Inner.Limiting.{IsSoundLimit, limit_count, limit_empty, limit_even, limit_left, limit_makes, limit_ordered, limit_positioned}
@@ -36,6 +37,10 @@ IsSoundSimple (Project t) = IsSoundRows t
 IsSoundSimple (Unwind t) = IsSoundRows t
 IsSoundSimple (Sort t) = IsSoundRows t
 IsSoundSimple (Limit t) = IsSoundLimit t
+
+-- it is the stage inside, which looks into no list
+abbrev pub simple_turning : Turning SimpleTurn
+simple_turning = record { form = λ t. record { makes = simple_makes t; named = [] }; left = simple_left; sound = IsSoundSimple }
 
 pub simple_positioned : (t : SimpleTurn) → IsSoundSimple t → IsPositioned (simple_left t) × AllByRecursion (λ (rows : Positioned). IsPositioned rows) []
 simple_positioned (Match t) sound = (sound.positioned, tt)

@@ -1,26 +1,28 @@
 -- What the turn has taken in with the changes to come is what it takes in of all.
-use Rattle.std.proofs.Common.{◌≡◌, ◌≤◌, ◌++◌, ◌+◌, length}
+use Rattle.std.proofs.Common.{◌≡◌, ◌≤◌, ◌++◌}
 use Rattle.std.specs.Vec.Iter.{into_iter_items}
 use Rattle.dv_change.specs.Inner.Beginning.{BeginsWith}
 use Rattle.dv_change.specs.Changes.{with_changes}
+use Rattle.dv_change.specs.Inner.Linked.{changes_of_one, work_of_one}
+use Rattle.dv_change.specs.Inner.Work.{stage_work}
 use Rattle.dv_change.specs.Raised.{raised}
-use Rattle.dv_change.specs.Work.{handed}
+use Rattle.dv_change.specs.Work.{handed, stage_rows}
 use Rattle.dv_change.proofs.chain.feed.Given as goal
 
 abbrev pub invariant-changes : goal.invariant-changes
 invariant-changes g l =
-    let f = g.T.Turn.makes l.fn.turn (g.T.Turn.others l.fn.turn) in
+    let turning = g.T.Turn.turning in
+    let f = stage_rows (turning.form l.fn.turn) in
     let rest = into_iter_items l.change-iterator in
     let all = l.fn.changes.items in
-    let now = g.T.Turn.left l.turn in
-    let first = g.T.Turn.left l.fn.turn in
+    let now = turning.left l.turn in
     record {
-      sound : g.T.Turn.sound l.turn;
-      makes : g.T.Turn.makes l.turn ≡ g.T.Turn.makes l.fn.turn;
-      others : g.T.Turn.others l.turn ≡ g.T.Turn.others l.fn.turn;
-      left : with_changes now rest ≡ with_changes first all;
-      out : l.out.items ++ handed f now rest ≡ l.fn.out.items ++ handed f first all;
-      ticks : raised l.ticks (length rest + length (handed f now rest)) ≡ raised l.fn.ticks (length all + length (handed f first all));
+      sound : turning.sound l.turn;
+      makes : (turning.form l.turn).makes ≡ (turning.form l.fn.turn).makes;
+      others : (turning.form l.turn).named ≡ (turning.form l.fn.turn).named;
+      left : with_changes now rest ≡ with_changes (turning.left l.fn.turn) all;
+      out : l.out.items ++ handed f now rest ≡ l.fn.out.items ++ changes_of_one turning all l.fn.turn;
+      ticks : raised l.ticks (stage_work f now rest) ≡ raised l.fn.ticks (work_of_one turning all l.fn.turn);
       begins : BeginsWith l.out.items l.fn.out.items;
       no_fewer : l.fn.ticks ≤ l.ticks;
     }

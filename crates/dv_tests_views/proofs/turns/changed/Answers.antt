@@ -5,4 +5,4 @@ use Rattle.dv_tests_views.proofs.Chains.{linked_first}
 use Rattle.dv_tests_views.proofs.turns.changed.Goals as goal
 
 pub returns : goal.returns
-returns g c = record { linked = linked_first g.T.Turn.left g.T.Turn.others g.T.Turn.makes g.T.Turn.sound c.change.new.self (left_after Left c.args.change (first_left g.T.Turn.left g.T.Turn.others g.T.Turn.makes g.T.Turn.sound c.args.chain)) c.in_ok-change.ensures.linked }
+returns g c = record { linked = linked_first g.T.Turn.turning c.change.new.self (left_after Left c.args.change (first_left g.T.Turn.turning c.args.chain)) c.in_ok-change.ensures.linked }
