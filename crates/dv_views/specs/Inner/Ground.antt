@@ -16,11 +16,11 @@ use Rattle.dv_views.specs.declared.making.Ground.{Ground}
 
 -- the views that are older than the one that is made
 abbrev pub views_below : Ground → Views
-views_below ground = views_before ground.place ground.views.now.entries
+views_below g = views_before g.place g.views.now.entries
 
 -- what collections hold
 abbrev pub lists_below : Ground → Lists
-lists_below ground = lists_of ground.sources.now
+lists_below g = lists_of g.sources.now
 
 abbrev pub outs_of_mark : ViewMark → Positioned
 outs_of_mark (live kept) = kept.rows
