@@ -1,13 +1,10 @@
-//! Tests of what needs no store: values, paths, updates, pipelines and indexes, files, and the program's words. They are of
-//! what neither a contract nor a script says: that calls which no script reaches have an answer where memory is ample, that
-//! another library agrees, and what is too large for a script. Tests stand in crates of their own, since a crate with tests
-//! is proved twice. Worked examples are `docd`'s data.
+//! Tests of what needs no store: values, paths, updates, files, and the program's words. They are of what neither a contract
+//! nor a script says: that another library agrees, and what is too large for a script. Tests stand in crates of their own, since
+//! a crate with tests is proved twice. Worked examples are `docd`'s data.
 #![tactic(auto)]
 
 #[cfg(test)]
 mod bson;
-#[cfg(test)]
-mod copies;
 #[cfg(test)]
 mod far;
 #[cfg(test)]

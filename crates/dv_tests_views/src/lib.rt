@@ -1,9 +1,8 @@
-//! Tests of changes, of stages that are kept by them, and of views, of what neither a contract nor a script says. Worked
+//! Tests of stages that are kept by changes, and of views, of what neither a contract nor a script says. Worked
 //! examples are `docd`'s data.
 #![tactic(auto)]
 
 #[cfg(test)]
-mod changes;
 pub mod simple_turn;
 #[cfg(test)]
 mod told_and_kept;
