@@ -1,27 +1,21 @@
 -- Connections that are served at once: one comes, one has a turn, one is closed.
-use Rattle.std.proofs.Common.{◌≡◌, ◌≢◌, ℕ, zero, suc, ◌+◌, ◌<◌, ◌≤◌, List, [], ◌∷◌, ◌++◌, Option, Some, None, length, get_or, set, refl, sym, ap, subst, ◌∙◌, append_assoc, append-nil, arith, inl, inr, length-append, length-set}
+use Rattle.std.proofs.Common.{◌≡◌, ◌≢◌, ℕ, suc, ◌+◌, ◌<◌, ◌≤◌, List, [], ◌∷◌, ◌++◌, Option, Some, None, length, get_or, set, refl, sym, ap, subst, ◌∙◌, append_assoc, arith, length-append, length-set}
 use Rattle.std.proofs.KnownBytes.{Consumes-nil, Consumes-trans, Keeps-refl}
+use Rattle.std.proofs.lemmas.List.Sorted.{IsPermutation-refl}
 use Rattle.std.specs.List.{AllByRecursion, remove}
 use Rattle.dv_host.specs.Channel.{Gains}
 use Rattle.dv_host.specs.declared.link.Fate.{Fate}
 use Rattle.dv_host.specs.declared.link.Fate.TheVariants.{Failed}
 use Rattle.dv_host.specs.Outside.{Accepts, Closed, Closes, HasTaken}
-use Rattle.dv_host.specs.Schedule.{Step, opened, ended, PlaysBy, heard, answers, may_wait, closing, unsent_behind, closing_behind, IsPieceOf, IsBelow, IsFair, open_behind}
+use Rattle.dv_host.specs.Schedule.{Step, opened, ended, PlaysBy, session_in, openings, heard, answers, may_wait, closing, unsent_behind, closing_behind, IsOpen, IsPieceOf, IsBelow, IsFair, open_behind}
 use Rattle.dv_host.specs.View.{Seen}
-use Rattle.dv_host.specs.Host.{Accepted, AreNumbered, Close, Come, Finished, refused, served, left_of, taken_of, fate_of, Follows, Hosts, IsApart, IsBehind, IsIn, Moves, Settles, WasServed}
-use Rattle.dv_host.proofs.Schedules.{all_joined, all_weaker, plays_joined, heard_joined, answers_joined, heard_other, answers_other, behind_joined, behind_other, behind_none, heard_none, answers_none, may_wait_le, pieces_below, pieces_fair, below_more, open_joined, few_joined, few_behind, pieces_open, pieces_few}
-use Rattle.dv_host.proofs.Links.{numbered_more, number_least, number_below, numbered_set, numbered_removed, all_removed, all_at, apart_set, apart_removed, length_removed}
+use Rattle.dv_host.specs.Host.{Accepted, AreNumbered, Close, Come, Finished, refused, served, sessions_of, left_of, taken_of, fate_of, Follows, Hosts, IsApart, IsBehind, IsIn, Moves, Settles, WasServed}
+use Rattle.dv_host.proofs.Schedules.{all_joined, all_weaker, plays_joined, heard_joined, answers_joined, behind_joined, may_wait_le, pieces_below, pieces_fair, below_more, open_joined, few_joined, few_behind, pieces_open, pieces_few}
+use Rattle.dv_host.proofs.Lives.{all_fed, all_open_still, ascend_more, ascend_still, end_of_one, ends_so, opened_of_one, openings_more, openings_pieces, openings_same, opens_so, other_end, other_start, pieces_of_one, sessions_within, shared_closed, shared_opened, shared_refused, shared_set}
+use Rattle.dv_host.proofs.Links.{numbered_more, number_below, numbered_set, numbered_removed, all_removed, all_at, apart_set, apart_removed, length_removed}
+use Rattle.dv_host.proofs.Silent.{in_left, in_last, IsSilent, silent_none, silent_opened, silent_ended, follows_still, IsQuiet, all_live_still, all_served_still, live_moved, served_moved}
 
 -- ---- lists that grow
-
-pub in_left : {A : Type 0} (x : A) (xs ys : List A) → IsIn x xs → IsIn x (xs ++ ys)
-in_left x [] ys h = absurd h
-in_left x (y ∷ xs) ys (inl e) = inl e
-in_left x (y ∷ xs) ys (inr h) = inr (in_left x xs ys h)
-
-pub in_last : {A : Type 0} (x : A) (xs : List A) → IsIn x (xs ++ x ∷ [])
-in_last x [] = inl refl
-in_last x (y ∷ xs) = inr (in_last x xs)
 
 come_more : (old mid new : Option (List (List ℕ))) (all : List Accepted) (next : Accepted) → Come old all mid → Accepts mid next.input new → Come old (all ++ next ∷ []) new
 come_more old mid new [] next come accepts = (new, subst (λ c. Accepts c next.input new) come accepts, refl)
@@ -34,106 +28,8 @@ close_more old mid new (first ∷ others) next close closes = (close.0, close.1,
 plays_more : {W : Type 0} (Happens : W → Step → W → Type 0) (old mid new : W) (steps : List Step) (step : Step) → PlaysBy Happens old steps mid → Happens mid step new → PlaysBy Happens old (steps ++ step ∷ []) new
 plays_more Happens old mid new steps step plays happens = plays_joined Happens old mid new steps (step ∷ []) plays (new, happens, refl)
 
--- ---- one connection, while others have turns
+-- ---- one connection has a turn
 
--- these steps bring nothing to a session
-pub record IsSilent (session : ℕ) (steps : List Step) : Type 0 where
-  pub no_bytes : heard session steps ≡ []
-  pub no_answers : answers session steps ≡ []
-  pub no_waits : (n : ℕ) → may_wait session n steps ≡ n
-  pub no_fault : (shut : Option ℕ) → closing session shut steps ≡ shut
-
-silent_other : (session other : ℕ) → other ≢ session → (steps : List Step) → AllByRecursion (IsPieceOf other) steps → IsSilent session steps
-silent_other session other apart steps own = record {
-  no_bytes = heard_other session other apart steps own;
-  no_answers = answers_other session other apart steps own;
-  no_waits = λ n. behind_other unsent_behind session other apart steps own n;
-  no_fault = λ shut. behind_other closing_behind session other apart steps own shut;
-}
-
-silent_none : (session : ℕ) (steps : List Step) → AllByRecursion (IsBelow session) steps → IsSilent session steps
-silent_none session steps below = record {
-  no_bytes = heard_none session steps below;
-  no_answers = answers_none session steps below;
-  no_waits = λ n. behind_none unsent_behind session steps below n;
-  no_fault = λ shut. behind_none closing_behind session steps below shut;
-}
-
-silent_opened : (session : ℕ) (number : Option ℕ) → IsSilent session (opened number ∷ [])
-silent_opened session number = record { no_bytes = refl; no_answers = refl; no_waits = λ n. refl; no_fault = λ shut. refl }
-
-silent_ended : (session other : ℕ) → IsSilent session (ended other ∷ [])
-silent_ended session other = record { no_bytes = refl; no_answers = refl; no_waits = λ n. refl; no_fault = λ shut. refl }
-
-follows_still : (steps more : List Step) (accepted among : List Accepted) (link : Seen) → IsSilent link.session more → ((x : Accepted) → IsIn x accepted → IsIn x among)
-    → Follows steps accepted link → Follows (steps ++ more) among link
-follows_still steps more accepted among link silent within f =
-    let n = link.session in
-    let no_bytes : heard n (steps ++ more) ≡ heard n steps = heard_joined n steps more ∙ ap (λ (b : List ℕ). heard n steps ++ b) silent.no_bytes ∙ append-nil (heard n steps) in
-    let no_answers : answers n (steps ++ more) ≡ answers n steps = answers_joined n steps more ∙ ap (λ (b : List ℕ). answers n steps ++ b) silent.no_answers ∙ append-nil (answers n steps) in
-    let no_waits : may_wait n 0 (steps ++ more) ≡ may_wait n 0 steps = behind_joined unsent_behind n 0 steps more ∙ silent.no_waits (may_wait n 0 steps) in
-    record {
-      input = f.input;
-      known = within _ f.known;
-      read = f.read;
-      consumed = f.consumed;
-      fed_so = f.fed_so ∙ ap (λ (b : List ℕ). b ++ link.pending) (sym no_bytes);
-      given = f.given;
-      took = f.took;
-      answered = no_answers ∙ f.answered;
-      few = omega (arith, f.few, no_waits);
-      shut = f.shut ∙ sym (behind_joined closing_behind n None steps more ∙ silent.no_fault (closing n None steps));
-    }
-
-served_still : (steps more : List Step) (accepted among : List Accepted) (f : Finished) → ((link : Seen) (fate : Fate) → f ≡ served link fate → IsSilent link.session more) → ((x : Accepted) → IsIn x accepted → IsIn x among)
-    → WasServed steps accepted f → WasServed (steps ++ more) among f
-served_still steps more accepted among (refused left taken) silent within was = (was.0, within _ was.1, was.2, was.3)
-served_still steps more accepted among (served link fate) silent within was =
-    (follows_still steps more accepted among link (silent link fate refl) within was.0, was.1, in_left (ended link.session) steps more was.2)
-
--- steps of no session's bytes
-module _ (steps more : List Step) (silent : (s : ℕ) → IsSilent s more) (accepted among : List Accepted) (within : (x : Accepted) → IsIn x accepted → IsIn x among) where
-  all_live_still : (links : List Seen) → AllByRecursion (Follows steps accepted) links → AllByRecursion (Follows (steps ++ more) among) links
-  all_live_still links live = all_weaker (Follows steps accepted) (Follows (steps ++ more) among) (λ l f. follows_still steps more accepted among l (silent l.session) within f) links live
-
-  all_served_still : (finished : List Finished) → AllByRecursion (WasServed steps accepted) finished → AllByRecursion (WasServed (steps ++ more) among) finished
-  all_served_still finished were = all_weaker (WasServed steps accepted) (WasServed (steps ++ more) among) (λ f s. served_still steps more accepted among f (λ link fate e. silent link.session) within s) finished were
-
--- pieces of one session
-module _ (steps more : List Step) (accepted : List Accepted) (now : Seen) (own : AllByRecursion (IsPieceOf now.session) more) (follows : Follows (steps ++ more) accepted now) where
-  live_still : (l : Seen) → now.session ≢ l.session → Follows steps accepted l → Follows (steps ++ more) accepted l
-  live_still l apart f = follows_still steps more accepted accepted l (silent_other l.session now.session apart more own) (λ x h. h) f
-
-  live_behind : (first : ℕ) (links : List Seen) (next : ℕ) → AreNumbered first links next → now.session < first → AllByRecursion (Follows steps accepted) links → AllByRecursion (Follows (steps ++ more) accepted) links
-  live_behind first [] next numbered lt live = live
-  live_behind first (l ∷ ls) next numbered lt live =
-      let ne : now.session ≢ l.session = (λ e. omega (arith, e, lt, numbered.0)) in
-      (live_still l ne live.0, live_behind (suc l.session) ls next numbered.1 (omega (arith, lt, numbered.0)) live.1)
-
-  live_moved : (first : ℕ) (links : List Seen) (next k : ℕ) (d : Seen) → AreNumbered first links next → k < length links → now.session ≡ (get_or links k d).session
-      → AllByRecursion (Follows steps accepted) links → AllByRecursion (Follows (steps ++ more) accepted) (set links k now)
-  live_moved first [] next k d numbered lt is live = absurd (omega arith)
-  live_moved first (l ∷ ls) next zero d numbered lt is live = (follows, live_behind (suc l.session) ls next numbered.1 (omega (arith, is)) live.1)
-  live_moved first (l ∷ ls) next (suc k) d numbered lt is live =
-      let least = number_least (suc l.session) ls next k d numbered.1 (omega arith) in
-      let ne : now.session ≢ l.session = (λ e. omega (arith, e, is, least)) in
-      (live_still l ne live.0, live_moved (suc l.session) ls next k d numbered.1 (omega arith) is live.1)
-
-  one_served : (links : List Seen) (k : ℕ) (d : Seen) → k < length links → now.session ≡ (get_or links k d).session → (f : Finished) → IsApart links f → WasServed steps accepted f → WasServed (steps ++ more) accepted f
-  one_served links k d lt is (refused left taken) apart was = served_still steps more accepted accepted (refused left taken) (λ link fate e. absurd cc) (λ x h. h) was
-  one_served links k d lt is (served link fate) apart was =
-      let other : now.session ≢ link.session = (λ e. all_at (λ l. link.session ≢ l.session) links k d lt apart (sym e ∙ is)) in (
-        follows_still steps more accepted accepted link (silent_other link.session now.session other more own) (λ x h. h) was.0,
-        was.1,
-        in_left (ended link.session) steps more was.2,
-      )
-
-  served_moved : (links : List Seen) (k : ℕ) (d : Seen) → k < length links → now.session ≡ (get_or links k d).session → (finished : List Finished) → AllByRecursion (IsApart links) finished
-      → AllByRecursion (WasServed steps accepted) finished → AllByRecursion (WasServed (steps ++ more) accepted) finished
-  served_moved links k d lt is [] apart were = were
-  served_moved links k d lt is (f ∷ fs) apart were = (one_served links k d lt is f apart.0 were.0, served_moved links k d lt is fs apart.1 were.1)
-
--- a connection has a turn
 taken_more : (before after : Option (List ℕ)) (first more : List ℕ) → HasTaken before first → Gains before after more → HasTaken after (first ++ more)
 taken_more None None first more has gains = tt
 taken_more None (Some y) first more has gains = absurd gains
@@ -185,6 +81,25 @@ apart_with : (links : List Seen) (k : ℕ) (d now : Seen) → now.session ≡ (g
 apart_with links k d now is (refused left taken) apart = tt
 apart_with links k d now is (served was fate) apart = apart_set (λ n. was.session ≢ n) links k d now is apart
 
+-- a session that ends, is opened or is refused is none of a connection that was closed before
+quiet_end : (links : List Seen) (k : ℕ) (d : Seen) → k < length links → (session : ℕ) → session ≡ (get_or links k d).session → (f : Finished) → IsApart links f → IsQuiet (ended session ∷ []) f
+quiet_end links k d lt session is (refused left taken) apart = tt
+quiet_end links k d lt session is (served link fate) apart =
+    let other : session ≢ link.session = (λ e. all_at (λ l. link.session ≢ l.session) links k d lt apart (sym e ∙ is)) in (silent_ended link.session session, other_end link.session session other)
+
+quiet_start : (next : ℕ) (f : Finished) → IsBehind next f → IsQuiet (opened (Some next) ∷ []) f
+quiet_start next (refused left taken) gone = tt
+quiet_start next (served link fate) gone =
+    let other : next ≢ link.session = (λ e. omega (arith, e, gone)) in (silent_opened link.session (Some next), other_start link.session next other)
+
+quiet_refusal : (next : ℕ) (f : Finished) → IsBehind next f → IsQuiet (opened None ∷ []) f
+quiet_refusal next (refused left taken) gone = tt
+quiet_refusal next (served link fate) gone = (silent_opened link.session None, refl)
+
+numbered_low : (first : ℕ) (links : List Seen) (next : ℕ) → AreNumbered first links next → AllByRecursion (λ l. l.session < next) links
+numbered_low first [] next numbered = tt
+numbered_low first (l ∷ ls) next numbered = (number_below first (l ∷ ls) next 0 l numbered (omega arith), numbered_low (suc l.session) ls next numbered.1)
+
 -- at the beginning nothing has come
 pub begins : {W : Type 0} (Happens : W → Step → W → Type 0) (coming : Option (List (List ℕ))) (closed : Option (List Closed)) (world : W) (next : ℕ) → Hosts (PlaysBy Happens) coming coming closed closed world world next 0 []
 begins Happens coming closed world next = record {
@@ -198,8 +113,10 @@ begins Happens coming closed world next = record {
   come = refl;
   finished = [];
   close = refl;
+  sessions = record { opened_so = refl; ascend = λ i j d lt le. absurd (omega (arith, le)); once_each = IsPermutation-refl []; no_others = tt };
   counted = refl;
   live = tt;
+  stay_open = tt;
   were_served = tt;
   numbered = omega arith;
   below = tt;
@@ -244,8 +161,16 @@ module _ {W : Type 0} (Happens : W → Step → W → Type 0) (coming_old coming
         come = hosts.come;
         finished = hosts.finished;
         close = hosts.close;
+        sessions = record {
+          opened_so = openings_same hosts.steps moves.steps hosts.accepted (openings_pieces link.session moves.steps own) hosts.sessions.opened_so;
+          ascend = hosts.sessions.ascend;
+          once_each = shared_set (sessions_of hosts.accepted) hosts.finished links k d link session_is hosts.sessions.once_each;
+          no_others = all_joined (λ step. IsIn (session_in step) (sessions_of hosts.accepted)) hosts.steps moves.steps hosts.sessions.no_others
+              (pieces_of_one link.session follows_now.input hosts.accepted follows_now.known moves.steps own);
+        };
         counted = hosts.counted ∙ ap (λ (n : ℕ). length hosts.finished + n) (sym (length-set links k link));
         live = live_moved hosts.steps moves.steps hosts.accepted link own follows_now 0 links next k d hosts.numbered lt session_is hosts.live;
+        stay_open = apart_set (λ n. IsOpen (hosts.steps ++ moves.steps) n) links k d link session_is (all_fed link.session hosts.steps moves.steps links own hosts.stay_open);
         were_served = served_moved hosts.steps moves.steps hosts.accepted link own follows_now links k d lt session_is hosts.finished hosts.apart hosts.were_served;
         numbered = numbered_set 0 links next k d link session_is hosts.numbered;
         below = all_joined (IsBelow next) hosts.steps moves.steps hosts.below (pieces_below link.session next below moves.steps own);
@@ -265,6 +190,7 @@ module _ {W : Type 0} (Happens : W → Step → W → Type 0) (coming_old coming
       let session_is : was.session ≡ (get_or links k d).session = ap (λ (s : Seen). s.session) is in
       let below : was.session < next = subst (λ (n : ℕ). n < next) (sym session_is) (number_below 0 links next k d hosts.numbered lt) in
       let others = subst (λ (n : ℕ). AllByRecursion (λ l. n ≢ l.session) (remove links k)) (sym session_is) (apart_removed 0 links next k d hosts.numbered lt) in
+      let was_open : IsOpen hosts.steps was.session = subst (λ (n : ℕ). IsOpen hosts.steps n) (sym session_is) (all_at (λ l. IsOpen hosts.steps l.session) links k d lt hosts.stay_open) in
       let shorter = length_removed links k lt in
       subst (λ (n : ℕ). Hosts (PlaysBy Happens) coming_old coming_new closed_old closed_new old new n count (remove links k)) (sym same) (record {
         steps = hosts.steps ++ more;
@@ -277,11 +203,19 @@ module _ {W : Type 0} (Happens : W → Step → W → Type 0) (coming_old coming
         come = subst (Come coming_old hosts.accepted) (sym same_coming) hosts.come;
         finished = hosts.finished ++ last ∷ [];
         close = close_more closed_old closed closed_new hosts.finished last hosts.close closes;
+        sessions = record {
+          opened_so = openings_same hosts.steps more hosts.accepted refl hosts.sessions.opened_so;
+          ascend = hosts.sessions.ascend;
+          once_each = shared_closed (sessions_of hosts.accepted) hosts.finished links k d was fate lt is hosts.sessions.once_each;
+          no_others = all_joined (λ step. IsIn (session_in step) (sessions_of hosts.accepted)) hosts.steps more hosts.sessions.no_others (end_of_one was.session follows.input hosts.accepted follows.known, tt);
+        };
         counted = omega (arith, hosts.counted, length-append hosts.finished (last ∷ []), shorter);
         live = all_removed (Follows (hosts.steps ++ more) hosts.accepted) links k (all_live_still hosts.steps more silent hosts.accepted hosts.accepted (λ x h. h) links hosts.live);
+        stay_open = all_open_still (λ n. was.session ≢ n) hosts.steps more (λ s other. other_end s was.session other) (remove links k) others (all_removed (λ l. IsOpen hosts.steps l.session) links k hosts.stay_open);
         were_served = all_joined (WasServed (hosts.steps ++ more) hosts.accepted) hosts.finished (last ∷ [])
-            (all_served_still hosts.steps more silent hosts.accepted hosts.accepted (λ x h. h) hosts.finished hosts.were_served)
-            ((follows_still hosts.steps more hosts.accepted hosts.accepted was (silent was.session) (λ x h. h) follows, settles, in_last (ended was.session) hosts.steps), tt);
+            (all_served_still hosts.steps more silent hosts.accepted hosts.accepted (λ x h. h) hosts.finished
+            (all_weaker (IsApart links) (IsQuiet more) (λ f a. quiet_end links k d lt was.session session_is f a) hosts.finished hosts.apart) hosts.were_served)
+            ((follows_still hosts.steps more hosts.accepted hosts.accepted was (silent was.session) (λ x h. h) follows, settles, ends_so was.session hosts.steps was_open), tt);
         numbered = numbered_removed 0 links next k hosts.numbered;
         below = all_joined (IsBelow next) hosts.steps more hosts.below (below, tt);
         gone = all_joined (IsBehind next) hosts.finished (last ∷ []) hosts.gone (below, tt);
@@ -324,12 +258,23 @@ module _ {W : Type 0} (Happens : W → Step → W → Type 0) (coming_old coming
         come = come_more coming_old coming coming_new hosts.accepted last hosts.come accepts;
         finished = hosts.finished;
         close = subst (Close closed_old hosts.finished) (sym same_closed) hosts.close;
+        sessions = record {
+          opened_so = subst (λ (n : ℕ). openings (hosts.steps ++ opened (Some n) ∷ []) ≡ sessions_of (hosts.accepted ++ last ∷ [])) is (openings_more hosts.steps hosts.accepted last hosts.sessions.opened_so);
+          ascend = ascend_more hosts.steps next hosts.accepted last (ap (λ (n : ℕ). Some n) is) hosts.below hosts.sessions.opened_so hosts.sessions.ascend;
+          once_each = shared_opened hosts.accepted last hosts.finished links link refl hosts.sessions.once_each;
+          no_others = subst (λ (n : ℕ). AllByRecursion (λ step. IsIn (session_in step) (sessions_of (hosts.accepted ++ last ∷ []))) (hosts.steps ++ opened (Some n) ∷ [])) is
+              (opened_of_one hosts.steps hosts.accepted (hosts.accepted ++ last ∷ []) last (sessions_within hosts.accepted (last ∷ [])) (in_last last hosts.accepted) hosts.sessions.no_others);
+        };
         counted = omega (arith, hosts.counted, length-append hosts.accepted (last ∷ []), length-append links (link ∷ []));
         live = all_joined (Follows (hosts.steps ++ more) (hosts.accepted ++ last ∷ [])) links (link ∷ []) (all_live_still hosts.steps more silent hosts.accepted (hosts.accepted ++ last ∷ []) within links hosts.live)
             (follows_still hosts.steps more (hosts.accepted ++ last ∷ []) (hosts.accepted ++ last ∷ []) link (silent n) (λ x h. h) follows, tt);
-        were_served = all_served_still hosts.steps more silent hosts.accepted (hosts.accepted ++ last ∷ []) within hosts.finished hosts.were_served;
+        stay_open = all_joined (λ l. IsOpen (hosts.steps ++ more) l.session) links (link ∷ [])
+            (all_open_still (λ n. n < next) hosts.steps more (λ s lt. other_start s next (λ e. omega (arith, e, lt))) links (numbered_low 0 links next hosts.numbered) hosts.stay_open)
+            (subst (λ (m : ℕ). IsOpen (hosts.steps ++ more) m) (sym is) (opens_so next hosts.steps hosts.below), tt);
+        were_served = all_served_still hosts.steps more silent hosts.accepted (hosts.accepted ++ last ∷ []) within hosts.finished
+            (all_weaker (IsBehind next) (IsQuiet more) (λ f h. quiet_start next f h) hosts.finished hosts.gone) hosts.were_served;
         numbered = numbered_more 0 links next link is hosts.numbered;
-        below = all_joined (IsBelow (next + 1)) hosts.steps more (below_more next hosts.steps hosts.below) (tt, tt);
+        below = all_joined (IsBelow (next + 1)) hosts.steps more (below_more next hosts.steps hosts.below) (omega arith, tt);
         gone = all_weaker (IsBehind next) (IsBehind (next + 1)) (λ f h. behind_more next f h) hosts.finished hosts.gone;
         apart = all_apart links link next is hosts.finished hosts.apart hosts.gone;
       })
@@ -356,10 +301,18 @@ module _ {W : Type 0} (Happens : W → Step → W → Type 0) (coming_old coming
         come = come_more coming_old coming coming_new hosts.accepted last hosts.come accepts;
         finished = hosts.finished ++ gone_one ∷ [];
         close = close_more closed_old closed closed_new hosts.finished gone_one hosts.close closes;
+        sessions = record {
+          opened_so = openings_more hosts.steps hosts.accepted last hosts.sessions.opened_so;
+          ascend = ascend_still hosts.accepted last refl hosts.sessions.ascend;
+          once_each = shared_refused hosts.accepted last hosts.finished left taken links refl hosts.sessions.once_each;
+          no_others = opened_of_one hosts.steps hosts.accepted (hosts.accepted ++ last ∷ []) last (sessions_within hosts.accepted (last ∷ [])) (in_last last hosts.accepted) hosts.sessions.no_others;
+        };
         counted = omega (arith, hosts.counted, length-append hosts.accepted (last ∷ []), length-append hosts.finished (gone_one ∷ []));
         live = all_live_still hosts.steps more silent hosts.accepted (hosts.accepted ++ last ∷ []) within links hosts.live;
+        stay_open = all_open_still (λ n. n < next) hosts.steps more (λ s lt. refl) links (numbered_low 0 links next hosts.numbered) hosts.stay_open;
         were_served = all_joined (WasServed (hosts.steps ++ more) (hosts.accepted ++ last ∷ [])) hosts.finished (gone_one ∷ [])
-            (all_served_still hosts.steps more silent hosts.accepted (hosts.accepted ++ last ∷ []) within hosts.finished hosts.were_served)
+            (all_served_still hosts.steps more silent hosts.accepted (hosts.accepted ++ last ∷ []) within hosts.finished
+            (all_weaker (IsBehind next) (IsQuiet more) (λ f h. quiet_refusal next f h) hosts.finished hosts.gone) hosts.were_served)
             ((left, in_last last hosts.accepted, Keeps-refl left, has), tt);
         numbered = hosts.numbered;
         below = all_joined (IsBelow next) hosts.steps more hosts.below (tt, tt);

@@ -2,5 +2,8 @@ pub mod Schedules
 pub mod Giving
 pub mod Moving
 pub mod Links
+pub mod Lives
+pub mod Silent
 pub mod All
 pub mod Linked
+pub mod Fates

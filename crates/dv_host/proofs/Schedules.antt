@@ -1,5 +1,5 @@
 -- Schedules, and what one session has of them.
-use Rattle.std.proofs.Common.{◌≡◌, ◌≢◌, ℕ, ◌+◌, ◌<◌, ◌≤◌, Bool, true, false, eqb, List, [], ◌∷◌, ◌++◌, refl, sym, ap, subst, ◌∙◌, append_assoc, append-nil, arith, if◌then◌else◌}
+use Rattle.std.proofs.Common.{◌≡◌, ◌≢◌, ℕ, ◌+◌, ◌<◌, ◌≤◌, Bool, true, false, eqb, List, [], ◌∷◌, ◌++◌, Some, None, refl, sym, ap, subst, ◌∙◌, append_assoc, append-nil, arith, if◌then◌else◌}
 use Rattle.std.specs.List.{AllByRecursion}
 use Rattle.std.proofs.lemmas.Bool.{eq-eqb, ne_eqb}
 use Rattle.dv_host.specs.declared.sessions.Fed.{Fed}
@@ -117,7 +117,8 @@ pieces_fair session (ended s ∷ steps) own = absurd own.0
 -- the next number is more
 pub below_more : (next : ℕ) (steps : List Step) → AllByRecursion (IsBelow next) steps → AllByRecursion (IsBelow (next + 1)) steps
 below_more next [] below = below
-below_more next (opened result ∷ steps) below = (below.0, below_more next steps below.1)
+below_more next (opened None ∷ steps) below = (tt, below_more next steps below.1)
+below_more next (opened (Some s) ∷ steps) below = (omega (arith, below.0), below_more next steps below.1)
 below_more next (fed s piece bytes told ∷ steps) below = (omega (arith, below.0), below_more next steps below.1)
 below_more next (ended s ∷ steps) below = (omega (arith, below.0), below_more next steps below.1)
 

@@ -1,10 +1,11 @@
 -- Serving many connections at once.
-use Rattle.std.specs.Prelude.{◌≡◌, ◌≢◌, ℕ, suc, ◌<◌, ◌≤◌, ◌+◌, List, [], ◌∷◌, ◌++◌, length, Option, Some, None, ⊤, ◌⊎◌}
-use Rattle.std.specs.List.{AllByRecursion}
+use Rattle.std.specs.Prelude.{◌≡◌, ◌≢◌, ℕ, suc, ◌<◌, ◌≤◌, ◌+◌, List, [], ◌∷◌, ◌++◌, length, map, Option, Some, None, ⊤, ◌⊎◌}
+use Rattle.std.specs.List.{AllByRecursion, AllPairs, filter_map}
+use Rattle.std.specs.List.Sorted.{IsPermutation}
 use Rattle.std.specs.Io.KnownBytes.{Consumes, IsAtEnd, Keeps}
 use Rattle.dv_host.specs.Channel.{Gains}
 use Rattle.dv_host.specs.Outside.{Accepts, Closed, Closes, HasTaken}
-use Rattle.dv_host.specs.Schedule.{Step, ended, heard, answers, may_wait, closing, IsPieceOf, IsBelow, IsFair, StayFew, open_behind}
+use Rattle.dv_host.specs.Schedule.{Step, session_in, heard, answers, may_wait, closing, openings, HasEnded, IsOpen, IsPieceOf, IsBelow, IsFair, StayFew, open_behind}
 use Rattle.dv_host.specs.View.{Seen}
 use Rattle.dv_host.specs.declared.link.Fate.{Fate}
 use Rattle.dv_host.specs.declared.link.Fate.TheVariants as fates
@@ -41,12 +42,12 @@ pub record Moves {W : Type 0} (Plays : W → List Step → W → Type 0) (old ne
   pub few : length now.unsent ≤ may_wait was.session (length was.unsent) steps
   pub shut : now.closing ≡ closing was.session was.closing steps
 
--- what the end of a connection implies: after `Ended` and `Closed` all replies were taken; after `Ended` the whole input was read and
--- passed on; after `Closed` this fault closed the session
+-- what the end of a connection implies: unless it failed, all replies were taken; after `Closed` this fault closed the session; after
+-- `Ended` and `Full` none did, and all that was read was passed on; after `Ended` the whole input was read
 abbrev pub Settles : Fate → Seen → Type 0
-Settles fates.Ended link = IsAtEnd link.left × (link.unsent ≡ []) × (link.pending ≡ [])
+Settles fates.Ended link = IsAtEnd link.left × (link.unsent ≡ []) × (link.pending ≡ []) × (link.closing ≡ None)
 Settles (fates.Closed fault) link = (link.unsent ≡ []) × (link.closing ≡ Some fault)
-Settles fates.Full link = ⊤
+Settles fates.Full link = (link.unsent ≡ []) × (link.pending ≡ []) × (link.closing ≡ None)
 Settles fates.Failed link = ⊤
 
 -- what a step of serving a connection implies: nothing, unless it was the connection's end
@@ -67,6 +68,15 @@ pub record Accepted : Type 0 where
 pub data Finished : Type 0 where
   refused : Option (List ℕ) → Option (List ℕ) → Finished
   served : Seen → Fate → Finished
+
+-- the sessions of accepted connections; none for one that was refused
+abbrev pub sessions_of : List Accepted → List (Option ℕ)
+sessions_of accepted = map (λ one. one.session) accepted
+
+-- the session of a closed connection, if it had one
+abbrev pub session_at : Finished → Option ℕ
+session_at (refused left taken) = None
+session_at (served link fate) = Some link.session
 
 -- the bytes of a closed connection's input that were left
 abbrev pub left_of : Finished → Option (List ℕ)
@@ -113,10 +123,19 @@ pub record Follows (steps : List Step) (accepted : List Accepted) (link : Seen) 
   pub few : length link.unsent ≤ may_wait link.session 0 steps
   pub shut : link.closing ≡ closing link.session None steps
 
--- a closed connection had a session that has ended, or it had no session, and nothing was read from it and it took nothing
+-- a closed connection had a session, which was opened, received pieces of its bytes, and then ended; or it had no session, and nothing was
+-- read from it and it took nothing
 abbrev pub WasServed : List Step → List Accepted → Finished → Type 0
 WasServed steps accepted (refused left taken) = (input : Option (List ℕ)) × IsIn (record { session = None; input = input }) accepted × Keeps input left × HasTaken taken []
-WasServed steps accepted (served link fate) = Follows steps accepted link × Settles fate link × IsIn (ended link.session) steps
+WasServed steps accepted (served link fate) = Follows steps accepted link × Settles fate link × HasEnded steps link.session
+
+-- Each connection has a session of its own, or was refused one: those that were opened are those of the accepted connections, in order;
+-- their numbers ascend; each is that of exactly one connection, closed or open; and each step is of one of them.
+pub record HaveOwnSessions (steps : List Step) (accepted : List Accepted) (finished : List Finished) (links : List Seen) : Type 0 where
+  pub opened_so : openings steps ≡ sessions_of accepted
+  pub ascend : AllPairs (λ before later. before < later) (filter_map (λ one. one.session) accepted)
+  pub once_each : IsPermutation (sessions_of accepted) (map session_at finished ++ map (λ link. Some link.session) links)
+  pub no_others : AllByRecursion (λ step. IsIn (session_in step) (sessions_of accepted)) steps
 
 -- the sessions of open connections ascend, and are below the next number
 abbrev pub AreNumbered : ℕ → List Seen → ℕ → Type 0
@@ -138,7 +157,8 @@ abbrev pub most_open : ℕ
 most_open = 1000
 
 -- Connections arrived, each with a session of its own, and were closed, each after its session ended; these are open. What happened to
--- the sessions is a schedule: no piece is longer than 65,536 bytes, and at no time are more than 1,000 sessions open.
+-- the sessions is a schedule: each was opened, then received pieces of its connection's bytes, and then ended if that is closed. No piece
+-- is longer than 65,536 bytes, and at no time are more than 1,000 sessions open.
 pub record Hosts {W : Type 0} (Plays : W → List Step → W → Type 0) (coming_old coming_new : Option (List (List ℕ))) (closed_old closed_new : Option (List Closed)) (old new : W) (next count : ℕ) (links : List Seen) : Type 0 where
   pub steps : List Step
   pub played : Plays old steps new
@@ -150,8 +170,10 @@ pub record Hosts {W : Type 0} (Plays : W → List Step → W → Type 0) (coming
   pub come : Come coming_old accepted coming_new
   pub finished : List Finished
   pub close : Close closed_old finished closed_new
+  pub sessions : HaveOwnSessions steps accepted finished links
   pub counted : length accepted ≡ length finished + length links
   pub live : AllByRecursion (Follows steps accepted) links
+  pub stay_open : AllByRecursion (λ link. IsOpen steps link.session) links
   pub were_served : AllByRecursion (WasServed steps accepted) finished
   pub numbered : AreNumbered 0 links next
   pub below : AllByRecursion (IsBelow next) steps

@@ -1,5 +1,7 @@
 -- Schedules: what happens to sessions, one step after the other.
-use Rattle.std.specs.Prelude.{◌≡◌, ℕ, suc, ◌+◌, ◌-◌, ◌<◌, ◌≤◌, List, [], ◌∷◌, ◌++◌, length, Option, Some, None, ◌==◌, if◌then◌else◌, ⊤}
+use Rattle.std.specs.Prelude.{◌≡◌, ℕ, suc, ◌+◌, ◌-◌, ◌<◌, ◌≤◌, Bool, List, [], ◌∷◌, ◌++◌, length, Option, Some, None, ◌==◌, if◌then◌else◌, ⊤, IfSome}
+use Rattle.std.specs.List.{AllByRecursion, filter}
+use Rattle.std.specs.Option.{option_eq}
 use Rattle.dv_host.specs.declared.sessions.Fed.{Fed}
 use Rattle.dv_host.specs.declared.sessions.Fed.TheVariants.{Open, Closed, Unknown}
 
@@ -22,6 +24,20 @@ PlaysBy Happens old [] new = new ≡ old
 PlaysBy {W} Happens old (step ∷ steps) new = (mid : W) × Happens old step mid × PlaysBy Happens mid steps new
 
 -- ---- the steps of one session
+
+-- the session of a step; none if it was refused
+abbrev pub session_in : Step → Option ℕ
+session_in (opened result) = result
+session_in (fed session piece bytes told) = Some session
+session_in (ended session) = Some session
+
+-- whether it is a step of this session
+abbrev pub is_step_of : ℕ → Step → Bool
+is_step_of session step = option_eq (λ a b. a == b) (session_in step) (Some session)
+
+-- the steps of a session, in order
+abbrev pub steps_of : ℕ → List Step → List Step
+steps_of session steps = filter (is_step_of session) steps
 
 -- the bytes that arrive from a session in a step
 abbrev pub heard_in : ℕ → Step → List ℕ
@@ -95,11 +111,28 @@ IsPieceOf session (opened result) = ⊥
 IsPieceOf session (fed other piece bytes told) = (other ≡ session) × (length piece ≤ longest_piece)
 IsPieceOf session (ended other) = ⊥
 
+-- a session is open: it was opened, and then only pieces of its bytes arrived
+pub record IsOpen (steps : List Step) (session : ℕ) : Type 0 where
+  pub pieces : List Step
+  pub are_pieces : AllByRecursion (IsPieceOf session) pieces
+  pub in_order : steps_of session steps ≡ opened (Some session) ∷ pieces
+
+-- a session has ended: it was opened, then only pieces of its bytes arrived, and then it ended, and nothing after that
+pub record HasEnded (steps : List Step) (session : ℕ) : Type 0 where
+  pub pieces : List Step
+  pub are_pieces : AllByRecursion (IsPieceOf session) pieces
+  pub in_order : steps_of session steps ≡ opened (Some session) ∷ pieces ++ ended session ∷ []
+
+-- the result of each opening of a session, in order
+abbrev pub openings : List Step → List (Option ℕ)
+openings [] = []
+openings (opened result ∷ steps) = result ∷ openings steps
+openings (fed session piece bytes told ∷ steps) = openings steps
+openings (ended session ∷ steps) = openings steps
+
 -- the number of the step's session is below the next one
 abbrev pub IsBelow : ℕ → Step → Type 0
-IsBelow next (opened result) = ⊤
-IsBelow next (fed other piece bytes told) = other < next
-IsBelow next (ended other) = other < next
+IsBelow next step = IfSome (session_in step) (λ session. session < next)
 
 -- a piece in the step is not too long
 abbrev pub IsFair : Step → Type 0

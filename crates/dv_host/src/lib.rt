@@ -4,6 +4,7 @@
 
 mod channel;
 mod hosting;
+pub mod laws;
 mod link;
 mod outside;
 mod sessions;

@@ -9,7 +9,7 @@ pub enum Fate {
     Ended,
     /// Its session was closed by the fault of this number, and it has taken all that was answered.
     Closed(u8),
-    /// There is no room for more of an unfinished message.
+    /// There is no room for more of an unfinished message, and it has taken all that was answered.
     Full,
     /// It failed, or no session was had.
     Failed,

@@ -1,6 +1,6 @@
 //! What a connection does in its turns.
 
-ghost use Rattle.std.specs.Prelude.{◌≡◌, ◌≤◌, ◌<◌, ◌+◌, ◌++◌, [], true, length, vec_capacity, vec_len, IfErr};
+ghost use Rattle.std.specs.Prelude.{◌≡◌, ◌≤◌, ◌<◌, ◌+◌, ◌++◌, [], None, true, length, vec_capacity, vec_len, IfErr};
 ghost use Rattle.dv_host.specs.Schedule.{PlaysBy, HappensBy, closed_by};
 ghost use Rattle.dv_host.specs.View.{pending_of, seen_by, unsent_of};
 ghost use Rattle.dv_host.specs.Host.{Fills, Gives, SettlesIn};
@@ -73,6 +73,7 @@ impl<C: Channel> Link<C> {
         ensures gives { Gives (seen_by C.remaining C.contents self.old) (seen_by C.remaining C.contents self.new) }
         ensures settles { SettlesIn result (seen_by C.remaining C.contents self.new) }
         ensures given { result ≡ Told.Again → unsent_of self.new ≡ [] }
+        ensures open { result ≡ Told.Again → self.new.closing ≡ None }
     {
         if self.flush() {
             return Told::Over(Fate::Failed);
@@ -114,6 +115,7 @@ impl<C: Channel> Link<C> {
     fn fill(&mut self, piece: &mut [u8], full: bool) -> Result<bool, Told>
         requires room { length piece.old ≡ 65536 }
         requires given { unsent_of self.old ≡ [] }
+        requires open { self.old.closing ≡ None }
         ensures fills { Fills (seen_by C.remaining C.contents self.old) (seen_by C.remaining C.contents self.new) }
         ensures settles { IfErr result (λ told. SettlesIn told (seen_by C.remaining C.contents self.new)) }
     {
