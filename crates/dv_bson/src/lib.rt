@@ -3,6 +3,7 @@
 
 mod fault;
 pub mod laws;
+mod likeness;
 mod reader;
 mod reading;
 mod walk;

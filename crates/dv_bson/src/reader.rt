@@ -9,6 +9,7 @@ ghost use Rattle.dv_bson.specs.Reading.{EachSpelled, Gives, body_at, closed_by, 
 ghost use Rattle.dv_bson.specs.Inner.Parts.{GivesNext, LeavesToRead, field_at, field_in, fields_from, numbered};
 
 use crate::fault::ReadError;
+use crate::likeness::{document_like, element_like, value_like};
 use crate::reading::{
     behind_index, behind_name, binary_of, boolean_of, date_of, field_name_of, frame_of,
     front_kind_of, int32_of, int64_of, kind_of, object_id_of, outermost_frame_of, text_of,
@@ -120,28 +121,6 @@ fn element_of<'a>(
     let like = before.last().or(like);
     let at = at + (bytes.len() - rest.len());
     value_of(alloc, levels, kind, like, at, rest)
-}
-
-/// The value where it is a document.
-fn document_like(value: Option<&Value>) -> Option<&Document> {
-    match value {
-        Some(Value::Doc(document)) => Some(document),
-        _ => None,
-    }
-}
-
-/// The first element, where the value is an array that has one.
-fn element_like(value: Option<&Value>) -> Option<&Value> {
-    match value {
-        Some(Value::Array(list)) => list.as_slice().first(),
-        _ => None,
-    }
-}
-
-/// The value at `place` of the document.
-fn value_like(document: Option<&Document>, place: usize) -> Option<&Value> {
-    let (_name, value) = document?.entry(place)?;
-    Some(value)
 }
 
 /// Whether a document is closed where its elements end: by a zero as its last byte. Another last byte is

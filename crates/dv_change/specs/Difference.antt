@@ -1,25 +1,16 @@
 -- The changes from one list of rows at positions to another.
-use Rattle.std.specs.Prelude.{Bool, false, not, List, [], ◌∷◌, ◌++◌, map, Option, None, Some, is_none, if◌then◌else◌}
+use Rattle.std.specs.Prelude.{Bool, false, not, List, ◌++◌, map, Option, None, Some, is_none}
 use Rattle.std.specs.List.{filter}
 use Rattle.dv_value.specs.Tree.{Field, fields_of}
 use Rattle.dv_order.specs.Same.{same_fields}
 use Rattle.dv_change.specs.declared.change.Change.{Change}
 use Rattle.dv_change.specs.declared.change.Change.TheVariants.{Put, Gone}
 use Rattle.dv_change.specs.Changes.{Positioned, at}
-use Rattle.dv_change.specs.Positions.{PosTree}
 
 -- whether there is a row, and it has the same encoding as the other
 abbrev pub stands_as : Option (List Field) → List Field → Bool
 stands_as None row = false
 stands_as (Some there) row = same_fields (fields_of there) (fields_of row)
-
--- the removal at this position, if the new rows have no row there
-abbrev pub gone_from : PosTree → Positioned → List Change
-gone_from pos new = if is_none (at pos new) then Gone pos ∷ [] else []
-
--- the change to this row, unless the old rows have the same row there
-abbrev pub put_over : Positioned → PosTree → List Field → List Change
-put_over old pos row = if not (stands_as (at pos old) row) then Put pos row ∷ [] else []
 
 -- the removals of the old rows at whose positions the new list has no row
 abbrev pub gones : Positioned → Positioned → List Change

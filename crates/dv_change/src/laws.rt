@@ -10,7 +10,7 @@ ghost use Rattle.dv_change.specs.declared.input.Input.TheVariants.{Left, Named};
 ghost use Rattle.dv_change.specs.Changes.{Positioned, at, with_change, with_changes};
 ghost use Rattle.dv_change.specs.Inner.Changes.{IsExactChange, IsPositioned};
 ghost use Rattle.dv_change.specs.Difference.{diff};
-ghost use Rattle.dv_change.specs.Inner.Examples.{numbered_row, numbered_rows, place, three_stages, two_stages, wide_number};
+ghost use Rattle.dv_change.specs.Inner.Examples.{number_key, numbered_row, numbered_rows, place, three_stages, two_look_ups, two_stages, wide_number};
 ghost use Rattle.dv_change.specs.Positions.{IsExact, PosTree, part_order, pos_order};
 ghost use Rattle.dv_change.specs.Raised.{raised};
 ghost use Rattle.dv_change.specs.Work.{pass_in, work_in};
@@ -39,16 +39,22 @@ pub fn a_difference_leads_from_old_to_new()
     ensures { (old new : Positioned) → IsPositioned old → IsPositioned new → with_changes old (diff old new) ≡ new }
 {}
 
-/// A part that rises comes before one that falls, and either comes before a number, whatever they hold.
+/// Parts that rise are in the order of their keys, and those that fall in its reverse. A part that rises comes before one that falls,
+/// and either comes before a number, whatever they hold. A position comes before those that it begins.
 pub fn positions_by_example()
+    ensures rising { part_order (Up (number_key 1)) (Up (number_key 2)) ≡ Less }
+    ensures falling { (k l : KeyTree) → part_order (Down k) (Down l) ≡ part_order (Up l) (Up k) }
     ensures rising_first { (k l : KeyTree) → part_order (Up k) (Down l) ≡ Less }
     ensures number_last { (k : KeyTree) (n : ℕ) → part_order (Down k) (At n) ≡ Less }
+    ensures counted { part_order (At 1) (At 2) ≡ Less }
+    ensures shorter_first { pos_order (At 1 ∷ []) (At 1 ∷ At 0 ∷ []) ≡ Less }
 {}
 
 /// What goes comes first, and what stays as it is isn't in the difference.
 pub fn examples_of_differences()
     ensures nothing { diff ((place 0, numbered_row 1) ∷ []) ((place 0, numbered_row 1) ∷ []) ≡ [] }
     ensures each_kind { diff (numbered_rows 0 (1 ∷ 2 ∷ 3 ∷ [])) (numbered_rows 1 (2 ∷ 4 ∷ 5 ∷ [])) ≡ Gone (place 0) ∷ Put (place 2) (numbered_row 4) ∷ Put (place 3) (numbered_row 5) ∷ [] }
+    ensures in_order { diff (numbered_rows 0 (1 ∷ 2 ∷ 3 ∷ [])) (numbered_rows 1 (2 ∷ [])) ≡ Gone (place 0) ∷ Gone (place 2) ∷ [] }
     ensures another_width { diff ((place 0, numbered_row 1) ∷ []) ((place 0, wide_number 1) ∷ []) ≡ Put (place 0) (wide_number 1) ∷ [] }
 {}
 
@@ -66,5 +72,7 @@ pub fn examples_of_work()
     ensures work_for_next_row { work_in Left (Gone (place 0)) two_stages (numbered_rows 0 (1 ∷ 2 ∷ [])) ≡ 5 }
     ensures no_work_behind { work_in Left (Put (place 7) (numbered_row 9)) two_stages (numbered_rows 0 (1 ∷ 2 ∷ [])) ≡ 3 }
     ensures in_mid_chain { pass_in (Named 0) (Put (place 0) (numbered_row 3)) three_stages [] ≡ Put (place 0) (numbered_row 3) ∷ [] }
+    ensures first_list { pass_in (Named 0) (Put (place 0) (numbered_row 3)) two_look_ups [] ≡ [] }
+    ensures second_list { pass_in (Named 1) (Put (place 0) (numbered_row 3)) two_look_ups [] ≡ Put (place 0) (numbered_row 3) ∷ [] }
     ensures work_in_mid_chain { work_in (Named 0) (Put (place 0) (numbered_row 3)) three_stages [] ≡ 4 }
 {}

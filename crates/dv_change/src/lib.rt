@@ -4,6 +4,7 @@
 mod chain;
 mod change;
 mod handing;
+mod head;
 mod input;
 mod keeping;
 pub mod laws;

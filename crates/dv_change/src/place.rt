@@ -1,18 +1,19 @@
 //! What a position holds in memory.
 
-ghost use Rattle.std.specs.Prelude.{◌≡◌, ◌≤◌, [], ◌∷◌, length, take, IfOk, IfSome};
+ghost use Rattle.std.specs.Prelude.{◌≡◌, [], ◌∷◌, IfOk, IfSome};
 ghost use Rattle.dv_value.specs.Tree.{string};
 ghost use Rattle.dv_order.specs.Key.{value};
 ghost use Rattle.dv_order.specs.LentKeys.{lent_key};
 ghost use Rattle.dv_change.specs.declared.position.Part.TheVariants.{Up};
 ghost use Rattle.dv_change.specs.Inner.Lents.{lent_parts};
 ghost use Rattle.dv_change.specs.Inner.PartCodes.{first_high, first_low, first_top};
-ghost use Rattle.dv_change.specs.Inner.Places.{IsFirstCode, IsTextIn, IsValid, parts_of};
+ghost use Rattle.dv_change.specs.Inner.Places.{IsFirstCode, IsValid, parts_of};
 ghost use Rattle.dv_change.specs.Positions.{pos_order};
 
+use crate::head::Head;
 use crate::lent::{Lent, Parts};
 use crate::position::Part;
-use dv_order::LentKey;
+use dv_order::{LentKey, padded, text_in};
 use dv_value::{Document, NoMemory};
 use std::alloc::Global;
 use std::cmp::Ordering;
@@ -63,14 +64,6 @@ pub(crate) enum Place {
     },
 }
 
-/// What a place is compared by first.
-#[derive(Clone, Copy, Debug, Drop)]
-struct Head {
-    top: u8,
-    high: u64,
-    low: u32,
-}
-
 impl Place {
     /// The place of these parts. Fails where memory is wanting.
     pub(crate) fn of(alloc: Global, parts: Vec<Part>) -> Result<Self, NoMemory>
@@ -80,7 +73,7 @@ impl Place {
         if let Some(place) = unlisted(alloc, parts.as_slice())? {
             return Ok(place);
         }
-        let head = first_code(parts.as_slice());
+        let head = Head::of_first(parts.as_slice());
         Ok(Place::Listed {
             top: head.top,
             low: head.low,
@@ -386,46 +379,4 @@ fn of_text(alloc: Global, text: &str) -> Result<Option<Place>, NoMemory>
         return Ok(Some(Place::Long { len, bytes }));
     }
     Ok(None)
-}
-
-/// The text with zeros behind it, if so many bytes hold it.
-fn padded<const N: usize>(text: &[u8]) -> Option<[u8; N]>
-    ensures within { IfSome result (λ bytes. length text.now ≤ length bytes) }
-    ensures text { IfSome result (λ bytes. take (length text.now) bytes ≡ text.now) }
-{
-    if N < text.len() {
-        return None;
-    }
-    let mut bytes = [0; N];
-    bytes[..text.len()].copy_from_slice(text);
-    Some(bytes)
-}
-
-/// The text that the first bytes are.
-fn text_in(bytes: &[u8], len: u8) -> &str
-    requires { IsTextIn len bytes.now }
-    ensures { result.now ≡ take len bytes.now }
-{
-    unsafe { str::from_utf8_unchecked(&bytes[..usize::from(len)]) }
-}
-
-/// The code of the first part, zeros where there is none.
-fn first_code(parts: &[Part]) -> Head
-    ensures { IsFirstCode parts.now result.top result.high result.low }
-{
-    match parts.first() {
-        Some(part) => {
-            let code = part.code();
-            Head {
-                top: code.top,
-                high: code.high,
-                low: code.low,
-            }
-        }
-        None => Head {
-            top: 0,
-            high: 0,
-            low: 0,
-        },
-    }
 }

@@ -1,5 +1,5 @@
 -- Rows with one more field, under the names of another document.
-use Rattle.std.proofs.Common.{◌≡◌, ◌∙◌, ap, ap₂, sym, refl, false, ◌||◌, List, [], ◌∷◌, ◌++◌, ℕ, zero, suc, length, map, take, slice_get, Some, None, arith, if◌then◌else◌}
+use Rattle.std.proofs.Common.{◌≡◌, ◌∙◌, ap, ap₂, sym, refl, false, ◌||◌, List, [], ◌∷◌, ◌++◌, ℕ, zero, suc, length, slice_get, Some, None, arith, if◌then◌else◌}
 use Rattle.std.proofs.lemmas.Slice.Eq.{bytes_eq-Decides}
 use Rattle.std.specs.Str.{bytes_eq}
 use Rattle.dv_value.specs.Tree.{Tree, Field}
@@ -9,23 +9,10 @@ use Rattle.dv_row.specs.Row.{Row}
 use Rattle.dv_gather.specs.Lookups.{set_field}
 use Rattle.dv_gather.specs.Inner.Alike.{BeginsAs, HasNamesOf, values_of}
 
--- a name more
-pub begins-more : (d row : Row) (place : ℕ) (name : List ℕ) (v w : Tree) → BeginsAs d (take place row) → slice_get row place ≡ Some (name, v) → slice_get d place ≡ Some (name, w) → BeginsAs d (take (suc place) row)
-begins-more d [] place name v w begins here there = absurd cc
-begins-more [] (f ∷ row) place name v w begins here there = absurd cc
-begins-more (e ∷ d) (f ∷ row) zero name v w begins here there = (cc, tt)
-begins-more (e ∷ d) (f ∷ row) (suc place) name v w begins here there = (begins.0, begins-more d row place name v w begins.1 here there)
-
 -- the name behind those of the row
 pub next-name : (d row : Row) (place : ℕ) (name next : List ℕ) (v : Tree) → BeginsAs d row → place ≡ length row → slice_get d place ≡ Some (next, v) → next ≡ name → HasNamesOf d row name
 next-name d row place name next v begins end here same =
     (begins, v, ap (slice_get d) (sym end) ∙ here ∙ ap (λ n. let f : Field = (n, v) in Some f) same)
-
--- a value more
-pub values-more : (row : Row) (place : ℕ) (name : List ℕ) (v : Tree) → slice_get row place ≡ Some (name, v) → values_of (take (suc place) row) ≡ values_of (take place row) ++ v ∷ []
-values-more [] place name v here = absurd cc
-values-more (f ∷ row) zero name v here = ap (λ (w : Tree). w ∷ []) cc
-values-more (f ∷ row) (suc place) name v here = ap (λ vs. f.1 ∷ vs) (values-more row place name v here)
 
 module _ (name : List ℕ) (v w : Tree) where
   apart : (other : List ℕ) (d : Row) (place : ℕ) → has_name other d ≡ false → slice_get d place ≡ Some (name, w) → bytes_eq name other ≡ false

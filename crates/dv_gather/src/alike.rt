@@ -28,9 +28,9 @@ pub(crate) fn has_names_of(document: &Document, row: &Document, name: &str) -> b
 fn begins_as(document: &Document, row: &Document) -> bool
     ensures { IsTrue result → BeginsAs document.now row.now }
 {
-    'names: for place in 0..row.len() {
-        let (name, _) = row.field(place);
-        match document.entry(place) {
+    let mut fields = document.iter();
+    'names: for (name, _) in row.iter() {
+        match fields.next() {
             Some((there, _)) if there == name => {}
             _ => return false,
         }
@@ -49,8 +49,7 @@ pub(crate) fn row_like(
     ensures { IfOk result (λ joined. joined ≡ with_values document.now (values_of row.now ++ tree value ∷ [])) }
 {
     let mut values = Vec::with_capacity(alloc, row.len().saturating_add(1))?;
-    'values: for place in 0..row.len() {
-        let (_, own) = row.field(place);
+    'values: for (_, own) in row.iter() {
         values.push(own.try_clone()?)?;
     }
     values.push(value)?;

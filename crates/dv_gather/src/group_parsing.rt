@@ -63,10 +63,7 @@ fn fields_of(alloc: Global, document: &Document) -> Result<Vec<GroupField>, Pipe
     ensures { Gives no_memory (λ fields. map accumulation fields.items) result (each defined.field_in document.now) }
 {
     let mut fields = Vec::new(alloc);
-    'fields: for place in 0..document.len() {
-        let Some((name, value)) = document.entry(place) else {
-            break;
-        };
+    'fields: for (name, value) in document.iter() {
         fields.push(field_of(alloc, name, value)?)?;
     }
     Ok(fields)

@@ -6,8 +6,9 @@ ghost use Rattle.dv_value.specs.View.{tree};
 ghost use Rattle.dv_order.specs.Order.{canon};
 ghost use Rattle.dv_order.specs.Key.{first_value, key_at, value as key_of_tree};
 ghost use Rattle.dv_order.specs.Source.{source_value};
-ghost use Rattle.dv_order.specs.Inner.Sources.{IsLarge, IsSound, IsTextIn, shown_key};
+ghost use Rattle.dv_order.specs.Inner.Sources.{IsLarge, IsSound, shown_key};
 
+use crate::padding::{padded, text_in};
 use crate::shown::Shown;
 use crate::small::Small;
 use dv_value::{Bytes, Document, List, NoMemory, Str, Value};
@@ -229,25 +230,4 @@ fn of_padded(alloc: Global, text: &str) -> Result<Option<KeySource>, NoMemory>
         return Ok(Some(KeySource::Long { len, bytes }));
     }
     Ok(None)
-}
-
-/// The text with zeros behind it, if so many bytes hold it.
-fn padded<const N: usize>(text: &[u8]) -> Option<[u8; N]>
-    ensures within { IfSome result (λ bytes. length text.now ≤ length bytes) }
-    ensures text { IfSome result (λ bytes. take (length text.now) bytes ≡ text.now) }
-{
-    if N < text.len() {
-        return None;
-    }
-    let mut bytes = [0; N];
-    bytes[..text.len()].copy_from_slice(text);
-    Some(bytes)
-}
-
-/// The text that the first bytes are.
-fn text_in(bytes: &[u8], len: u8) -> &str
-    requires { IsTextIn len bytes.now }
-    ensures { result.now ≡ take len bytes.now }
-{
-    unsafe { str::from_utf8_unchecked(&bytes[..usize::from(len)]) }
 }

@@ -12,12 +12,6 @@ use denote.Ref.{Bor}
 pub seen-at : (c : memory.Candidate) (value : Bor Value) → c ≡ Found value → (v : Tree) → tree value.now ≡ v → seen c ≡ Some v
 seen-at c value at v e = ap seen at ∙ ap Some e
 
--- no item at a place, so the list ends before it
-pub none_there : {X : Type 0} (xs : List X) (place : ℕ) → slice_get xs place ≡ None → length xs ≤ place
-none_there [] place e = omega arith
-none_there (x ∷ xs) zero e = absurd cc
-none_there (x ∷ xs) (suc place) e = omega (arith, none_there xs place e)
-
 -- no item stands past a list's end
 pub none-past : {X : Type 0} (xs : List X) (place : ℕ) → length xs ≤ place → slice_get xs place ≡ None
 none-past [] place h = refl

@@ -1,7 +1,6 @@
 pub mod Items
 pub mod Gathered
 pub mod Left
-pub mod SpecParts
 pub mod Earliest
 pub mod KeySets
 pub mod Slotted

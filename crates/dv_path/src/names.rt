@@ -17,19 +17,10 @@ pub fn has_bad_name(document: &Document) -> bool
 }
 
 /// Whether a name begins with a dollar sign, at the top level.
-#[tactic(auto, using(crate::proofs::Left::fields_left))]
 fn has_dollar(document: &Document) -> bool
     ensures { result ≡ list_any (λ f. names.begins_with_dollar f.0) document.now }
 {
-    'fields: for place in 0..document.len() {
-        let Some((name, _)) = document.entry(place) else {
-            break;
-        };
-        if begins_with_dollar(name) {
-            return true;
-        }
-    }
-    false
+    document.iter().any(|(name, _)| begins_with_dollar(name))
 }
 
 /// Whether the name has a dot. Takes no memory.
@@ -52,14 +43,10 @@ fn is_dotted(value: &Value) -> bool
 }
 
 #[cycle(dotted)]
-#[tactic(auto, using(crate::proofs::Left::fields_left))]
 fn are_fields_dotted(document: &Document) -> bool
     ensures { result ≡ defined.are_fields_dotted (fields_of document.now) }
 {
-    'fields: for place in 0..document.len() {
-        let Some((name, value)) = document.entry(place) else {
-            break;
-        };
+    'fields: for (name, value) in document.iter() {
         if has_dot(name) || is_dotted(value) {
             return true;
         }

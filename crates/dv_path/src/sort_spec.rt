@@ -85,10 +85,7 @@ fn parse_parts(alloc: Global, document: &Document) -> Result<Option<Vec<SortPart
     ensures { IfOk result (λ parts. option_map (λ v. map part v.items) parts ≡ parts_of document.now) }
 {
     let mut parts = Vec::new(alloc);
-    'fields: for place in 0..document.len() {
-        let Some((name, value)) = document.entry(place) else {
-            break;
-        };
+    'fields: for (name, value) in document.iter() {
         let Some(part) = parse_part(alloc, name, value)? else {
             return Ok(None);
         };

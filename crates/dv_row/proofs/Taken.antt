@@ -1,5 +1,5 @@
 -- The members of a $project that are taken one after the other, while their paths may still conflict.
-use Rattle.std.proofs.Common.{◌≡◌, ◌∙◌, ◌≤◌, ap, sym, refl, Bool, true, false, ◌||◌, ◌&&◌, ◌==◌, not, List, [], ◌∷◌, ◌++◌, ℕ, ◌+◌, drop, length, Some, None, slice_get, Ok, Err, ◌⊎◌, inl, inr, if◌then◌else◌, cond}
+use Rattle.std.proofs.Common.{◌≡◌, ◌∙◌, ap, sym, refl, Bool, true, false, ◌||◌, ◌&&◌, ◌==◌, not, List, [], ◌∷◌, ◌++◌, ℕ, Some, None, Ok, Err, ◌⊎◌, inl, inr, if◌then◌else◌, cond}
 use Rattle.std.specs.List.{list_any, list_all, slice_split, onto_first}
 use Rattle.dv_value.specs.Tree.{Tree, Field}
 use Rattle.dv_candidates.specs.Path.{is_component, path_of}
@@ -12,7 +12,6 @@ use Rattle.dv_row.specs.ExpressionParsing.{expression_in}
 use Rattle.dv_value.specs.Results.{◌>>=◌}
 use Rattle.dv_row.specs.ProjectParsing.{AskedMembers, is_id_path, is_below_id, one_begins, conflicts_with_asked, unless_conflict, with_included, with_excluded, with_computation, excludes, includes, with_path, with_expression, with_switch, with_member, members_in, nothing_asked}
 use Rattle.dv_row.proofs.Conflicting.{any-pushed, conflict-pushed}
-use Rattle.dv_row.proofs.Items.{drop-found, drop-past}
 
 abbrev Way : Type 0
 Way = List (List ℕ)
@@ -87,39 +86,39 @@ computed-taken name p v asked e leads plain parsed h after is = rw is (record {
 
 -- ---- all members
 
--- what the members before a place ask, with their paths in written order, decides with the others
-pub record IsSoFar (d : List Field) (place : ℕ) (asked : AskedMembers) (paths : List Way) : Type 0 where
-  pub gives : members_in nothing_asked d ≡ (if paths_conflict paths then Err Conflict else members_in asked (drop place d))
+-- what the members in front of these ask, with their paths in written order, decides with these
+pub record IsSoFar (d rest : List Field) (asked : AskedMembers) (paths : List Way) : Type 0 where
+  pub gives : members_in nothing_asked d ≡ (if paths_conflict paths then Err Conflict else members_in asked rest)
   pub asks : (p : Way) → conflicts_with_asked p asked ≡ list_any (one_begins p) paths
 
-pub so-far-none : (d : List Field) (asked : AskedMembers) (paths : List Way) → asked ≡ nothing_asked → paths ≡ [] → IsSoFar d 0 asked paths
-so-far-none d asked paths is none = rw (is, none) (record { gives = refl; asks = λ p. refl })
+pub so-far-none : (d rest : List Field) (asked : AskedMembers) (paths : List Way) → rest ≡ d → asked ≡ nothing_asked → paths ≡ [] → IsSoFar d rest asked paths
+so-far-none d rest asked paths all is none = rw (all, is, none) (record { gives = refl; asks = λ p. refl })
 
-module _ (d : List Field) (place : ℕ) (asked : AskedMembers) (paths : List Way) (so-far : IsSoFar d place asked paths) where
-  pub so-far-all : length d ≤ place → members_in nothing_asked d ≡ (if paths_conflict paths then Err Conflict else Ok asked)
-  so-far-all past = so-far.gives ∙ ap (λ fs. if paths_conflict paths then Err Conflict else members_in asked fs) (drop-past d place past)
+module _ (d rest : List Field) (asked : AskedMembers) (paths : List Way) (so-far : IsSoFar d rest asked paths) where
+  pub so-far-all : rest ≡ [] → members_in nothing_asked d ≡ (if paths_conflict paths then Err Conflict else Ok asked)
+  so-far-all over = so-far.gives ∙ ap (λ fs. if paths_conflict paths then Err Conflict else members_in asked fs) over
 
-  module _ (f : Field) (here : Some f ≡ slice_get d place) where
-    turn : members_in nothing_asked d ≡ (if paths_conflict paths then Err Conflict else (with_member f asked >>= λ more. members_in more (drop (place + 1) d)))
-    turn = so-far.gives ∙ ap (λ fs. if paths_conflict paths then Err Conflict else members_in asked fs) (drop-found d place f here)
+  module _ (f : Field) (others : List Field) (here : rest ≡ f ∷ others) where
+    turn : members_in nothing_asked d ≡ (if paths_conflict paths then Err Conflict else (with_member f asked >>= λ more. members_in more others))
+    turn = so-far.gives ∙ ap (λ fs. if paths_conflict paths then Err Conflict else members_in asked fs) here
 
     -- a conflict before a fault comes first
     pub so-far-refused : (e fault : PipelineFault) → fault ≡ (if paths_conflict paths then Conflict else e) → (e ≡ NoMemory) ⊎ (with_member f asked ≡ Err e) → (fault ≡ NoMemory) ⊎ (members_in nothing_asked d ≡ Err fault)
     so-far-refused e fault is told = go (paths_conflict paths) turn is told
       where
-        go : (b : Bool) → members_in nothing_asked d ≡ (if b then Err Conflict else (with_member f asked >>= λ more. members_in more (drop (place + 1) d))) → fault ≡ (if b then Conflict else e) → (e ≡ NoMemory) ⊎ (with_member f asked ≡ Err e) → (fault ≡ NoMemory) ⊎ (members_in nothing_asked d ≡ Err fault)
+        go : (b : Bool) → members_in nothing_asked d ≡ (if b then Err Conflict else (with_member f asked >>= λ more. members_in more others)) → fault ≡ (if b then Conflict else e) → (e ≡ NoMemory) ⊎ (with_member f asked ≡ Err e) → (fault ≡ NoMemory) ⊎ (members_in nothing_asked d ≡ Err fault)
         go true gives is told = inr (gives ∙ ap Err (sym is))
         go false gives is (inl wanting) = inl (is ∙ wanting)
-        go false gives is (inr refused) = inr (gives ∙ ap (λ r. r >>= λ more. members_in more (drop (place + 1) d)) refused ∙ ap Err (sym is))
+        go false gives is (inr refused) = inr (gives ∙ ap (λ r. r >>= λ more. members_in more others) refused ∙ ap Err (sym is))
 
-    pub so-far-more : (p : Way) (after : AskedMembers) (more : List Way) → IsMemberTaken (with_member f asked) asked p after → more ≡ paths ++ p ∷ [] → IsSoFar d (place + 1) after more
+    pub so-far-more : (p : Way) (after : AskedMembers) (more : List Way) → IsMemberTaken (with_member f asked) asked p after → more ≡ paths ++ p ∷ [] → IsSoFar d others after more
     so-far-more p after more taken pushed = rw pushed (record {
-      gives = turn ∙ ap (λ r. if paths_conflict paths then Err Conflict else (r >>= λ more. members_in more (drop (place + 1) d))) (taken.stands ∙ ap (λ b. if b then Err Conflict else Ok after) (so-far.asks p))
-          ∙ joined (paths_conflict paths) (list_any (one_begins p) paths) ∙ ap (λ b. if b then Err Conflict else members_in after (drop (place + 1) d)) (sym (conflict-pushed paths p));
+      gives = turn ∙ ap (λ r. if paths_conflict paths then Err Conflict else (r >>= λ more. members_in more others)) (taken.stands ∙ ap (λ b. if b then Err Conflict else Ok after) (so-far.asks p))
+          ∙ joined (paths_conflict paths) (list_any (one_begins p) paths) ∙ ap (λ b. if b then Err Conflict else members_in after others) (sym (conflict-pushed paths p));
       asks = λ q. taken.asks q ∙ ap (λ b. b || one_begins q p) (so-far.asks q) ∙ sym (any-pushed (one_begins q) paths p);
     })
       where
-        joined : (h b : Bool) → (if h then Err Conflict else ((if b then Err Conflict else Ok after) >>= λ more. members_in more (drop (place + 1) d))) ≡ (if (h || b) then Err Conflict else members_in after (drop (place + 1) d))
+        joined : (h b : Bool) → (if h then Err Conflict else ((if b then Err Conflict else Ok after) >>= λ more. members_in more others)) ≡ (if (h || b) then Err Conflict else members_in after others)
         joined true b = refl
         joined false true = refl
         joined false false = refl

@@ -1,5 +1,5 @@
 -- Documents that are gone through field by field, and those around them.
-use Rattle.std.proofs.Common.{◌≡◌, ◌∙◌, ap, sym, subst, refl, Bool, true, false, not, ◌&&◌, ◌==◌, List, [], ◌∷◌, ◌++◌, ℕ, zero, suc, ◌+◌, ◌*◌, ◌<◌, ◌≤◌, take, drop, length, Some, slice_get, arith, if◌then◌else◌}
+use Rattle.std.proofs.Common.{◌≡◌, ◌∙◌, ap, sym, subst, refl, Bool, true, false, not, ◌&&◌, ◌==◌, List, [], ◌∷◌, ◌++◌, ℕ, zero, suc, ◌+◌, ◌*◌, ◌<◌, ◌≤◌, drop, length, Some, slice_get, arith, append_assoc, append-nil, if◌then◌else◌}
 use Rattle.std.specs.List.{list_any}
 use Rattle.dv_value.specs.Names.{AreNamed, value_at}
 use Rattle.dv_value.specs.Tree.{Tree, document, Field, fields_of}
@@ -19,21 +19,6 @@ abbrev Paths : Type 0
 Paths = List (List (List ℕ))
 
 -- ---- the fields behind a place
-
-take-whole : {X : Type 0} (xs : List X) (i : ℕ) → drop i xs ≡ [] → take i xs ≡ xs
-take-whole [] zero e = refl
-take-whole [] (suc i) e = refl
-take-whole (x ∷ xs) zero e = absurd cc
-take-whole (x ∷ xs) (suc i) e = ap (λ l. x ∷ l) (take-whole xs i e)
-
-first-of : {X : Type 0} (xs : List X) (i : ℕ) (x : X) (rest : List X) → drop i xs ≡ x ∷ rest → Some x ≡ slice_get xs i
-first-of [] zero x rest e = absurd cc
-first-of [] (suc i) x rest e = absurd cc
-first-of (z ∷ xs) zero x rest e = cc
-first-of (z ∷ xs) (suc i) x rest e = first-of xs i x rest e
-
-others-of : {X : Type 0} (xs : List X) (i : ℕ) (x : X) (rest : List X) → drop i xs ≡ x ∷ rest → drop (i + 1) xs ≡ rest
-others-of xs i x rest e = let same : drop i xs ≡ x ∷ drop (i + 1) xs = drop-found xs i x (first-of xs i x rest e) in cc
 
 pub value-here : (d : Row) (i : ℕ) (f : Field) → Some f ≡ slice_get d i → value_at i d ≡ f.1
 value-here [] i f here = absurd cc
@@ -57,15 +42,16 @@ weighs-less (f ∷ fs) (suc i) (suc j) h = weighs-less fs i j (omega arith)
 -- ---- one document
 
 module _ (keeps : Bool) (paths : Paths) where
-  left-further : (d : Row) → AreNamed d → (rest : List Field) (i : ℕ) → drop i d ≡ rest → left_behind keeps paths rest (row_left keeps paths (take i d)) ≡ row_left keeps paths d
+  left-further : (fs rest : List Field) → AreNamed (fs ++ rest) → left_behind keeps paths rest (row_left keeps paths fs) ≡ row_left keeps paths (fs ++ rest)
   unfolding left_behind
-  left-further d named [] i e = ap (row_left keeps paths) (take-whole d i e)
-  left-further d named (f ∷ fs) i e =
-      ap (left_behind keeps paths fs) (row-left_more keeps paths d i f.0 f.1 named (first-of d i f fs e)) ∙ left-further d named fs (i + 1) (others-of d i f fs e)
+  left-further fs [] named = ap (row_left keeps paths) (sym (append-nil fs))
+  left-further fs (f ∷ rest) named =
+      let same : (fs ++ f ∷ []) ++ rest ≡ fs ++ f ∷ rest = append_assoc fs (f ∷ []) rest in
+      ap (left_behind keeps paths rest) (row-left_more keeps paths fs f rest named) ∙ left-further (fs ++ f ∷ []) rest (subst AreNamed (sym same) named) ∙ ap (row_left keeps paths) same
 
   left-all : (d : Row) → AreNamed d → left_behind keeps paths d [] ≡ row_left keeps paths d
   unfolding fields_left
-  left-all d named = left-further d named d 0 refl
+  left-all d named = left-further [] d named
 
   pub left-next : (d : Row) (i : ℕ) (f : Field) (left : Row) → Some f ≡ slice_get d i
       → left_behind keeps paths (drop i d) left ≡ left_behind keeps paths (drop (i + 1) d) (with_field_behind f.0 (left_of_value keeps (paths_behind f.0 paths) f.1) left)

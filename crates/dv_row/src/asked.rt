@@ -56,10 +56,7 @@ fn members_of(alloc: Global, document: &Document) -> Result<Asked, PipelineFault
 {
     let mut asked = Asked::new(alloc);
     let mut paths = Vec::new(alloc);
-    'members: for place in 0..document.len() {
-        let Some((name, value)) = document.entry(place) else {
-            break;
-        };
+    'members: for (name, value) in document.iter() {
         match asked.take(alloc, name, value) {
             Ok(path) => paths.push(path)?,
             Err(fault) => return Err(first_fault(paths, fault)),

@@ -270,10 +270,7 @@ pub fn copy_beside(
     ensures { IfOk result (λ copy. copy ≡ document.now) }
 {
     let mut copy = row_beside(alloc, before)?;
-    'fields: for place in 0..document.len() {
-        let Some((name, value)) = document.entry(place) else {
-            break;
-        };
+    'fields: for (name, value) in document.iter() {
         push_field(&mut copy, name, Some(value.try_clone()?))?;
     }
     Ok(copy)

@@ -68,10 +68,7 @@ impl Computed {
         ensures { Gives no_memory (λ computed. computed) result (defined.computed_in plain (fields_of document.now)) }
     {
         let mut fields = Vec::new(alloc);
-        'fields: for place in 0..document.len() {
-            let Some((name, value)) = document.entry(place) else {
-                break;
-            };
+        'fields: for (name, value) in document.iter() {
             fields.push(field_of(alloc, plain, name, value)?)?;
         }
         Ok(Computed::of(fields))

@@ -148,14 +148,7 @@ impl Unwind {
 fn has_options(options: &Document) -> bool
     ensures { result ≡ list_all parsing.is_option options.now }
 {
-    'options: for place in 0..options.len() {
-        if let Some((name, _)) = options.entry(place) {
-            if !is_option(name) {
-                return false;
-            }
-        }
-    }
-    true
+    options.iter().all(|(name, _)| is_option(name))
 }
 
 fn is_option(name: &str) -> bool

@@ -1,5 +1,5 @@
 -- Edits that are parsed one after the other.
-use Rattle.std.proofs.Common.{◌≡◌, ◌∙◌, ap, sym, refl, List, [], ◌∷◌, ◌++◌, ℕ, ◌+◌, ◌≤◌, length, drop, Some, slice_get, Result, Ok, Err, append_assoc, append-nil, drop_of_length-le, ◌⊎◌, inl, inr}
+use Rattle.std.proofs.Common.{◌≡◌, ◌∙◌, ap, sym, refl, List, [], ◌∷◌, ◌++◌, Result, Ok, Err, append_assoc, append-nil, ◌⊎◌, inl, inr}
 use Rattle.dv_value.specs.Tree.{Field}
 use Rattle.dv_update.specs.declared.fault.UpdateFault.{UpdateFault}
 use Rattle.dv_update.specs.declared.fault.UpdateFault.TheVariants.{NoMemory}
@@ -8,7 +8,6 @@ use Rattle.dv_update.specs.Inner.Collected.{behind}
 use Rattle.dv_update.specs.Parsing.{operator_named, edit_by, edits_by, edits_under, edits_in}
 use Rattle.dv_value.specs.Results.{◌>>=◌, Gives}
 use Rattle.dv_update.specs.Update.{Edit}
-use Rattle.dv_update.proofs.Items.{drop_at}
 
 one-behind : {X : Type 0} (ys : List X) (r : Result X UpdateFault) (s : Result (List X) UpdateFault) (y : X) → r ≡ Ok y → behind ys (r >>= λ z. s >>= λ zs. Ok (z ∷ zs)) ≡ behind (ys ++ y ∷ []) s
 one-behind {X = X} ys r s y e = ap (λ q. behind ys (q >>= λ z. s >>= λ zs. Ok (z ∷ zs))) e ∙ by s
@@ -22,18 +21,18 @@ fault-behind ys r s e is = ap (λ q. behind ys (q >>= s)) is
 
 -- ---- the paths of an operator
 
-module _ (operator : Operator) (fs : List Field) (i : ℕ) (old ys : List Edit) (so-far : behind old (edits_by operator fs) ≡ behind ys (edits_by operator (drop i fs))) where
-  next : (f : Field) → Some f ≡ slice_get fs i → behind old (edits_by operator fs) ≡ behind ys (edit_by operator f >>= λ e. edits_by operator (drop (i + 1) fs) >>= λ es. Ok (e ∷ es))
-  next f here = so-far ∙ ap (λ l. behind ys (edits_by operator l)) (drop_at fs i f here)
+module _ (operator : Operator) (fs rest : List Field) (old ys : List Edit) (so-far : behind old (edits_by operator fs) ≡ behind ys (edits_by operator rest)) where
+  next : (f : Field) (others : List Field) → rest ≡ f ∷ others → behind old (edits_by operator fs) ≡ behind ys (edit_by operator f >>= λ e. edits_by operator others >>= λ es. Ok (e ∷ es))
+  next f others here = so-far ∙ ap (λ l. behind ys (edits_by operator l)) here
 
-  pub edit-more : (f : Field) (e : Edit) → Some f ≡ slice_get fs i → edit_by operator f ≡ Ok e → behind old (edits_by operator fs) ≡ behind (ys ++ e ∷ []) (edits_by operator (drop (i + 1) fs))
-  edit-more f e here is = next f here ∙ one-behind ys (edit_by operator f) (edits_by operator (drop (i + 1) fs)) e is
+  pub edit-more : (f : Field) (others : List Field) (e : Edit) → rest ≡ f ∷ others → edit_by operator f ≡ Ok e → behind old (edits_by operator fs) ≡ behind (ys ++ e ∷ []) (edits_by operator others)
+  edit-more f others e here is = next f others here ∙ one-behind ys (edit_by operator f) (edits_by operator others) e is
 
-  pub edit-fault : (f : Field) (e : UpdateFault) → Some f ≡ slice_get fs i → edit_by operator f ≡ Err e → behind old (edits_by operator fs) ≡ Err e
-  edit-fault f e here is = next f here ∙ fault-behind ys (edit_by operator f) (λ e. edits_by operator (drop (i + 1) fs) >>= λ es. Ok (e ∷ es)) e is
+  pub edit-fault : (f : Field) (others : List Field) (e : UpdateFault) → rest ≡ f ∷ others → edit_by operator f ≡ Err e → behind old (edits_by operator fs) ≡ Err e
+  edit-fault f others e here is = next f others here ∙ fault-behind ys (edit_by operator f) (λ e. edits_by operator others >>= λ es. Ok (e ∷ es)) e is
 
-  pub edits-end : length fs ≤ i → behind old (edits_by operator fs) ≡ Ok ys
-  edits-end past = so-far ∙ ap (λ l. behind ys (edits_by operator l)) (drop_of_length-le fs past) ∙ ap Ok (append-nil ys)
+  pub edits-end : rest ≡ [] → behind old (edits_by operator fs) ≡ Ok ys
+  edits-end over = so-far ∙ ap (λ l. behind ys (edits_by operator l)) over ∙ ap Ok (append-nil ys)
 
 -- ---- the operators of an update
 
@@ -49,18 +48,18 @@ fault-inside : (ys : List Edit) (r : Result (List Edit) UpdateFault) (e : Update
 fault-inside ys (Ok es) e is = cc
 fault-inside ys (Err f) e is = is
 
-module _ (fs : List Field) (i : ℕ) (ys : List Edit) (so-far : edits_in fs ≡ behind ys (edits_in (drop i fs))) where
-  follow : (f : Field) → Some f ≡ slice_get fs i → edits_in fs ≡ behind ys (edits_under (operator_named f.0) f.1 >>= λ es. edits_in (drop (i + 1) fs) >>= λ more. Ok (es ++ more))
-  follow f here = so-far ∙ ap (λ l. behind ys (edits_in l)) (drop_at fs i f here)
+module _ (fs rest : List Field) (ys : List Edit) (so-far : edits_in fs ≡ behind ys (edits_in rest)) where
+  follow : (f : Field) (others : List Field) → rest ≡ f ∷ others → edits_in fs ≡ behind ys (edits_under (operator_named f.0) f.1 >>= λ es. edits_in others >>= λ more. Ok (es ++ more))
+  follow f others here = so-far ∙ ap (λ l. behind ys (edits_in l)) here
 
-  pub operator-more : (f : Field) (zs : List Edit) → Some f ≡ slice_get fs i → behind ys (edits_under (operator_named f.0) f.1) ≡ Ok zs → edits_in fs ≡ behind zs (edits_in (drop (i + 1) fs))
-  operator-more f zs here is = follow f here ∙ behind-behind ys zs (edits_under (operator_named f.0) f.1) (edits_in (drop (i + 1) fs)) is
+  pub operator-more : (f : Field) (others : List Field) (zs : List Edit) → rest ≡ f ∷ others → behind ys (edits_under (operator_named f.0) f.1) ≡ Ok zs → edits_in fs ≡ behind zs (edits_in others)
+  operator-more f others zs here is = follow f others here ∙ behind-behind ys zs (edits_under (operator_named f.0) f.1) (edits_in others) is
 
-  pub operator-fault : (f : Field) (e : UpdateFault) → Some f ≡ slice_get fs i → behind ys (edits_under (operator_named f.0) f.1) ≡ Err e → edits_in fs ≡ Err e
-  operator-fault f e here is = follow f here ∙ fault-behind ys (edits_under (operator_named f.0) f.1) (λ es. edits_in (drop (i + 1) fs) >>= λ more. Ok (es ++ more)) e (fault-inside ys (edits_under (operator_named f.0) f.1) e is)
+  pub operator-fault : (f : Field) (others : List Field) (e : UpdateFault) → rest ≡ f ∷ others → behind ys (edits_under (operator_named f.0) f.1) ≡ Err e → edits_in fs ≡ Err e
+  operator-fault f others e here is = follow f others here ∙ fault-behind ys (edits_under (operator_named f.0) f.1) (λ es. edits_in others >>= λ more. Ok (es ++ more)) e (fault-inside ys (edits_under (operator_named f.0) f.1) e is)
 
-  pub operators-end : length fs ≤ i → edits_in fs ≡ Ok ys
-  operators-end past = so-far ∙ ap (λ l. behind ys (edits_in l)) (drop_of_length-le fs past) ∙ ap Ok (append-nil ys)
+  pub operators-end : rest ≡ [] → edits_in fs ≡ Ok ys
+  operators-end over = so-far ∙ ap (λ l. behind ys (edits_in l)) over ∙ ap Ok (append-nil ys)
 
 pub gives-fault : {X Y Y' : Type 0} (view : X → Y) (r : Result X UpdateFault) (e : UpdateFault) (part : Result Y' UpdateFault) (whole : Result Y UpdateFault) → r ≡ Err e → (e ≡ NoMemory) ⊎ (part ≡ Err e) → (part ≡ Err e → whole ≡ Err e) → Gives NoMemory view r whole
 gives-fault view r e part whole is (inl m) f = rw is (inl m)

@@ -1,5 +1,5 @@
 -- The fields of a replacement behind its `_id`.
-use Rattle.std.proofs.Common.{◌≡◌, ◌∙◌, ap, ap₂, sym, refl, List, [], ◌∷◌, ◌++◌, ℕ, Bool, true, false, ◌||◌, not, Option, Some, None, append_assoc, append-nil, arith, codes, subst, if◌then◌else◌}
+use Rattle.std.proofs.Common.{◌≡◌, ◌∙◌, ap, ap₂, sym, refl, List, [], ◌∷◌, ◌++◌, ℕ, Bool, true, false, ◌||◌, not, Option, Some, None, append-nil, arith, codes, subst, if◌then◌else◌}
 use Rattle.std.specs.Str.{bytes_eq}
 use Rattle.dv_value.specs.Names.{has_name, has_zero, AreNamed}
 use Rattle.dv_value.specs.Tree.{Tree, Field}
@@ -57,11 +57,8 @@ id_replaced None fields copy named is = rw is (record { whole = refl; apart = Ar
 id_replaced (Some v) fields copy named is = rw is (record { whole = refl; apart = (refl, no-id fields, AreNamed-others fields named) })
 
 module _ {id : Option Tree} {fields copy left : List Field} (so-far : IsReplaced id fields copy left) (f : Field) (rest : List Field) (here : left ≡ f ∷ rest) where
-  kept : (b : Bool) → is_id f ≡ b → copy ++ others left ≡ copy ++ (if not b then f ∷ others rest else others rest)
-  kept b is = ap (λ l. copy ++ others l) here ∙ ap (λ b. copy ++ (if not b then f ∷ others rest else others rest)) is
-
   joined : is_id f ≡ false → AreNamed (copy ++ f ∷ others rest)
-  joined is = subst AreNamed (kept false is) so-far.apart
+  joined is = subst AreNamed (ap (λ l. copy ++ others l) here ∙ ap (λ b. copy ++ (if not b then f ∷ others rest else others rest)) is) so-far.apart
 
   pub whole_name : is_id f ≡ false → has_zero f.0 ≡ false
   whole_name is = named-whole copy (others rest) f (joined is)
@@ -69,21 +66,9 @@ module _ {id : Option Tree} {fields copy left : List Field} (so-far : IsReplaced
   pub fresh_name : is_id f ≡ false → has_name f.0 copy ≡ false
   fresh_name is = named-apart copy (others rest) f (joined is)
 
-  pub field_replaced : is_id f ≡ false → IsReplaced id fields (copy ++ f ∷ []) rest
-  field_replaced is =
-      let same : (copy ++ f ∷ []) ++ others rest ≡ copy ++ f ∷ others rest = append_assoc copy (f ∷ []) (others rest) in
-      record { whole = same ∙ sym (kept false is) ∙ so-far.whole; apart = subst AreNamed (sym same) (joined is) }
-
-  pub id_passed : is_id f ≡ true → IsReplaced id fields copy rest
-  id_passed is = record { whole = sym (kept true is) ∙ so-far.whole; apart = subst AreNamed (kept true is) so-far.apart }
-
 pub all_replaced : {id : Option Tree} {fields copy left : List Field} → IsReplaced id fields copy left → left ≡ [] → copy ≡ with_id id (others fields)
 all_replaced {id} {fields} {copy} {left} so-far none = sym (append-nil copy) ∙ ap (λ l. copy ++ others l) (sym none) ∙ so-far.whole
 
 pub denied : (b : Bool) → true ≡ not b → b ≡ false
 denied true h = cc
 denied false h = refl
-
-pub affirmed : (b : Bool) → false ≡ not b → b ≡ true
-affirmed true h = refl
-affirmed false h = cc

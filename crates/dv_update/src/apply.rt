@@ -82,10 +82,7 @@ fn replaced(alloc: Global, fields: &Document, document: &Document) -> Result<Doc
     ensures { IfOk result (λ changed. changed ≡ defined.replaced fields.now document.now) }
 {
     let mut changed = id_alone(alloc, chosen_id(fields, document))?;
-    'others: for place in 0..fields.len() {
-        let Some((name, value)) = fields.entry(place) else {
-            break;
-        };
+    'others: for (name, value) in fields.iter() {
         if name != ID {
             changed.add(name, value.try_clone()?)?;
         }

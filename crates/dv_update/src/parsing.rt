@@ -66,10 +66,7 @@ fn edits_in(alloc: Global, document: &Document) -> Result<Vec<Edit>, UpdateFault
     ensures { Gives no_memory (λ edits. map edit edits.items) result (defined.edits_in document.now) }
 {
     let mut edits = Vec::new(alloc);
-    'operators: for place in 0..document.len() {
-        let Some((name, operand)) = document.entry(place) else {
-            break;
-        };
+    'operators: for (name, operand) in document.iter() {
         add_edits(alloc, name, operand, &mut edits)?;
     }
     Ok(edits)
@@ -103,10 +100,7 @@ fn add_each(
 ) -> Result<(), UpdateFault>
     ensures { Gives no_memory (λ _. map edit edits.new.items) result (behind (map edit edits.old.items) (defined.edits_by operator paths.now)) }
 {
-    'paths: for place in 0..paths.len() {
-        let Some((name, operand)) = paths.entry(place) else {
-            break;
-        };
+    'paths: for (name, operand) in paths.iter() {
         edits.push(edit_of(alloc, operator, name, operand)?)?;
     }
     Ok(())

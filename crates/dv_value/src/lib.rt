@@ -24,7 +24,7 @@ pub use limits::{
 pub use name::{Name, begins_with_dollar};
 pub use name_list::Names;
 pub use text::Str;
-pub use value::{Document, Fields, List, Value};
+pub use value::{Document, DocumentIter, Fields, List, Value};
 
 /// Memory ran out: the fault of what has no other fault.
 pub type NoMemory = std::alloc::AllocError;

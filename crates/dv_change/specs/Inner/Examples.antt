@@ -1,10 +1,15 @@
 -- Rows and stages of examples.
 use Rattle.std.specs.Prelude.{ℕ, suc, pos, List, [], ◌∷◌, codes, take}
 use Rattle.dv_value.specs.Tree.{Field, int32, int64}
+use Rattle.dv_order.specs.Key.{KeyTree, value}
 use Rattle.dv_change.specs.declared.position.Part.TheVariants.{At}
 use Rattle.dv_change.specs.Changes.{Positioned}
 use Rattle.dv_change.specs.Positions.{PosTree}
 use Rattle.dv_change.specs.Work.{Form}
+
+-- the key of a number, an int32
+abbrev pub number_key : ℕ → KeyTree
+number_key n = value (int32 (pos n))
 
 -- the position at a number
 abbrev pub place : ℕ → PosTree
@@ -45,3 +50,6 @@ two_stages = as_it_comes ∷ first_alone ∷ []
 
 abbrev pub three_stages : List Form
 three_stages = as_it_comes ∷ looked_up_form [] ∷ first_alone ∷ []
+
+abbrev pub two_look_ups : List Form
+two_look_ups = looked_up_form [] ∷ looked_up_form [] ∷ []

@@ -1,9 +1,9 @@
 -- What a position in memory stands for, and what its numbers and its bytes say.
-use Rattle.std.specs.Prelude.{◌≡◌, ◌≤◌, ℕ, List, [], ◌∷◌, length, take, ⊤}
-use Rattle.std.specs.Str.{IsUtf8}
+use Rattle.std.specs.Prelude.{◌≡◌, ℕ, List, [], ◌∷◌, take, ⊤}
 use Rattle.dv_value.specs.Tree.{string, document, fields_of}
 use Rattle.dv_order.specs.Order.{canon}
 use Rattle.dv_order.specs.Key.{value}
+use Rattle.dv_order.specs.Inner.Sources.{IsTextIn}
 use Rattle.dv_change.specs.declared.position.Part.{Part}
 use Rattle.dv_change.specs.declared.position.Part.TheVariants.{Up}
 use Rattle.dv_change.specs.declared.place.Place.{Place}
@@ -32,10 +32,6 @@ IsCodeOf part top high low = (part_top part ≡ top) × (part_high part ≡ high
 -- these are the numbers of the first part, or 0 where there is none
 abbrev pub IsFirstCode : PosTree → ℕ → ℕ → ℕ → Type 0
 IsFirstCode parts top high low = (first_top parts ≡ top) × (first_high parts ≡ high) × (first_low parts ≡ low)
-
--- the first bytes are a text
-abbrev pub IsTextIn : ℕ → List ℕ → Type 0
-IsTextIn len bytes = (len ≤ length bytes) × IsUtf8 (take len bytes)
 
 -- the numbers are the codes of the parts, and the first bytes a text
 abbrev pub IsValid : Place → Type 0

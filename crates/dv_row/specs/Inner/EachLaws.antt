@@ -41,6 +41,18 @@ pub none-yet : {Y : Type 0} (r : Result (List Y) PipelineFault) → r ≡ after_
 none-yet (Ok ys) = refl
 none-yet (Err e) = refl
 
+-- ys, and behind them what the rest gives
+module _ {X Y : Type 0} (f : X → Result Y PipelineFault) (ys : List Y) (rest : List X) where
+  module _ (x : X) (others : List X) (here : rest ≡ x ∷ others) where
+    pub each-next : (y : Y) → f x ≡ Ok y → after_each ys (each f rest) ≡ after_each (ys ++ y ∷ []) (each f others)
+    each-next y e = ap (λ l. after_each ys (each f l)) here ∙ ap (λ r. after_each ys (r >>= λ y. each f others >>= λ zs. Ok (y ∷ zs))) e ∙ after-one ys y (each f others)
+
+    pub each-refused : (e : PipelineFault) → f x ≡ Err e → after_each ys (each f rest) ≡ Err e
+    each-refused e told = ap (λ l. after_each ys (each f l)) here ∙ ap (λ r. after_each ys (r >>= λ y. each f others >>= λ zs. Ok (y ∷ zs))) told
+
+  pub each-over : rest ≡ [] → after_each ys (each f rest) ≡ Ok ys
+  each-over over = ap (λ l. after_each ys (each f l)) over ∙ ap Ok (append-nil ys)
+
 -- those before a place are parsed: they give ys
 pub record IsParsedTo {X Y : Type 0} (f : X → Result Y PipelineFault) (xs : List X) (i : ℕ) (ys : List Y) : Type 0 where
   pub so_far : each f xs ≡ after_each ys (each f (drop i xs))
@@ -50,11 +62,10 @@ parsed-none f xs = record { so_far = none-yet (each f xs) }
 
 module _ {X Y : Type 0} (f : X → Result Y PipelineFault) (xs : List X) (i : ℕ) (ys : List Y) (parsed : IsParsedTo f xs i ys) where
   pub parsed-next : (x : X) (y : Y) → drop i xs ≡ x ∷ drop (i + 1) xs → f x ≡ Ok y → IsParsedTo f xs (i + 1) (ys ++ y ∷ [])
-  parsed-next x y here e =
-      record { so_far = parsed.so_far ∙ ap (λ l. after_each ys (each f l)) here ∙ ap (λ r. after_each ys (r >>= λ y. each f (drop (i + 1) xs) >>= λ zs. Ok (y ∷ zs))) e ∙ after-one ys y (each f (drop (i + 1) xs)) }
+  parsed-next x y here e = record { so_far = parsed.so_far ∙ each-next f ys (drop i xs) x (drop (i + 1) xs) here y e }
 
   pub parsed-refused : (x : X) (e : PipelineFault) → drop i xs ≡ x ∷ drop (i + 1) xs → f x ≡ Err e → each f xs ≡ Err e
-  parsed-refused x e here told = parsed.so_far ∙ ap (λ l. after_each ys (each f l)) here ∙ ap (λ r. after_each ys (r >>= λ y. each f (drop (i + 1) xs) >>= λ zs. Ok (y ∷ zs))) told
+  parsed-refused x e here told = parsed.so_far ∙ each-refused f ys (drop i xs) x (drop (i + 1) xs) here e told
 
   pub parsed-more : (x : X) (y : Y) → i < length xs → x ≡ get_or xs i x → f x ≡ Ok y → IsParsedTo f xs (i + 1) (ys ++ y ∷ [])
   parsed-more x y within is e = parsed-next x y (drop-read xs i x within is) e
@@ -63,7 +74,7 @@ module _ {X Y : Type 0} (f : X → Result Y PipelineFault) (xs : List X) (i : �
   parsed-fault x e within is told = parsed-refused x e (drop-read xs i x within is) told
 
   pub parsed-all : length xs ≤ i → each f xs ≡ Ok ys
-  parsed-all past = parsed.so_far ∙ ap (λ l. after_each ys (each f l)) (drop-past xs i past) ∙ ap Ok (append-nil ys)
+  parsed-all past = parsed.so_far ∙ each-over f ys (drop i xs) (drop-past xs i past)
 
 -- each over what is seen of a list
 pub each-map : {W X Y : Type 0} (f : X → Result Y PipelineFault) (view : W → X) (ws : List W) → each f (map view ws) ≡ each (λ w. f (view w)) ws

@@ -1,5 +1,5 @@
 -- No name so far has a dot. What is inside a value weighs less.
-use Rattle.std.proofs.Common.{◌≡◌, ◌+◌, ◌*◌, drop}
+use Rattle.std.proofs.Common.{◌≡◌, ◌≤◌, ◌+◌, ◌*◌, drop}
 use Rattle.dv_value.specs.Tree.{fields_of, elements_of}
 use Rattle.dv_value.specs.Inner.Tree.{weight, fields_weight, elements_weight}
 use Rattle.dv_value.specs.View.{tree}
@@ -16,7 +16,10 @@ abbrev pub decreases-are_elements_dotted : goal.decreases-are_elements_dotted
 decreases-are_elements_dotted l = 2 * elements_weight (elements_of l.list.now) + 1
 
 abbrev pub invariant-are_fields_dotted-fields : goal.invariant-are_fields_dotted-fields
-invariant-are_fields_dotted-fields l = are_fields_dotted (fields_of l.document) ≡ are_fields_dotted (fields_of (drop l.place l.document))
+invariant-are_fields_dotted-fields l = record {
+  dotted : are_fields_dotted (fields_of l.document) ≡ are_fields_dotted (fields_of l.name-iterator);
+  lighter : fields_weight (fields_of l.name-iterator) ≤ fields_weight (fields_of l.document);
+}
 
 abbrev pub invariant-are_elements_dotted-elements : goal.invariant-are_elements_dotted-elements
 invariant-are_elements_dotted-elements l = are_elements_dotted (elements_of l.list) ≡ are_elements_dotted (elements_of (drop l.value-index l.list))

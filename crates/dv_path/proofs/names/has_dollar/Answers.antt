@@ -1,8 +1,10 @@
-use Rattle.std.proofs.Common.{arith}
+use Rattle.std.proofs.Common.{rules, tests}
+use Rattle.std.proofs.lemmas.Iterator.Consumers.{YieldsList-from_first}
+use Rattle.std.proofs.lemmas.Iterator.Search.{any_from_yields_List}
+use Rattle.dv_value.specs.Tree.{Field}
+use Rattle.dv_value.specs.Names.{begins_with_dollar}
 use Rattle.dv_value.specs.View.{tree}
-use Rattle.dv_path.proofs.Left.{has_dollar-drop}
 use Rattle.dv_path.proofs.names.has_dollar.Goals as goal
 
-pub fields-preserved : goal.fields-preserved
-fields-preserved c =
-    grind (arith, has_dollar-drop c.args.document.now c.fields.place c.in-Some.name.now (tree c.in-Some.field-0-1.now) c.in-Some.ensures)
+pub returns : goal.returns
+returns c = any_from_yields_List (λ (f : Field). begins_with_dollar f.0) _ _ _ c.any.ensures.ran (YieldsList-from_first (λ field. (field.0.now, tree field.1.now)) (λ i. i) c.args.document.now c.iter.ensures.fields) (λ x b q k. search (rules, tests))

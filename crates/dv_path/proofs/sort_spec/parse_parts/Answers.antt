@@ -1,27 +1,22 @@
-use Rattle.std.proofs.Common.{◌∙◌, ◌≤◌, length, ap, sym, arith}
+use Rattle.std.proofs.Common.{◌≡◌, ◌∙◌, ◌++◌, ◌∷◌, [], List, Option, Some, None, option_and_then, ap, sym, map, refl, rules, append_assoc}
 use Rattle.std.specs.Option.{option_map}
 use Rattle.std.proofs.lemmas.List.{map-append}
+use Rattle.dv_value.specs.Tree.{Field}
 use Rattle.dv_value.specs.View.{tree}
 use Rattle.dv_path.specs.Parts.{part}
-use Rattle.dv_path.proofs.Items.{none_there}
-use Rattle.dv_path.proofs.SpecParts.{parts-none, parts-refused, parts-more, parts-all}
+use Rattle.dv_path.specs.SortSpec.{Part, part_of, parts_of}
 use Rattle.dv_path.proofs.sort_spec.parse_parts.Goals as goal
-use Rattle.dv_path.proofs.sort_spec.parse_parts.Goals.{else-fields-test, then-fields-test+in_default}
 
-pub fields-init : goal.fields-init
-fields-init c = rw c.new-parts.ensures.items (parts-none c.args.document.now)
-
-pub returns-in_default-2 : goal.returns-in_default-2
-returns-in_default-2 c = parts-refused (c.in-Some.name.now, tree c.in-Some.value.now) c.fields.invariant (sym c.in-Some.ensures) (sym c.in_ok-part.ensures ∙ ap (option_map part) c.in_default-2.is)
+joined : (parts : List Part) (p : Part) (o : Option (List Part)) → option_map (λ rest. (parts ++ p ∷ []) ++ rest) o ≡ option_map (λ rest. parts ++ rest) (option_and_then (λ ps. Some (p ∷ ps)) o)
+joined parts p None = refl
+joined parts p (Some ps) = ap Some (append_assoc parts (p ∷ []) ps)
 
 pub fields-preserved : goal.fields-preserved
-fields-preserved c = rw (c.in_ok-push.ensures.items, map-append) (parts-more (c.in-Some.name.now, tree c.in-Some.value.now) (part c.in-Some-2.part) c.fields.invariant (sym c.in-Some.ensures) (sym c.in_ok-part.ensures ∙ ap (option_map part) c.in-Some-2.is))
-
-pub returns : goal.returns
-returns c =
-    let past : length c.args.document.now ≤ c.fields.place =
-    elim c.fields-test.branch [
-      | else-fields-test w ↦ omega (arith, c.len-place-end.ensures.len)
-      | then-fields-test+in_default w ↦ none_there c.args.document.now c.fields.place (sym w.in_default.ensures)
-    ] in
-    parts-all c.fields.invariant past
+fields-preserved c =
+    let f : Field = (c.in-Some.name.now, tree c.in-Some.value.now) in
+    let parts = map part c.fields.parts.items in
+    let p = part c.in-Some-2.part in
+    let step : c.fields.name-iterator ≡ f ∷ c.next.new.self = search rules in
+    let is : part_of f ≡ Some p = sym c.in_ok-part.ensures ∙ ap (option_map part) c.in-Some-2.is in
+    let read : parts_of c.fields.name-iterator ≡ option_and_then (λ ps. Some (p ∷ ps)) (parts_of c.next.new.self) = rw (step, is) refl in
+    rw (c.in_ok-push.ensures.items, map-append) (joined parts p (parts_of c.next.new.self) ∙ ap (option_map (λ rest. parts ++ rest)) (sym read) ∙ c.fields.invariant)
