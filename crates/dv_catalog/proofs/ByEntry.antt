@@ -69,3 +69,11 @@ all_stay name (x ∷ xs) none = by_first (is_dropped name x) none (all_stay name
     by_first : (b : Bool) → b || list_any (is_dropped name) xs ≡ false → (list_any (is_dropped name) xs ≡ false → without_index name xs ≡ xs) → (if not b then x ∷ without_index name xs else without_index name xs) ≡ x ∷ xs
     by_first true none rest = absurd cc
     by_first false none rest = ap (λ (ys : List IndexForm). x ∷ ys) (rest none)
+
+-- ---- the limit
+
+pub sixty_four : (indexes : List IndexForm) → length indexes ≡ 64 → within_limit indexes ≡ Ok indexes
+sixty_four indexes is = rw is
+
+pub one_more : (indexes : List IndexForm) → length indexes ≡ 65 → within_limit indexes ≡ Err LimitReached
+one_more indexes is = rw is

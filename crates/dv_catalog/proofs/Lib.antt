@@ -21,8 +21,10 @@ mod Making
 mod Kept
 mod MadeIndexes
 mod Stale
+mod OverLive
 mod Foremost
 mod Fronts
 mod ById
 mod Narrowed
 mod Lent
+mod Counting

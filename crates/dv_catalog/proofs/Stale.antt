@@ -1,11 +1,13 @@
 -- Whether views of some names are stale.
-use Rattle.std.proofs.Common.{◌≡◌, ◌||◌, ℕ, Bool, true, false, if◌then◌else◌, List, [], ◌∷◌, map, Some, refl, sym, ap, subst, ◌∙◌}
+use Rattle.std.proofs.Common.{◌≡◌, ◌||◌, ℕ, Bool, true, false, if◌then◌else◌, List, [], ◌∷◌, codes, map, Some, refl, sym, ap, subst, ◌∙◌}
 use Rattle.std.proofs.lemmas.Slice.Eq.{bytes_eq-Decides}
 use Rattle.std.specs.List.{AllByRecursion, IsDistinct}
 use Rattle.std.specs.Str.{bytes_eq}
 use Rattle.dv_views.specs.Forms.{is_name_among}
+use Rattle.dv_views.specs.Inner.Examples.{over_lists}
 use Rattle.dv_views.specs.Views.{View}
 use Rattle.dv_views.specs.Inner.Views.{AreNamedApart, Views, view_under}
+use Rattle.dv_catalog.specs.Marks.{LiveReadNoStale, live, stale}
 use Rattle.dv_catalog.specs.Inner.CatalogParts.{AreLive, is_one_stale, is_stale_view}
 use Rattle.dv_catalog.specs.Inner.StateLaws.{bytes_eq-symmetric}
 use Rattle.dv_catalog.proofs.Keeping.{neither}
@@ -21,7 +23,7 @@ none_named_stale vs (other ∷ names) none name among =
     by_name false same first rest among = rest among
 
 -- a view is the one of its name
-abbrev AreFound : Views → Views → Type 0
+abbrev pub AreFound : Views → Views → Type 0
 AreFound all vs = AllByRecursion (λ v. view_under v.name all ≡ Some v) vs
 
 found_behind : (w : View) (all vs : Views) → AllByRecursion (λ name. bytes_eq w.name name ≡ false) (map (λ v. v.name) vs) → AreFound all vs → AreFound (w ∷ all) vs
@@ -31,7 +33,8 @@ found_behind w all (v ∷ vs) apart found = (
   found_behind w all vs apart.1 found.1,
 )
 
-found_each : (vs : Views) → AreNamedApart vs → AreFound vs vs
+-- each view is the one of its name, where no two have one
+pub found_each : (vs : Views) → AreNamedApart vs → AreFound vs vs
 unfolding IsDistinct
 found_each [] apart = tt
 found_each (v ∷ vs) apart = (
@@ -49,3 +52,7 @@ live_each names vs apart none = each vs (found_each vs apart)
 -- one name after the other
 pub stale_on : (vs : Views) (name : List ℕ) (rest : List (List ℕ)) (all : Bool) → is_one_stale (name ∷ rest) vs ≡ all → (b : Bool) → b ≡ is_stale_view (view_under name vs) → b || is_one_stale rest vs ≡ all
 stale_on vs name rest all so_far b is = ap (λ (c : Bool). c || is_one_stale rest vs) is ∙ so_far
+
+-- a live view of a stale one
+pub live_over_stale : LiveReadNoStale (over_lists (codes "v") (codes "c") ∷ over_lists (codes "w") (codes "v") ∷ []) (stale ∷ live 0 ∷ []) → ⊥
+live_over_stale h = h.1.0 (codes "v") refl refl

@@ -17,7 +17,7 @@ marked_one : (b : Bool) (v : View) (there : Option View) → (if b then Some (ma
 marked_one true v there = refl
 marked_one false v there = refl
 
-mark_shown : (name : List ℕ) (vs : Views) → mark_named name (map view_form vs) (marks_of vs) ≡ option_map (λ v. mark_of v.mark) (view_under name vs)
+pub mark_shown : (name : List ℕ) (vs : Views) → mark_named name (map view_form vs) (marks_of vs) ≡ option_map (λ v. mark_of v.mark) (view_under name vs)
 mark_shown name [] = refl
 mark_shown name (v ∷ vs) =
     ap (λ (there : Option Mark). if is_view_named name v then Some (mark_of v.mark) else there) (mark_shown name vs) ∙ marked_one (is_view_named name v) v (view_under name vs)

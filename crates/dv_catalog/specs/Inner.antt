@@ -20,3 +20,4 @@ pub mod ViewParts
 pub mod StateLaws
 pub mod ScanLaws
 pub mod EffectLaws
+pub mod Examples

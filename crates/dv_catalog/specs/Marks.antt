@@ -1,10 +1,11 @@
 -- The marks of views: whether each is live, and with how many ticks, or stale. They show only in viewStats.
-use Rattle.std.specs.Prelude.{◌≡◌, ◌⊎◌, ℕ, Bool, true, false, List, [], ◌∷◌, ◌++◌, length, map, Option, Some, None, if◌then◌else◌}
+use Rattle.std.specs.Prelude.{◌≡◌, ◌≢◌, ◌⊎◌, ℕ, Bool, true, false, List, [], ◌∷◌, ◌++◌, length, map, Option, Some, None, if◌then◌else◌, ⊤}
+use Rattle.std.specs.List.{AllZip}
 use Rattle.std.specs.Option.{option_and_then, option_map}
 use Rattle.dv_value.specs.Tree.{Field}
 use Rattle.dv_coll.specs.Collection.{id_key}
 use Rattle.dv_command.specs.Asked.{ViewOn}
-use Rattle.dv_pipe.specs.Stages.{Lists}
+use Rattle.dv_pipe.specs.Stages.{Lists, is_read}
 use Rattle.dv_change.specs.Raised.{raised}
 use Rattle.dv_views.specs.Flow.{Share, shares}
 use Rattle.dv_views.specs.Forms.{ViewForm, is_name_among, names_read, needed}
@@ -167,3 +168,15 @@ rows_by rows stale = None
 -- the rows that the view with this name stores, if it exists and is live
 abbrev pub stored_of : List ℕ → Marked → Option (List (List Field))
 stored_of namespace marked = option_and_then (rows_by (rows_of namespace marked.state)) (mark_named namespace marked.state.views marked.marks)
+
+-- ---- what a live view reads
+
+module _ (views : List ViewForm) (marks : Marks) where
+  -- what a view reads is not stale, if the view with this mark is live
+  abbrev pub ReadsNoStale : ViewForm → Mark → Type 0
+  ReadsNoStale v (live ticks) = (name : List ℕ) → is_read v.stages v.source name ≡ true → mark_named name views marks ≢ Some stale
+  ReadsNoStale v stale = ⊤
+
+  -- no live view reads a stale one
+  abbrev pub LiveReadNoStale : Type 0
+  LiveReadNoStale = AllZip ReadsNoStale views marks

@@ -1,7 +1,6 @@
 //! Collections and views together.
 
 ghost use Rattle.std.specs.Prelude.{◌≡◌};
-ghost use Rattle.dv_catalog.specs.Views.{view_refusal};
 
 mod deletes;
 
@@ -9,7 +8,7 @@ use crate::collections::Collections;
 use crate::counts::{Counted, NOTHING};
 use crate::effect::{Changes, Effect};
 use crate::explained::{Explained, explained_in, explained_view};
-use crate::failure::Stopped;
+use crate::failure::{Stopped, refusal_of};
 use crate::front::rows_of_stages;
 use crate::indexing::IndexCounts;
 use crate::laws::{changes_keep_the_order, told_changes_are_made};
@@ -24,7 +23,7 @@ use dv_command::{Aggregate, Create, Find, Refusal, Updating, ViewOn};
 use dv_index::NewIndex;
 use dv_match::Filter;
 use dv_value::{Document, NoMemory};
-use dv_views::{ToldRegistry, ViewFault, names_read};
+use dv_views::{ToldRegistry, names_read};
 use std::alloc::Global;
 use std::marker::Model;
 
@@ -63,7 +62,7 @@ impl Catalog {
     ghost use Rattle.dv_catalog.specs.Inner.EffectView.{ArePlaced, StandsFor, changes_seen, effect_seen};
     ghost use Rattle.dv_catalog.specs.IndexMaking as indexing;
     ghost use Rattle.dv_catalog.specs.Inner.IndexParts.{explained_seen, index_counts};
-    ghost use Rattle.dv_catalog.specs.Marks.{AreMarkedByDrop, all_gone, nothing_marked, stats_of, stored_of};
+    ghost use Rattle.dv_catalog.specs.Marks.{AreMarkedByDrop, LiveReadNoStale, all_gone, nothing_marked, stats_of, stored_of};
     ghost use Rattle.dv_catalog.specs.Inner.Parts.{AreMarkedFrom, Leaves, Makes, MakesCounted, MakesSo, Reads, StandBehind, StandBy, StandCreated, StandSo, one_changed};
     ghost use Rattle.dv_catalog.specs.Inner.StatsView.{stats_seen};
     ghost use Rattle.dv_catalog.specs.Scan as scans;
@@ -81,6 +80,13 @@ impl Catalog {
             collections: Collections::new(alloc),
             views: ToldRegistry::new(alloc),
         }
+    }
+
+    /// That no live view reads a stale one. Does nothing.
+    pub fn law_live_read_no_stale(&self)
+        ensures { LiveReadNoStale self.now.state.views self.now.marks }
+    {
+        self.views.law_sound();
     }
 
     /// Whether there is a view under the namespace. Takes no memory.
@@ -387,17 +393,5 @@ impl Catalog {
         }
         dv_views::laws::what_is_not_read_does_not_matter();
         self.collections.drop_indexes(namespace, name)
-    }
-}
-
-/// How a command is refused for the fault of a new view.
-fn refusal_of(fault: ViewFault) -> Refusal
-    ensures { result ≡ view_refusal fault }
-{
-    match fault {
-        ViewFault::Exists => Refusal::NamespaceExists,
-        ViewFault::ReadByView => Refusal::ReadByView,
-        ViewFault::LimitReached => Refusal::LimitReached,
-        ViewFault::NoMemory => Refusal::WantOfMemory,
     }
 }

@@ -38,7 +38,7 @@ pub(crate) fn explained_view(rows: ViewRows<'_>) -> Explained
 {
     Explained {
         way: Access::View,
-        documents: rows.count(),
+        documents: rows.len(),
     }
 }
 

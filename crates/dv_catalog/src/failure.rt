@@ -1,11 +1,13 @@
 //! How a statement ends that isn't carried out.
 
 ghost use Rattle.std.specs.Prelude.{◌≡◌};
+ghost use Rattle.dv_catalog.specs.Views.{view_refusal};
 ghost use Rattle.dv_refusal.specs.Refusals.{insert_refusal};
 ghost use Rattle.dv_refusal.specs.declared.refusal.Refusal.TheVariants.{WantOfMemory};
 
 use dv_coll::InsertFault;
 use dv_command::Refusal;
+use dv_views::ViewFault;
 use std::alloc::{AllocError, AllocFailed};
 
 /// Why a statement isn't carried out, and what it leaves.
@@ -54,5 +56,17 @@ impl From<InsertFault> for Stopped {
             refusal: Refusal::from(fault),
             done: 0,
         }
+    }
+}
+
+/// How a command is refused for the fault of a new view.
+pub(crate) fn refusal_of(fault: ViewFault) -> Refusal
+    ensures { result ≡ view_refusal fault }
+{
+    match fault {
+        ViewFault::Exists => Refusal::NamespaceExists,
+        ViewFault::ReadByView => Refusal::ReadByView,
+        ViewFault::LimitReached => Refusal::LimitReached,
+        ViewFault::NoMemory => Refusal::WantOfMemory,
     }
 }

@@ -1,4 +1,4 @@
-//! Views, kept over what stands under namespaces.
+//! Stale views, recomputed before what depends on them is read.
 
 ghost use Rattle.std.specs.Prelude.{◌≡◌, ◌∷◌, [], false, ℕ, List, OnOk};
 ghost use Rattle.dv_views.specs.Forms as forms;
@@ -82,7 +82,7 @@ fn is_one_stale(registry: &ToldRegistry, names: &[Str]) -> bool
     ensures live { result ≡ false → AreLive names.now registry.now }
 {
     // No two views have one name.
-    registry.law_named_apart();
+    registry.law_sound();
     'names: for name in names {
         if is_stale(registry, name.as_str()) {
             return true;
@@ -109,5 +109,5 @@ pub(crate) fn law_shown(registry: &ToldRegistry)
 {
     dv_views::laws::what_is_shown_is_right();
     // No two views have one name.
-    registry.law_named_apart();
+    registry.law_sound();
 }

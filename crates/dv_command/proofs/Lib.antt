@@ -1,4 +1,3 @@
-mod Places
 pub mod Checks
 pub mod Among
 mod Lengths

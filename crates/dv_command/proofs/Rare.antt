@@ -1,6 +1,5 @@
 -- A find without a field that most finds don't have.
-use Rattle.std.proofs.Common.{◌≡◌, ℕ, ◌+◌, Bool, true, false, ◌||◌, List, [], ◌∷◌, drop, Option, None, Some, Result, Ok, if◌then◌else◌, codes, refl, sym, ap, ◌∙◌}
-use Rattle.std.specs.List.{slice_get}
+use Rattle.std.proofs.Common.{◌≡◌, ℕ, Bool, true, false, ◌||◌, List, [], ◌∷◌, Option, None, Some, Result, Ok, if◌then◌else◌, codes, refl, sym, ap, ◌∙◌}
 use Rattle.std.specs.Str.{bytes_eq}
 use Rattle.std.proofs.lemmas.Slice.Eq.{bytes_eq-Decides}
 use Rattle.dv_value.specs.Names.{value_under}
@@ -13,11 +12,6 @@ use Rattle.dv_command.specs.Fields.{boolean_in, boolean_under, document_in, natu
 use Rattle.dv_command.specs.Forms.{filter_under, sort_of, sort_under}
 use Rattle.dv_command.specs.Namespaces.{namespace}
 use Rattle.dv_command.specs.Inner.Rare.{is_rare, has_rare}
-use Rattle.dv_command.proofs.Places.{drop_at}
-
--- the field at an index, or one behind it
-pub rare-at : (fs : List Field) (index : ℕ) (f : Field) → slice_get fs index ≡ Some f → has_rare (drop index fs) ≡ (is_rare f.0 || has_rare (drop (index + 1) fs))
-rare-at fs index f e = ap has_rare (drop_at fs index f e)
 
 -- no field has a rare name where none of the fields has one
 absent : (name : List ℕ) (fs : List Field) → is_rare name ≡ true → has_rare fs ≡ false → value_under name fs ≡ None

@@ -76,14 +76,7 @@ fn find_in(alloc: Global, database: &str, body: &Document) -> Result<Find, Refus
 fn has_rare(body: &Document) -> bool
     ensures { result ≡ rare.has_rare body.now }
 {
-    'fields: for place in 0..body.len() {
-        if let Some((name, _)) = body.entry(place) {
-            if is_rare(name) {
-                return true;
-            }
-        }
-    }
-    false
+    body.iter().any(|(name, _)| is_rare(name))
 }
 
 fn is_rare(name: &str) -> bool

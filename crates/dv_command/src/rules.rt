@@ -69,10 +69,8 @@ pub(crate) fn check_fields(
 ) -> Result<(), Refusal>
     ensures { result ≡ defined.check_fields (place_seen place) (map rule_seen rules.now) document.now }
 {
-    'fields: for index in 0..document.len() {
-        if let Some((name, value)) = document.entry(index) {
-            check_field(place, rules, name, value)?;
-        }
+    'fields: for (name, value) in document.iter() {
+        check_field(place, rules, name, value)?;
     }
     Ok(())
 }

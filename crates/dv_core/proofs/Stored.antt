@@ -1,7 +1,7 @@
 -- A document with one of its fields in front.
-use Rattle.std.specs.Prelude.{◌≡◌, ℕ, ◌≤◌, ◌||◌, ◌&&◌, ◌↔◌, IsTrue, not, nat_lt, Bool, true, false, if◌then◌else◌, List, [], ◌∷◌, ◌++◌, length, drop, slice_get, Option, Result, Ok, Err, Some, None, zero, suc, refl, codes}
+use Rattle.std.specs.Prelude.{◌≡◌, ℕ, ◌≤◌, ◌||◌, ◌&&◌, ◌↔◌, IsTrue, not, nat_lt, Bool, true, false, if◌then◌else◌, List, [], ◌∷◌, ◌++◌, length, slice_get, Option, Result, Ok, Err, Some, None, suc, refl, codes}
 use Rattle.std.specs.Str.{bytes_eq}
-use Rattle.std.proofs.Common.{ap, sym, ◌∙◌, subst, arith, append_assoc, drop_of_length-le}
+use Rattle.std.proofs.Common.{ap, sym, ◌∙◌, subst, arith, append_assoc}
 use Rattle.std.proofs.lemmas.List.{append-nil}
 use Rattle.std.proofs.lemmas.Bool.Decides.{nat_tests}
 use Rattle.std.proofs.lemmas.Slice.Eq.{bytes_eq-Decides}
@@ -14,12 +14,6 @@ use Rattle.dv_refusal.specs.declared.refusal.Refusal.{Refusal}
 use Rattle.dv_refusal.specs.declared.refusal.Refusal.TheVariants.{TooLarge}
 use Rattle.dv_value.specs.Results.{◌>>=◌}
 use Rattle.dv_core.specs.Storable.{id_in, is_within_limits, with_id_first, storable}
-
--- past the last field nothing is left
-pub drop-none : (fs : List Field) (place : ℕ) → None ≡ slice_get fs place → drop place fs ≡ []
-drop-none [] place none = drop_of_length-le [] (omega arith)
-drop-none (f ∷ fs) zero none = absurd cc
-drop-none (f ∷ fs) (suc place) none = drop-none fs place none
 
 -- ---- a document without one of its fields
 

@@ -1,4 +1,4 @@
-//! The outcomes of commands that change nothing.
+//! The outcomes of commands: their replies, or why they are refused.
 
 ghost use Rattle.std.specs.Prelude.{◌≡◌, ◌<◌, ◌^◌, [], Ok, IfOk, OnErr};
 ghost use Rattle.dv_refusal.specs.declared.refusal.Refusal.TheVariants.{WantOfMemory};
@@ -15,7 +15,7 @@ use dv_command::replies::{hello_reply, refusal_reply, reply_of};
 use dv_value::{Document, NoMemory};
 use std::alloc::Global;
 
-/// The outcome of a command that changes nothing: its reply, or why it is refused.
+/// The outcome of a command: its reply, or why it is refused.
 pub(crate) fn outcome_of(
     alloc: Global,
     reserve: &mut Reserve,

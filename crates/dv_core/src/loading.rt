@@ -1,4 +1,4 @@
-//! Where documents are loaded.
+//! The namespace into which documents are loaded.
 
 ghost use Rattle.std.specs.Prelude.{◌≡◌, ◌&&◌, not, nat_lt, length};
 ghost use Rattle.std.specs.String.{string_bytes};

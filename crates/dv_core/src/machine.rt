@@ -48,7 +48,7 @@ impl Model for Machine {
 impl Machine {
     ghost use Rattle.std.specs.Prelude.{◌≡◌, ◌<◌, ◌^◌, Ok, IfErr, IfOk, OnErr, OnOk};
     ghost use Rattle.dv_value.specs.declared.fault.BsonFault.TheVariants.{NoMemory};
-    ghost use Rattle.dv_catalog.specs.Marks.{AreMarkedByDrop, stored_of};
+    ghost use Rattle.dv_catalog.specs.Marks.{AreMarkedByDrop, LiveReadNoStale, stored_of};
     ghost use Rattle.dv_catalog.specs.Inner.Parts.{StandCreated, StandSo};
     ghost use Rattle.dv_command.specs.declared.command.Command.TheVariants.{Invalid};
     ghost use Rattle.dv_refusal.specs.Refusals.{UnlessWanting};
@@ -317,6 +317,13 @@ impl Machine {
             return Err(stopped.refusal);
         }
         Ok(())
+    }
+
+    /// That no live view reads a stale one. Does nothing.
+    pub fn law_live_read_no_stale(&self)
+        ensures { LiveReadNoStale self.now.catalog.views self.now.marks }
+    {
+        self.catalog.law_live_read_no_stale();
     }
 
     /// The rows that the view of a namespace keeps, in their order. None if there is no view there, or a stale one.

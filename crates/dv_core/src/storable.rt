@@ -62,10 +62,7 @@ fn with_id_moved(alloc: Global, document: &Document, id: &Value) -> Result<Docum
 {
     let mut copy = Document::new(alloc);
     add(&mut copy, ID, id.try_clone()?)?;
-    'others: for place in 0..document.len() {
-        let Some((name, value)) = document.entry(place) else {
-            break;
-        };
+    'others: for (name, value) in document.iter() {
         if name != ID {
             add(&mut copy, name, value.try_clone()?)?;
         }

@@ -39,7 +39,7 @@ impl Model for Store {
 impl Store {
     ghost use Rattle.std.specs.Prelude.{◌≡◌, IfErr, OnErr, OnOk};
     ghost use Rattle.dv_value.specs.declared.fault.BsonFault.TheVariants.{NoMemory};
-    ghost use Rattle.dv_catalog.specs.Marks.{stored_of};
+    ghost use Rattle.dv_catalog.specs.Marks.{LiveReadNoStale, stored_of};
     ghost use Rattle.dv_command.specs.declared.command.Command.TheVariants.{Invalid};
     ghost use Rattle.dv_core.specs.Load as loading;
     ghost use Rattle.dv_core.specs.State.{empty_store_state, marked};
@@ -132,6 +132,14 @@ impl Store {
         ensures { result ≡ stored_of namespace.now (marked self.now) }
     {
         self.machine.stored_rows(namespace)
+    }
+
+    /// That no live view reads a stale one, at every moment: a view that reads one that becomes stale becomes stale too. Does
+    /// nothing.
+    pub fn law_live_read_no_stale(&self)
+        ensures { LiveReadNoStale self.now.catalog.views self.now.marks }
+    {
+        self.machine.law_live_read_no_stale();
     }
 
     /// Ends the cursors of a session. Takes no memory, and costs the cursors that it has.

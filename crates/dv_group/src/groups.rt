@@ -1,4 +1,4 @@
-//! The rows of groups.
+//! Groups by their keys, which changes of rows keep up to date.
 
 ghost use Rattle.std.specs.Prelude.{◌≡◌, [], IfOk, OnOk, Some};
 ghost use Rattle.dv_order.specs.Key.{KeyTree};

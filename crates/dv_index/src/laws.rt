@@ -1,18 +1,18 @@
 //! What holds of indexes and of the finds that they answer, each the contract of a function that does nothing.
 
-ghost use Rattle.std.specs.Prelude.{◌≡◌, ◌≤◌, ◌||◌, ◌++◌, ◌∷◌, [], ℕ, Bool, false, codes, filter as kept, length, List, IsSome, None, Ok, Some};
+ghost use Rattle.std.specs.Prelude.{◌≡◌, ◌≤◌, ◌||◌, ◌++◌, ◌∷◌, [], ℕ, Bool, true, false, codes, filter as kept, length, List, IsSome, None, Ok, Some};
 ghost use Rattle.std.specs.List.{flat_map};
 ghost use Rattle.std.specs.List.Sorted.{IsStrictlySortedBy};
 ghost use Rattle.std.specs.Ordering.{is_eq};
 ghost use Rattle.std.specs.Str.{bytes_eq};
 ghost use Rattle.dv_value.specs.Tree.{Field, null};
 ghost use Rattle.dv_coll.specs.Collection.{IsAscending, found, id_key, inserted, removed, replaced};
-ghost use Rattle.dv_value.specs.Short.{doc, int, list, one};
+ghost use Rattle.dv_value.specs.Short.{doc, int, list, long, one};
 ghost use Rattle.dv_match.specs.Filter.{Members};
 ghost use Rattle.dv_match.specs.Match.{matches};
 ghost use Rattle.dv_order.specs.Key.{KeyTree, key_order};
 ghost use Rattle.dv_keyed.specs.Choice.{chosen};
-ghost use Rattle.dv_index.specs.Inner.Examples.{covered_by, index_for, three_indexes};
+ghost use Rattle.dv_index.specs.Inner.Examples.{are_one_key, break_it, clash_beside_it, covered_by, index_for, three_indexes};
 ghost use Rattle.dv_keyed.specs.Index.{IndexForm, id_form};
 ghost use Rattle.dv_keyed.specs.Inner.Index.{IndexTree};
 ghost use Rattle.dv_index.specs.Indexed.{IndexedTree, documents_covered, without_index};
@@ -120,4 +120,19 @@ pub fn covered_by_example()
     ensures missing_as_null { covered_by three_indexes (one (codes "b") null) ≡ Ok 3 }
     ensures on_id { covered_by three_indexes (one (codes "_id") (int 2)) ≡ Ok 1 }
     ensures no_index { covered_by (id_form ∷ []) (one (codes "a") (int 7)) ≡ Ok 3 }
+{}
+
+/// Two documents break a unique index on `a` if they have one number in two widths, an element in common, an array whole in the one
+/// and as an element in the other, or if both have no `a`, or null: but not by different numbers, or the same document twice.
+#[tactic(auto, unfolding(dv_candidates::specs::Path::index_of, dv_candidates::specs::Candidates::whole, dv_candidates::specs::Candidates::leaves, dv_path::specs::LeafKeys::is_leaf_key, dv_path::specs::LeafKeys::leaf_values, crate::specs::Unique::share_key))]
+pub fn unique_keys_by_example()
+    ensures two_widths { are_one_key (int 5) (long 5) ≡ true }
+    ensures other_number { are_one_key (int 5) (int 6) ≡ false }
+    ensures element { are_one_key (list (int 1 ∷ int 2 ∷ [])) (int 2) ≡ true }
+    ensures whole_array { are_one_key (list (list (int 1 ∷ []) ∷ [])) (list (int 1 ∷ [])) ≡ true }
+    ensures other_elements { are_one_key (list (int 1 ∷ int 2 ∷ [])) (list (int 3 ∷ [])) ≡ false }
+    ensures both_missing { break_it [] [] ≡ true }
+    ensures missing_as_null { break_it [] (one (codes "a") null) ≡ true }
+    ensures another_document { clash_beside_it 2 ≡ true }
+    ensures itself { clash_beside_it 1 ≡ false }
 {}

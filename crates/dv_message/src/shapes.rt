@@ -106,26 +106,18 @@ fn has_shape(document: &Document, shape: &Document, levels: u32) -> bool {
     if document.len() != shape.len() {
         return false;
     }
-    'fields: for place in 0..document.len() {
-        if !has_shape_at(place, document, shape, levels) {
+    'fields: for ((name, value), (like, shape)) in document.iter().zip(shape.iter()) {
+        if name != like || !has_value_shape(value, shape, levels) {
             return false;
         }
     }
     true
 }
 
-/// Whether the field at a place has the name of the one there in the shape, and the shape of its value.
+/// Whether a value has this shape: each of the two is a document or begins with one, and the first has the shape of the second, or
+/// neither does. Any value has where no levels are left.
 #[cycle(comparison)]
-fn has_shape_at(place: usize, document: &Document, shape: &Document, levels: u32) -> bool {
-    let Some((name, value)) = document.entry(place) else {
-        return false;
-    };
-    let Some((like, shape)) = shape.entry(place) else {
-        return false;
-    };
-    if name != like {
-        return false;
-    }
+fn has_value_shape(value: &Value, shape: &Value, levels: u32) -> bool {
     if levels == 0 {
         return true;
     }
@@ -161,11 +153,9 @@ fn small_shape_of(alloc: Global, document: &Document) -> Result<Document, BsonFa
 #[cycle(making)]
 fn shape_of(alloc: Global, document: &Document, levels: u32) -> Result<Document, BsonFault> {
     let mut shape = Document::expecting(alloc, document)?;
-    'fields: for place in 0..document.len() {
-        if let Some((name, value)) = document.entry(place) {
-            let value = value_shape(alloc, value, levels)?;
-            shape.push(name, value)?;
-        }
+    'fields: for (name, value) in document.iter() {
+        let value = value_shape(alloc, value, levels)?;
+        shape.push(name, value)?;
     }
     Ok(shape)
 }

@@ -19,7 +19,7 @@ use Rattle.dv_pipe.specs.declared.stage.Stage.{Stage}
 use Rattle.dv_views.specs.Changed.{documents_changed, with_changed}
 use Rattle.dv_views.specs.Inner.Changed.{AreMade, AreMadeInTurn, AreToldOf, IsMade}
 use Rattle.dv_views.specs.Inner.Counted.{AreCounted, HasCountedShare}
-use Rattle.dv_views.specs.Flow.{Arrival, Flow, Share, Told, all_together, arrivals, handed_by, is_reached, nothing, shares, shares_of, shares_together, told_at, flow_told, flow_with_told, work_by}
+use Rattle.dv_views.specs.Flow.{Arrival, Flow, Share, Told, all_together, arrivals, handed_by, is_reached, shares, shares_of, told_at, flow_told, flow_with_told, work_by}
 use Rattle.dv_views.specs.Forms.{ViewForm, is_name_among, names_read, outs_of, with_places, with_rows}
 use Rattle.dv_views.specs.Inner.Holding.{HasMade}
 use Rattle.dv_views.specs.Placed.{ListPlaces, list_places, positioned}
@@ -28,9 +28,10 @@ use Rattle.dv_views.specs.Views.{Kept, Taken, ViewMark, live, stale, View, taken
 use Rattle.dv_views.specs.Inner.Views.{AreKept, AreOverLive, AreRight, AreRightOver, IsRight, Views, distance, view_form, is_stale, no_distance, mark_ticks, with_distance}
 use Rattle.dv_views.proofs.Agree.{Agrees, FromScratch}
 use Rattle.dv_views.proofs.Made.{forgotten}
+use Rattle.dv_views.proofs.CountedMore.{all_counted_more, counted_none}
 use Rattle.dv_views.proofs.Coming.{Knows, all_come, all_there, told_is, told_of_along}
-use Rattle.dv_views.proofs.Right.{UnreadDoesNotMatter, itself, neither}
-use Rattle.dv_views.proofs.Rolling.{raised_none, raised_twice}
+use Rattle.dv_views.proofs.Right.{UnreadDoesNotMatter, itself}
+use Rattle.dv_views.proofs.Rolling.{raised_none}
 use Rattle.dv_views.proofs.Scratch.{one_length}
 use Rattle.dv_views.proofs.Unread.{lists_behind, no_arrivals, one_change, shares_more}
 use Rattle.dv_views.proofs.Turns.{changed_parts, first-change, one-identified, one-own}
@@ -249,43 +250,6 @@ counted_after namespace c lists before after right taken =
     let told = told_of (lists namespace) c in
     subst (λ (vs : Views). AreCounted (shares_of (flow_of namespace c lists) (map view_form before)) before vs) taken.views
     (counted-from (known_at namespace told) (told_at namespace (c ∷ [])) no_distance (list_places lists) lists before taken.tellings (first-told namespace c told) (λ name zero. first-knows namespace c lists name) right taken.taken)
-
--- ---- changes one after the other
-
-not-stale : (m n : ViewMark) → (is_stale m ≡ true → is_stale n ≡ true) → is_stale n ≡ false → is_stale m ≡ false
-not-stale (live kept) n stays has = refl
-not-stale stale n stays has = absurd (let e : false ≡ true = sym has ∙ stays refl in cc)
-
-pub counted_more : (s t : Share) (v w u : View) → HasCountedShare s v w → HasCountedShare t w u → HasCountedShare (shares_together s t) v u
-counted_more s t v w u first second = record {
-  form = second.form ∙ first.form;
-  unread = λ away. let both = neither s.reached t.reached away in second.unread both.1 ∙ first.unread both.0;
-  stale = λ is. second.stale (first.stale is);
-  ticks = λ has. second.ticks has ∙ ap (λ n. raised n t.work) (first.ticks (not-stale w.mark u.mark second.stale has)) ∙ raised_twice (mark_ticks v.mark) s.work t.work;
-}
-
-none-more : (ts : List Share) (us : Views) → AreCounted ts [] us → AreCounted [] [] us
-none-more [] [] k = tt
-none-more [] (u ∷ us) k = absurd k
-none-more (t ∷ ts) [] k = absurd k
-none-more (t ∷ ts) (u ∷ us) k = absurd k
-
-pub all_counted_more : (ss ts : List Share) (vs ws us : Views) → AreCounted ss vs ws → AreCounted ts ws us → AreCounted (all_together ss ts) vs us
-all_counted_more [] ts [] [] us h k = none-more ts us k
-all_counted_more [] ts [] (w ∷ ws) us h k = absurd h
-all_counted_more [] ts (v ∷ vs) [] us h k = absurd h
-all_counted_more [] ts (v ∷ vs) (w ∷ ws) us h k = absurd h
-all_counted_more (s ∷ ss) ts [] [] us h k = absurd h
-all_counted_more (s ∷ ss) ts [] (w ∷ ws) us h k = absurd h
-all_counted_more (s ∷ ss) ts (v ∷ vs) [] us h k = absurd h
-all_counted_more (s ∷ ss) [] (v ∷ vs) (w ∷ ws) [] h k = absurd k
-all_counted_more (s ∷ ss) [] (v ∷ vs) (w ∷ ws) (u ∷ us) h k = absurd k
-all_counted_more (s ∷ ss) (t ∷ ts) (v ∷ vs) (w ∷ ws) [] h k = absurd k
-all_counted_more (s ∷ ss) (t ∷ ts) (v ∷ vs) (w ∷ ws) (u ∷ us) h k = (counted_more s t v w u h.0 k.0, all_counted_more ss ts vs ws us h.1 k.1)
-
-pub counted_none : (vs : Views) → AreCounted (map (λ v. nothing) (map view_form vs)) vs vs
-counted_none [] = tt
-counted_none (v ∷ vs) = (record { form = refl; unread = λ _. refl; stale = λ is. is; ticks = λ _. raised_none (mark_ticks v.mark) }, counted_none vs)
 
 -- ---- changes that views hand on, one after the other
 

@@ -18,6 +18,7 @@ pub mod Unread
 pub mod Limit
 pub mod Coming
 pub mod OneBehind
+pub mod CountedMore
 pub mod Behind
 mod Losing
 pub mod Heights

@@ -23,7 +23,8 @@ use Rattle.dv_views.specs.Placed.{own_position}
 use Rattle.dv_views.specs.Inner.Turned.{HaveTaken, comes_to, known_at}
 use Rattle.dv_views.specs.Inner.Views.{AreOverLive, AreRight, Views, view_form, no_distance, reads_name}
 use Rattle.dv_views.proofs.Agree.{FromScratch}
-use Rattle.dv_views.proofs.Behind.{AreToldIn, HaveFollowed, counted_none, follow_told}
+use Rattle.dv_views.proofs.Behind.{AreToldIn, HaveFollowed, follow_told}
+use Rattle.dv_views.proofs.CountedMore.{counted_none}
 use Rattle.dv_views.proofs.Heights.{read_forms}
 use Rattle.dv_views.proofs.Right.{UnreadDoesNotMatter}
 use Rattle.dv_views.proofs.Unread.{no_shares}

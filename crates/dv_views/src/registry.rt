@@ -94,9 +94,9 @@ impl Registry {
         self.views.rows(name)
     }
 
-    /// The count of the work that changes of what it reads took since the view of this name was made: for each stage, 1 for each
-    /// change that it took in, and 1 for each that it returned. It stays at 9,223,372,036,854,775,807, and is 0 if the view is
-    /// stale. None if there is no such view. Takes no memory.
+    /// The count of the work that changes of what it reads took since the rows of the view of this name were made or recomputed: for
+    /// each stage, 1 for each change that it took in, and 1 for each that it returned. It stays at 9,223,372,036,854,775,807, and
+    /// is 0 if the view is stale. None if there is no such view. Takes no memory.
     pub fn ticks(&self, name: &str) -> Option<u64>
         ensures { result ≡ option_map (λ v. mark_ticks v.mark) (view_under name.now self.now.views) }
     {

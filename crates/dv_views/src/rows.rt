@@ -48,3 +48,9 @@ impl<'a> Iterator for ViewRows<'a> {
         self.rows.next()
     }
 }
+
+impl<'a> ExactSizeIterator for ViewRows<'a> {
+    fn len(&self) -> usize {
+        self.rows.len()
+    }
+}

@@ -87,9 +87,9 @@ impl ToldRegistry {
         self.views.len()
     }
 
-    /// That no two views have one name. Does nothing.
-    pub fn law_named_apart(&self)
-        ensures { AreNamedApart self.now }
+    /// That no two views have one name, that each reads only older ones, and that a live view reads no stale one. Does nothing.
+    pub fn law_sound(&self)
+        ensures { IsSoundRegistry self.now }
     {
         let _views = &self.views;
     }
@@ -146,9 +146,9 @@ impl ToldRegistry {
         Some(view.row_count())
     }
 
-    /// The count of the work that changes of what it reads took since the view of this name was made: for each stage, 1 for each
-    /// change that it took in, and 1 for each that it returned. It stays at 9,223,372,036,854,775,807, and is 0 if the view is
-    /// stale. None if there is no such view. Takes no memory.
+    /// The count of the work that changes of what it reads took since the rows of the view of this name were made or recomputed: for
+    /// each stage, 1 for each change that it took in, and 1 for each that it returned. It stays at 9,223,372,036,854,775,807, and
+    /// is 0 if the view is stale. None if there is no such view. Takes no memory.
     pub fn ticks(&self, name: &str) -> Option<u64>
         ensures { result ≡ option_map (λ v. mark_ticks v.mark) (view_under name.now self.now) }
     {

@@ -160,7 +160,7 @@ impl View {
         }
     }
 
-    /// The count of the work that its changes took since it was made.
+    /// The count of the work that its changes took since its rows were made or recomputed.
     pub(crate) fn ticks(&self) -> u64
         ensures { result ≡ mark_ticks self.now.mark }
     {

@@ -1,13 +1,14 @@
--- Worked examples: by which index a find is answered, and how many documents it covers. Filters and
--- documents are as they are written.
-use Rattle.std.specs.Prelude.{ℕ, false, List, [], ◌∷◌, Option, Result, Ok, codes}
-use Rattle.dv_value.specs.Tree.{Field, fields_of}
+-- Worked examples: by which index a find is answered, how many documents it covers, and which documents break a unique index. Filters
+-- and documents are as they are written.
+use Rattle.std.specs.Prelude.{ℕ, Bool, true, false, List, [], ◌∷◌, Option, Result, Ok, codes}
+use Rattle.dv_value.specs.Tree.{Field, Tree, fields_of}
 use Rattle.dv_match.specs.declared.fault.FilterFault.{FilterFault}
-use Rattle.dv_value.specs.Short.{int, list}
+use Rattle.dv_value.specs.Short.{int, list, one}
 use Rattle.dv_match.specs.Parsing.{filter_in}
 use Rattle.dv_value.specs.Results.{◌>>=◌}
 use Rattle.dv_keyed.specs.Index.{IndexForm, id_form}
 use Rattle.dv_index.specs.Indexed.{documents_covered, index_chosen}
+use Rattle.dv_index.specs.Unique.{are_broken, clashes}
 
 -- the indexes on `_id`, on a and on b, made in this order
 abbrev pub three_indexes : List IndexForm
@@ -24,3 +25,19 @@ three_documents = ((codes "_id", int 1) ∷ (codes "a", list (int 0 ∷ int 5 �
 -- how many of them a find covers by some indexes, or the fault of what is no filter
 abbrev pub covered_by : List IndexForm → List Field → Result ℕ FilterFault
 covered_by indexes filter = filter_in (fields_of filter) >>= λ ms. Ok (documents_covered ms (record { documents = three_documents; indexes = indexes }))
+
+-- a unique index on a
+abbrev pub unique_on_a : IndexForm
+unique_on_a = record { name = codes "a_1"; path = codes "a" ∷ []; unique = true }
+
+-- whether two documents break it that have these fields behind their `_id`s
+abbrev pub break_it : List Field → List Field → Bool
+break_it first second = are_broken (id_form ∷ unique_on_a ∷ []) (((codes "_id", int 1) ∷ first) ∷ ((codes "_id", int 2) ∷ second) ∷ [])
+
+-- the same of documents with these values as a
+abbrev pub are_one_key : Tree → Tree → Bool
+are_one_key v w = break_it (one (codes "a") v) (one (codes "a") w)
+
+-- whether a document of this `_id`, with 5 as a, clashes with one of `_id` 1 that has 5 too
+abbrev pub clash_beside_it : ℕ → Bool
+clash_beside_it n = clashes (unique_on_a ∷ []) ((codes "_id", int n) ∷ one (codes "a") (int 5)) (((codes "_id", int 1) ∷ one (codes "a") (int 5)) ∷ [])

@@ -21,8 +21,8 @@ use std::alloc::Global;
 use std::slice::from_ref;
 
 impl ToldRegistry {
-    /// Carries on that these documents of the namespace go, one after the other, as `apply` does, without their changes being
-    /// in memory together. If memory runs out for one of these, each view that it comes to is stale.
+    /// Tells the views, as `apply` does, that these documents of the namespace are removed, one after the other. Their changes are
+    /// never in memory together. If memory runs out for one of them, each view that it comes to is stale.
     pub fn apply_gone(&mut self, namespace: &str, documents: Iter<'_>)
         requires { AllByRecursion HasId documents }
         ensures forms { map view_form self.new ≡ map view_form self.old }

@@ -29,4 +29,4 @@ pub returns-clause-live : goal.returns-clause-live
 returns-clause-live c = λ _.
     let all = c.args.names.now in
     let none : is_one_stale all c.args.registry.now ≡ false = sym c.names.invariant ∙ ap (λ (ns : List (List ℕ)). is_one_stale ns c.args.registry.now) (drop_all c.names.name-index all (omega (arith, c.names-test.false))) in
-    live_each all c.args.registry.now c.law_named_apart.ensures none
+    live_each all c.args.registry.now c.law_sound.ensures.apart none
