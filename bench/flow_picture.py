@@ -24,7 +24,7 @@ LEFT, RIGHT, STEP = 30, 630, 96
 # The crates from a session's bytes down, what each does, and what goes from it to the next.
 CRATES = [
     ("dv_scripts, dv_serving", "take a line of a script, or what a reader has", "bytes of a session"),
-    ("dv_wire", "takes whole messages off; dv_bson reads them", "documents"),
+    ("dv_wire, dv_message", "take whole messages off; dv_bson reads them", "documents"),
     ("dv_core", "carries out a command; dv_command says what is asked", "a statement of the write"),
     ("dv_catalog", "what matches (dv_match), what comes of it (dv_update)", "its changes, one document each"),
     ("dv_index, dv_coll", "keep the documents by _id, and the indexes (dv_keyed)", ""),

@@ -102,7 +102,7 @@ def start(name, jobs, log):
     """Begins to prove a crate."""
     # (a group of its own, and no session, among which Linux would share the processors evenly)
     words = [sys.executable, __file__, "--crate", name, "--jobs", str(jobs)]
-    return subprocess.Popen(words, stdin=subprocess.DEVNULL, stdout=log, stderr=log, process_group=0)
+    return subprocess.Popen(words, stdin=subprocess.DEVNULL, stdout=log, stderr=log, preexec_fn=os.setpgrp)
 
 
 def prove(kit, name, jobs):

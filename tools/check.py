@@ -39,24 +39,24 @@ COMPARED = r"(\d+) scripts \(seed \d+\) with \d+ messages, and \d+ at the limits
 
 # Those that take longest come first.
 PARTS = [
-    Part("rows cut after each byte, and with each byte replaced", ["each_byte.py"], r"(\d+) runs, 0 wrong", 80_000),
-    *[Part("random scripts against the second machine, from %d on" % start,
+    Part("worked examples cut after each byte, and with each byte replaced", ["each_byte.py"], r"(\d+) runs, 0 wrong", 80_000),
+    *[Part("random scripts compared with the model, from number %d" % start,
            ["compare.py", "--start", str(start), "--count", "125"] + ["--without-limits"] * (start > 0), COMPARED, 120)
       for start in range(0, 500, 125)],
     *[Part("each request for memory refused in turn, part %d of 4" % number,
            ["refuse_allocations.py", "--part", "%d/4" % number], REFUSED, 6_000) for number in range(1, 5)],
-    *[Part("broken messages against the second machine, %s" % way,
+    *[Part("broken messages compared with the model, %s" % way,
            ["broken_input.py", "--way", way, "--count", "1000"], r"no difference;.* (\d+) messages answered", 1_000)
       for way in ("run", "script", "served", "listened")],
     Part("rows as deep as commands can make them", ["deep_rows.py"], RIGHT, 60),
-    Part("the second machine's own rows", ["machine_rows.py"], RIGHT, 5_000, False),
-    Part("the prompt's own rows", ["prompt_rows.py"], RIGHT, 700, False),
+    Part("the model, on examples by hand", ["machine_rows.py"], RIGHT, 5_000, False),
+    Part("the prompt, on examples by hand", ["prompt_rows.py"], RIGHT, 700, False),
     Part("the worked examples", ["worked_examples.py"], r"(\d+) examples, 0 wrong", 200),
     Part("the files of the worked examples", ["worked_examples.py", "--look"], r"(\d+) examples, 0 wrong", 200, False),
     Part("the manual's examples", ["manual.py"], RIGHT, 100),
-    Part("the notation's own rows", ["notation_rows.py"], RIGHT, 2_000, False),
+    Part("the notation, on examples by hand", ["notation_rows.py"], RIGHT, 2_000, False),
     Part("requests for memory under a thousand rows", ["requests_counted.py"], r"(\d+) counted, 0 wrong", 8),
-    Part("what has to be believed stands apart", ["trust.py", "--check"], r"(\d+) files looked at, \d+ outer: 0 faults", 300, False),
+    Part("what has to be believed is apart from all other definitions", ["trust.py", "--check"], r"(\d+) files looked at, \d+ outer: 0 faults", 300, False),
     Part("the files that documents name in tables", ["figures.py", "--tables"], r"(\d+) files in tables, \d+ crates in the map: 0 wrong", 300, False),
     Part("each place that answers that memory ran out is known", ["wants_of_memory.py"], r"(\d+) places in \d+ functions, each of them listed", 50, False),
 ]
@@ -139,6 +139,8 @@ def main():
     options.add_argument("--program", help="run only the parts, on this program")
     options.add_argument("--parts", default="", help="words, joined by commas: run the parts whose tool's name has one of them")
     given = options.parse_args()
+    if given.parts and not given.program:
+        options.error("--parts needs --program; without both, the whole gate runs, for hours")
     passed, failed = (0, 0) if given.program else proved()
     made = given.program or PROVED
     if not failed and not os.path.exists(made):

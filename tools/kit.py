@@ -14,6 +14,9 @@ import sys
 
 WANTED = pathlib.Path(__file__).resolve().parent.parent / "KIT"
 
+if sys.version_info < (3, 10):
+    sys.exit("docd: python3 is Python %d.%d, but these tools need 3.10 or newer: put a newer python3 first on the PATH" % sys.version_info[:2])
+
 
 class Fault(Exception):
     """Why nothing is built, and what to do about it."""

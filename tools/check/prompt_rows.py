@@ -46,6 +46,7 @@ COMPLETED = [
 TOLD = [
     ("$min", "the least"), ("$max", "the greatest value"), ("$literal", "is that value"), ("$each", "appends a value"), ("$push", "appends"),
     ("$in", "one of the list"), ("lookup", "into each row"), ("more", "the next rows"), ("insert", "by their _id"), ("$x", "no operator"),
+    ("view", "Views over views"), ("indexes", "Unique indexes"), ("quokka", "type help for the commands"),
 ]
 
 # A command that is refused, with which code and for which statement, and a word of what may be wrong in it.
@@ -66,6 +67,9 @@ SUSPECTED = [
     ('{createIndexes: "c", indexes: [{key: {a: 1}, name: "i", uniqe: true}]}', 9, None, "unique may be meant"), ('{aggregate: "c", pipeline: [{$group: {n: {$sum: 1}}}]}', 9, None, "the field _id is missing"),
     ('{aggregate: "c", pipeline: [{$lookup: {from: "d", localField: "a", as: "d"}}]}', 9, None, "foreignField is missing"), ('{aggregate: "c", pipeline: [{$project: {a: {$add: [1]}}}]}', 9, None, "no operator $add"),
     ('{create: "v", viewOn: "c", pipeline: [{$match: {a: {$gtt: 1}}}]}', 2, None, "$gt"), ('{ping: 1, $db: "a.b"}', 2, None, "the database"),
+    ('{count: "c"}', 59, None, "an aggregate counts"), ('{find: "c", sort: {a: "desc"}}', 2, None, "1 (ascending) or -1"), ('{find: "c"}', 900, None, "delete documents"),
+    ('{insert: "v", documents: [{_id: 1}]}', 902, None, '"v" is a view'), ('{drop: "v"}', 904, None, "drop that view first"),
+    ('{createIndexes: "c", indexes: [{key: {a: 1}, name: "i"}]}', 40, None, "dropIndexes"), ('{createIndexes: "c", indexes: [{key: {a: 1}, name: "i", unique: true}]}', 11000, None, "the same key"),
 ]
 
 

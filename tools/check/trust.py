@@ -129,24 +129,34 @@ def page(trust):
 WRITTEN = "<!-- tools/check/trust.py --definitions writes this page -->"
 BEGINNING = """# Definitions
 
-This page lists what a user has to believe: the definitions that contracts and laws are written in, by crate and file, in reading
-order, each with the comment above it. Each file names the part of the public standard that it restates. All other definitions and
-lemmas are in folders `Inner`: they are proved, or serve only proofs.
+This page lists what a user of the program has to believe, and a user of the libraries %s: the definitions that their contracts and
+laws are written in, by crate and file, in reading order, each with the comment above it. Each file names the part of the public
+standard that it restates. Lemmas, which are proved, and definitions that serve only proofs are not listed. Most of them are in
+folders `Inner`.
 
-The definitions use lists of bytes, trees of values and lists of documents, but no buffers and no allocators. Three definitions take
-a change or an outcome as the code represents it (`with_field_changed`, `with_field_changed_in`, `outcome_seen`); no theorem about
-commands or bytes uses them. Positions and changes define which changes an operator returns and which ticks it counts. So they appear
-in the definitions of marks, and in `AreRight`, which says that live views have their rows. A definition that parses or reads something
-returns the result, or the first fault in written order.
+The contracts of the other libraries also name definitions that are not listed here, such as `AreRight` of `dv_views`, which says that
+live views have their rows. So if you use such a library by itself, or rely on its contract, read the definitions that this contract
+names too.
 
-A file `View` says what types in memory represent. `Gives` says that a call returned the defined result, or ran out of memory; so do
-`UnlessWanting` for refusals, `Leaves` for states, and `Makes` for statements.
+The definitions use lists of bytes, trees of values and lists of documents, but no buffers and no allocators. Some definitions take
+a change or an outcome of an update as the code represents it (`with_field_changed`, `outcome_seen`, `document_seen`, `stays`,
+`is_field`, `stays_so`); no theorem about commands or bytes uses them. Positions and changes define which changes an operator returns
+and which ticks it counts. So they appear in the definitions of marks. A definition that parses or reads something returns the result,
+or the first fault in written order.
+
+A file `View` says what types in memory represent. `Gives` says that a call returned the defined result, or ran out of memory.
 """
+
+
+def libraries(trust):
+    """The libraries beside the program whose users the page is for."""
+    names = ["`%s`" % name for name in trust.given.doors if name not in trust.given.program]
+    return "%s and %s" % (", ".join(names[:-1]), names[-1])
 
 
 def definitions(trust):
     """The text of docs/DEFINITIONS.md."""
-    lines = [re.sub(r"(?<=\S)\n(?=\S)", " ", BEGINNING)]
+    lines = [re.sub(r"(?<=\S)\n(?=\S)", " ", BEGINNING % libraries(trust))]
     for crate, modules in trust.all.listed.items():
         parts = [part for part in (definitions_of(trust, module) for module in modules if not trust.all.files[module].is_inner) if part]
         if parts:

@@ -16,10 +16,14 @@ each kind is seen. `tools/client/notation.py` reads this as text.
 import base64
 import datetime
 import re
+import sys
 import uuid
 
-from model.values import (ARRAY, BINARY, BOOLEAN, DATETIME, DOCUMENT, INT32, INT64, MAX_KEY, MIN_KEY, NULL, NUMBERS, OBJECT_ID,
-                          TEXT, TIMESTAMP)
+if sys.version_info < (3, 10):  # before the first module that an older one can't run
+    sys.exit("this needs Python 3.10 or newer, and runs under %d.%d" % sys.version_info[:2])
+
+from model.values import (ARRAY, BINARY, BOOLEAN, DATETIME, DOCUMENT, INT32, INT64, MAX_KEY, MIN_KEY, NULL,  # noqa: E402
+                          NUMBERS, OBJECT_ID, TEXT, TIMESTAMP)
 
 START = datetime.datetime(1970, 1, 1, tzinfo=datetime.timezone.utc)
 MILLISECOND = datetime.timedelta(milliseconds=1)

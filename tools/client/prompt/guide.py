@@ -59,6 +59,12 @@ def section_at(place):
     return "", ""
 
 
+def headings_with(word):
+    """The manual's headings with a word that begins as this one, whose plural is not looked at."""
+    form = re.compile(r"(?i)\b" + re.escape(re.sub(r"e?s$", "", word)))
+    return [plain(heading) for _, heading in HEADING.findall(text_of(MANUAL)) if len(word) > 2 and form.search(heading)]
+
+
 def listed():
     """The rows of README.md's table of commands."""
     for linked, does in LISTED.findall(text_of(README)):

@@ -13,15 +13,31 @@ from model.indexes import entry_of
 from model.namespaces import database_name, namespace
 from model.paths import field_of, sort_of
 from model.pipelines import ACCUMULATORS, STAGES, pipeline_of
-from model.refusals import (BAD_VALUE, COMMAND_NOT_FOUND, DUPLICATE_KEY, FAILED_TO_PARSE, IMMUTABLE_FIELD, INVALID_BSON,
-                            NAMESPACE_EXISTS, NAMESPACE_NOT_FOUND, ON_VIEW, READ_BY_VIEW, Refusal)
+from model.refusals import (BAD_VALUE, COMMAND_NOT_FOUND, CONFLICT, DUPLICATE_KEY, FAILED_TO_PARSE, IMMUTABLE_FIELD,
+                            INVALID_BSON, NAMESPACE_EXISTS, NAMESPACE_NOT_FOUND, ON_VIEW, READ_BY_VIEW, Refusal, WANT_OF_MEMORY)
 from model.updates import OPERATORS as UPDATES, update_of
 from model.values import ARRAY, DOCUMENT, TEXT, is_storable
 from notation import shown, shown_name
 
 MOST = 60  # signs of a value that are shown
 ALIKE = 0.7  # how alike, of 1, a name is that may be meant
-OF_NAMES = NAMESPACE_NOT_FOUND, NAMESPACE_EXISTS, ON_VIEW, READ_BY_VIEW
+# What is told of a command's name under these codes.
+OF_NAMES = {
+    NAMESPACE_NOT_FOUND: "the name %s, or the database, which `use` changes",
+    NAMESPACE_EXISTS: "the name %s; drop what has it, or take another one",
+    ON_VIEW: "%s is a view; write to the collection that it reads",
+    READ_BY_VIEW: "a view reads the name %s; drop that view first, or take another name",
+}
+# What does the work of commands that docd doesn't have.
+INSTEAD = {
+    b"count": "there is no command count; an aggregate counts: pipeline: [{$group: {_id: null, n: {$sum: 1}}}]",
+    b"distinct": "there is no command distinct; an aggregate finds the values: pipeline: [{$group: {_id: \"$path\"}}]",
+}
+# What is told of a createIndexes under these codes.
+OF_INDEXES = {
+    CONFLICT: "another index has the name or the path; explain of a find by the path names it, and dropIndexes removes it",
+    DUPLICATE_KEY: "two documents have the same key, or both have none; a $group by the path finds them",
+}
 ENTRIES = {b"updates": UPDATE_ENTRY, b"deletes": DELETE_ENTRY}
 LITERAL = b"$literal"
 IN_STAGES = {b"$match": {*LOGIC, *CONDITIONS}, b"$group": {*ACCUMULATORS, LITERAL}}  # and this alone in others
@@ -42,9 +58,13 @@ def suspect(fields, code, index=None):
     if code == COMMAND_NOT_FOUND and name == b"$db":
         return "no command: its name has to be the first field"
     if code == COMMAND_NOT_FOUND:
-        return "explain takes only a find" if name in COMMANDS else misnamed("command", name, COMMANDS)
+        return "explain takes only a find" if name in COMMANDS else INSTEAD.get(name) or misnamed("command", name, COMMANDS)
     if code in OF_NAMES and value[0] == TEXT:
-        return "the name %s" % shown(value)
+        return OF_NAMES[code] % shown(value)
+    if code == WANT_OF_MEMORY:
+        return "ask for fewer rows, or delete documents or drop what holds them; send a delete again until it returns no 900"
+    if name == b"createIndexes" and code in (CONFLICT, DUPLICATE_KEY):
+        return OF_INDEXES[code]
     if index is None:
         return first_refused(of_command(fields), code)
     list_name = LISTS[name]
@@ -129,7 +149,7 @@ def held_in(fields):
     for name in (b"filter", b"q"):
         yield from of_filter(given.get(name), shown_name(name))
     if given.get(b"sort", (None, None))[1]:
-        yield "the sort %s" % short(given[b"sort"]), lambda: sort_of(given[b"sort"][1])
+        yield "the sort %s; write 1 (ascending) or -1 after each path" % short(given[b"sort"]), lambda: sort_of(given[b"sort"][1])
     for place, stage in enumerate(given.get(b"pipeline", (ARRAY, []))[1], 1):
         yield from of_stage("stage %d of the pipeline" % place, stage)
     for place, (_, entry) in enumerate(given.get(b"indexes", (ARRAY, []))[1]):

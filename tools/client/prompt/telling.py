@@ -48,7 +48,10 @@ def help_of(topic, width):
         return [*table(words, width)]
     if guide.told_of("$" + name)[0]:
         return [*of_operator("$" + name, width)]
-    return ["there is no command, operator or code %s: type help for the commands" % name]
+    told = "there is no command, operator or code %s: type help for the commands" % name
+    if headings := guide.headings_with(name):
+        told += "; docs/MANUAL.md tells of it under %s" % ", ".join('"%s"' % one for one in headings)
+    return wrapped(told, width)
 
 
 def overview(width):
