@@ -13,13 +13,12 @@ use Rattle.dv_command.specs.Namespaces.{namespace}
 use Rattle.dv_refusal.specs.declared.refusal.Refusal.{Refusal}
 use Rattle.dv_refusal.specs.declared.refusal.Refusal.TheVariants.{FailedToParse}
 use Rattle.dv_command.specs.declared.asking.WriteKind.{WriteKind}
-use Rattle.dv_command.specs.declared.asking.WriteKind.TheVariants as writes
 use Rattle.dv_command.specs.declared.command.Command.{Command}
 use Rattle.dv_command.specs.declared.command.Command.TheVariants.{Sections, Invalid}
-use Rattle.dv_command.specs.declared.names.CommandName.{CommandName}
-use Rattle.dv_command.specs.declared.names.CommandName.TheVariants as names
-use Rattle.dv_command.specs.Asked.{Asked, write, asked_as, asked_by, check_count, command_name, command_named, looked_database, statement_limit, write_of}
-use Rattle.dv_command.specs.Lists.{CommandLists, check_only, in_either, list_under}
+use Rattle.dv_command.specs.declared.parsing.CommandName.{CommandName}
+use Rattle.dv_command.specs.declared.parsing.CommandName.TheVariants.{Alone, Writing}
+use Rattle.dv_command.specs.Asked.{Asked, write, asked_alone, asked_as, asked_by, check_count, command_name, command_named, looked_database, statement_limit, statements_name, write_name, write_of}
+use Rattle.dv_command.specs.Lists.{CommandLists, check_only, in_either, is_alone, list_under}
 use Rattle.dv_command.specs.Inner.Needed.{count_needed, front_needed, needed, needed_of, statements_needed}
 use Rattle.dv_command.specs.Tables.{write_table}
 
@@ -77,36 +76,27 @@ module _ (statements : List ℕ) where
   under_cut [] = refl
   under_cut (list ∷ lists) = under_by (bytes_eq statements list.0) list.1 (list_under statements lists) (list_under statements (map cut_list lists)) (under_cut lists)
 
-  write_same : (kind : WriteKind) (command : List ℕ) (body : List Field) (lists : CommandLists) → write_of kind command statements body (map cut_list lists) ≡ write_of kind command statements body lists
-  write_same kind command body lists =
-      same_behind (looked_database (write_table command statements) body) _ _ (λ database_name.
-      same_both (check_only statements (map cut_list lists)) (check_only statements lists) _ _ (only_same lists) (λ _.
-      same_behind (text_under command body) _ _ (λ collection.
-      either_same (value_under statements body) (list_under statements (map cut_list lists)) (list_under statements lists) _ (under_cut lists) (λ documents.
-      same_behind (boolean_under (codes "ordered") true body) _ _ (λ ordered.
-      same_behind (namespace database_name collection) _ _ (λ into.
-      counted (λ entries. write (record { kind = kind; namespace = into; entries = entries; ordered = ordered })) documents (nat_lt statement_limit (length documents)) refl))))))
+write_same : (kind : WriteKind) (body : List Field) (lists : CommandLists) → write_of kind body (map (cut_list (statements_name kind)) lists) ≡ write_of kind body lists
+write_same kind body lists =
+    let statements = statements_name kind in
+    same_behind (looked_database (write_table (write_name kind) statements) body) _ _ (λ database_name.
+    same_both (check_only statements (map (cut_list statements) lists)) (check_only statements lists) _ _ (only_same statements lists) (λ _.
+    same_behind (text_under (write_name kind) body) _ _ (λ collection.
+    either_same (value_under statements body) (list_under statements (map (cut_list statements) lists)) (list_under statements lists) _ (under_cut statements lists) (λ documents.
+    same_behind (boolean_under (codes "ordered") true body) _ _ (λ ordered.
+    same_behind (namespace database_name collection) _ _ (λ into.
+    counted (λ entries. write (record { kind = kind; namespace = into; entries = entries; ordered = ordered })) documents (nat_lt statement_limit (length documents)) refl))))))
 
--- ---- each command
+-- ---- a command
+
+alone_same : (count : List ℕ → ℕ) (lists : CommandLists) → is_alone (map (front_needed count) lists) ≡ is_alone lists
+alone_same count [] = refl
+alone_same count (list ∷ lists) = refl
 
 same_as : (command : Option CommandName) (body : List Field) (lists : CommandLists) → asked_as command body (map (front_needed (count_needed command)) lists) ≡ asked_as command body lists
-same_as command body [] = refl
-same_as None body (list ∷ lists) = refl
-same_as (Some names.Hello) body (list ∷ lists) = refl
-same_as (Some names.Ping) body (list ∷ lists) = refl
-same_as (Some names.Insert) body (list ∷ lists) = write_same (codes "documents") writes.Insert (codes "insert") body (list ∷ lists)
-same_as (Some names.Update) body (list ∷ lists) = write_same (codes "updates") writes.Update (codes "update") body (list ∷ lists)
-same_as (Some names.Delete) body (list ∷ lists) = write_same (codes "deletes") writes.Delete (codes "delete") body (list ∷ lists)
-same_as (Some names.Find) body (list ∷ lists) = refl
-same_as (Some names.Aggregate) body (list ∷ lists) = refl
-same_as (Some names.GetMore) body (list ∷ lists) = refl
-same_as (Some names.KillCursors) body (list ∷ lists) = refl
-same_as (Some names.Create) body (list ∷ lists) = refl
-same_as (Some names.Drop) body (list ∷ lists) = refl
-same_as (Some names.CreateIndexes) body (list ∷ lists) = refl
-same_as (Some names.DropIndexes) body (list ∷ lists) = refl
-same_as (Some names.Explain) body (list ∷ lists) = refl
-same_as (Some names.ViewStats) body (list ∷ lists) = refl
+same_as None body lists = refl
+same_as (Some (Writing kind)) body lists = write_same kind body lists
+same_as (Some (Alone name)) body lists = ap (λ (alone : Bool). asked_alone name body alone) (alone_same (count_needed (Some (Alone name))) lists)
 
 pub same_asked : (command : Command) → asked_by (needed command) ≡ asked_by command
 unfolding needed_of

@@ -18,10 +18,12 @@ use Rattle.dv_command.specs.declared.command.Command.{Command}
 use Rattle.dv_command.specs.declared.command.Command.TheVariants.{Sections, Invalid}
 use Rattle.dv_command.specs.declared.asking.WriteKind.{WriteKind}
 use Rattle.dv_command.specs.declared.asking.WriteKind.TheVariants as writes
-use Rattle.dv_command.specs.declared.names.CommandName.{CommandName}
-use Rattle.dv_command.specs.declared.names.CommandName.TheVariants as names
+use Rattle.dv_command.specs.declared.parsing.CommandName.{CommandName}
+use Rattle.dv_command.specs.declared.parsing.CommandName.TheVariants.{Alone, Writing}
+use Rattle.dv_command.specs.declared.parsing.AloneName.{AloneName}
+use Rattle.dv_command.specs.declared.parsing.AloneName.TheVariants as names
 use Rattle.dv_command.specs.Tables.{write_table, find_fields, find_table, aggregate_table, get_more_table, kill_cursors_table, create_table, drop_table, create_indexes_table, drop_indexes_table, explain_table, view_stats_table}
-use Rattle.dv_command.specs.Lists.{CommandLists, check_no_list, check_only, listed_documents}
+use Rattle.dv_command.specs.Lists.{CommandLists, check_alone, check_only, is_alone, listed_documents}
 use Rattle.dv_command.specs.Forms.{filter_under, sort_under, stages_asked}
 use Rattle.dv_command.specs.Entries.{IndexAsked, index_asked}
 
@@ -136,20 +138,32 @@ looked_database table body =
     check_fields kinds.command table body >>= λ _.
     Ok name
 
--- the database of a command that has no list beside its body, after its fields are checked by a table
-abbrev pub checked_database : Table → List Field → CommandLists → Result (List ℕ) Refusal
-checked_database table body lists =
+-- the database of a command whose body has to be alone, after its fields are checked by a table
+abbrev pub checked_database : Table → List Field → Bool → Result (List ℕ) Refusal
+checked_database table body alone =
     looked_database table body >>= λ name.
-    check_no_list lists >>= λ _.
+    check_alone alone >>= λ _.
     Ok name
 
--- parses an insert, update or delete, by the names of the command and of its list
-abbrev pub write_of : WriteKind → List ℕ → List ℕ → List Field → CommandLists → Result Asked Refusal
-write_of kind command list body lists =
-    looked_database (write_table command list) body >>= λ database_name.
-    check_only list lists >>= λ _.
-    text_under command body >>= λ collection.
-    listed_documents list body lists >>= λ entries.
+-- the name of the command of a write
+abbrev pub write_name : WriteKind → List ℕ
+write_name writes.Insert = codes "insert"
+write_name writes.Update = codes "update"
+write_name writes.Delete = codes "delete"
+
+-- the name of the list of its statements
+abbrev pub statements_name : WriteKind → List ℕ
+statements_name writes.Insert = codes "documents"
+statements_name writes.Update = codes "updates"
+statements_name writes.Delete = codes "deletes"
+
+-- parses an insert, update or delete
+abbrev pub write_of : WriteKind → List Field → CommandLists → Result Asked Refusal
+write_of kind body lists =
+    looked_database (write_table (write_name kind) (statements_name kind)) body >>= λ database_name.
+    check_only (statements_name kind) lists >>= λ _.
+    text_under (write_name kind) body >>= λ collection.
+    listed_documents (statements_name kind) body lists >>= λ entries.
     boolean_under (codes "ordered") true body >>= λ ordered.
     namespace database_name collection >>= λ into.
     check_count entries >>= λ _.
@@ -168,9 +182,9 @@ find_in database_name body =
     boolean_under (codes "singleBatch") false body >>= λ single_batch.
     Ok (record { namespace = from; filter = filter; sort = sort; skip = skip; limit = limit; batch_size = batch_size; single_batch = single_batch })
 
-abbrev pub find_of : List Field → CommandLists → Result Asked Refusal
-find_of body lists =
-    checked_database find_table body lists >>= λ database_name.
+abbrev pub find_of : List Field → Bool → Result Asked Refusal
+find_of body alone =
+    checked_database find_table body alone >>= λ database_name.
     find_in database_name body >>= λ asked.
     Ok (find asked)
 
@@ -180,9 +194,9 @@ cursor_size body =
     document_or_none (codes "cursor") body >>= λ cursor.
     natural_under (codes "batchSize") first_batch_size cursor
 
-abbrev pub aggregate_of : List Field → CommandLists → Result Asked Refusal
-aggregate_of body lists =
-    checked_database aggregate_table body lists >>= λ database_name.
+abbrev pub aggregate_of : List Field → Bool → Result Asked Refusal
+aggregate_of body alone =
+    checked_database aggregate_table body alone >>= λ database_name.
     text_under (codes "aggregate") body >>= λ collection.
     array_under (codes "pipeline") body >>= λ list.
     cursor_size body >>= λ batch_size.
@@ -190,18 +204,18 @@ aggregate_of body lists =
     stages_asked list >>= λ stages.
     Ok (aggregate (record { namespace = from; stages = stages; batch_size = batch_size }))
 
-abbrev pub get_more_of : List Field → CommandLists → Result Asked Refusal
-get_more_of body lists =
-    checked_database get_more_table body lists >>= λ database_name.
+abbrev pub get_more_of : List Field → Bool → Result Asked Refusal
+get_more_of body alone =
+    checked_database get_more_table body alone >>= λ database_name.
     integer_under (codes "getMore") body >>= λ id.
     text_under (codes "collection") body >>= λ collection.
     natural_under (codes "batchSize") 0 body >>= λ batch_size.
     namespace database_name collection >>= λ from.
     Ok (get_more (record { id = id; namespace = from; batch_size = batch_size }))
 
-abbrev pub kill_cursors_of : List Field → CommandLists → Result Asked Refusal
-kill_cursors_of body lists =
-    checked_database kill_cursors_table body lists >>= λ database_name.
+abbrev pub kill_cursors_of : List Field → Bool → Result Asked Refusal
+kill_cursors_of body alone =
+    checked_database kill_cursors_table body alone >>= λ database_name.
     text_under (codes "killCursors") body >>= λ collection.
     integers_under (codes "cursors") body >>= λ ids.
     namespace database_name collection >>= λ from.
@@ -233,34 +247,34 @@ view_of database_name (Some fields) =
     stages_asked fields.list >>= λ stages.
     Ok (Some (record { source = source; stages = stages }))
 
-abbrev pub create_of : List Field → CommandLists → Result Asked Refusal
-create_of body lists =
-    checked_database create_table body lists >>= λ database_name.
+abbrev pub create_of : List Field → Bool → Result Asked Refusal
+create_of body alone =
+    checked_database create_table body alone >>= λ database_name.
     text_under (codes "create") body >>= λ collection.
     view_fields body >>= λ fields.
     namespace database_name collection >>= λ name.
     view_of database_name fields >>= λ view.
     Ok (create (record { namespace = name; view = view }))
 
-abbrev pub drop_of : List Field → CommandLists → Result Asked Refusal
-drop_of body lists =
-    checked_database drop_table body lists >>= λ database_name.
+abbrev pub drop_of : List Field → Bool → Result Asked Refusal
+drop_of body alone =
+    checked_database drop_table body alone >>= λ database_name.
     text_under (codes "drop") body >>= λ collection.
     namespace database_name collection >>= λ name.
     Ok (drop (record { namespace = name }))
 
-abbrev pub create_indexes_of : List Field → CommandLists → Result Asked Refusal
-create_indexes_of body lists =
-    checked_database create_indexes_table body lists >>= λ database_name.
+abbrev pub create_indexes_of : List Field → Bool → Result Asked Refusal
+create_indexes_of body alone =
+    checked_database create_indexes_table body alone >>= λ database_name.
     text_under (codes "createIndexes") body >>= λ collection.
     reading.documents_under (codes "indexes") body >>= λ entries.
     namespace database_name collection >>= λ name.
     each index_asked entries >>= λ indexes.
     Ok (create_indexes (record { namespace = name; indexes = indexes }))
 
-abbrev pub drop_indexes_of : List Field → CommandLists → Result Asked Refusal
-drop_indexes_of body lists =
-    checked_database drop_indexes_table body lists >>= λ database_name.
+abbrev pub drop_indexes_of : List Field → Bool → Result Asked Refusal
+drop_indexes_of body alone =
+    checked_database drop_indexes_table body alone >>= λ database_name.
     text_under (codes "dropIndexes") body >>= λ collection.
     text_under (codes "index") body >>= λ index.
     namespace database_name collection >>= λ name.
@@ -276,18 +290,18 @@ abbrev pub explained_command : List Field → Result (List Field) Refusal
 explained_command body = explained_by (document_under (codes "explain") body)
 
 -- parses an explain; the command in its first field is checked before its other fields
-abbrev pub explain_of : List Field → CommandLists → Result Asked Refusal
-explain_of body lists =
+abbrev pub explain_of : List Field → Bool → Result Asked Refusal
+explain_of body alone =
     explained_command body >>= λ inside.
     database body >>= λ database_name.
     check_fields kinds.command find_fields inside >>= λ _.
-    checked_database explain_table body lists >>= λ _.
+    checked_database explain_table body alone >>= λ _.
     find_in database_name inside >>= λ asked.
     Ok (explain (record { find = asked }))
 
-abbrev pub view_stats_of : List Field → CommandLists → Result Asked Refusal
-view_stats_of body lists =
-    checked_database view_stats_table body lists >>= λ database_name.
+abbrev pub view_stats_of : List Field → Bool → Result Asked Refusal
+view_stats_of body alone =
+    checked_database view_stats_table body alone >>= λ database_name.
     text_under (codes "viewStats") body >>= λ collection.
     namespace database_name collection >>= λ name.
     Ok (view_stats (record { namespace = name }))
@@ -299,41 +313,43 @@ command_name body = first_name body
 -- the command with this name, if any
 abbrev pub command_named : List ℕ → Option CommandName
 command_named text =
-    if bytes_eq text (codes "hello") then Some names.Hello
-    else if bytes_eq text (codes "ping") then Some names.Ping
-    else if bytes_eq text (codes "insert") then Some names.Insert
-    else if bytes_eq text (codes "update") then Some names.Update
-    else if bytes_eq text (codes "delete") then Some names.Delete
-    else if bytes_eq text (codes "find") then Some names.Find
-    else if bytes_eq text (codes "aggregate") then Some names.Aggregate
-    else if bytes_eq text (codes "getMore") then Some names.GetMore
-    else if bytes_eq text (codes "killCursors") then Some names.KillCursors
-    else if bytes_eq text (codes "create") then Some names.Create
-    else if bytes_eq text (codes "drop") then Some names.Drop
-    else if bytes_eq text (codes "createIndexes") then Some names.CreateIndexes
-    else if bytes_eq text (codes "dropIndexes") then Some names.DropIndexes
-    else if bytes_eq text (codes "explain") then Some names.Explain
-    else if bytes_eq text (codes "viewStats") then Some names.ViewStats
+    if bytes_eq text (codes "hello") then Some (Alone names.Hello)
+    else if bytes_eq text (codes "ping") then Some (Alone names.Ping)
+    else if bytes_eq text (codes "insert") then Some (Writing writes.Insert)
+    else if bytes_eq text (codes "update") then Some (Writing writes.Update)
+    else if bytes_eq text (codes "delete") then Some (Writing writes.Delete)
+    else if bytes_eq text (codes "find") then Some (Alone names.Find)
+    else if bytes_eq text (codes "aggregate") then Some (Alone names.Aggregate)
+    else if bytes_eq text (codes "getMore") then Some (Alone names.GetMore)
+    else if bytes_eq text (codes "killCursors") then Some (Alone names.KillCursors)
+    else if bytes_eq text (codes "create") then Some (Alone names.Create)
+    else if bytes_eq text (codes "drop") then Some (Alone names.Drop)
+    else if bytes_eq text (codes "createIndexes") then Some (Alone names.CreateIndexes)
+    else if bytes_eq text (codes "dropIndexes") then Some (Alone names.DropIndexes)
+    else if bytes_eq text (codes "explain") then Some (Alone names.Explain)
+    else if bytes_eq text (codes "viewStats") then Some (Alone names.ViewStats)
     else None
+
+-- parses a command without a list of statements by its name
+abbrev pub asked_alone : AloneName → List Field → Bool → Result Asked Refusal
+asked_alone names.Hello body alone = hello_of body
+asked_alone names.Ping body alone = ping_of body
+asked_alone names.Find body alone = find_of body alone
+asked_alone names.Aggregate body alone = aggregate_of body alone
+asked_alone names.GetMore body alone = get_more_of body alone
+asked_alone names.KillCursors body alone = kill_cursors_of body alone
+asked_alone names.Create body alone = create_of body alone
+asked_alone names.Drop body alone = drop_of body alone
+asked_alone names.CreateIndexes body alone = create_indexes_of body alone
+asked_alone names.DropIndexes body alone = drop_indexes_of body alone
+asked_alone names.Explain body alone = explain_of body alone
+asked_alone names.ViewStats body alone = view_stats_of body alone
 
 -- parses a command by its name; an unknown name is refused with 59
 abbrev pub asked_as : Option CommandName → List Field → CommandLists → Result Asked Refusal
 asked_as None body lists = Err CommandNotFound
-asked_as (Some names.Hello) body lists = hello_of body
-asked_as (Some names.Ping) body lists = ping_of body
-asked_as (Some names.Insert) body lists = write_of writes.Insert (codes "insert") (codes "documents") body lists
-asked_as (Some names.Update) body lists = write_of writes.Update (codes "update") (codes "updates") body lists
-asked_as (Some names.Delete) body lists = write_of writes.Delete (codes "delete") (codes "deletes") body lists
-asked_as (Some names.Find) body lists = find_of body lists
-asked_as (Some names.Aggregate) body lists = aggregate_of body lists
-asked_as (Some names.GetMore) body lists = get_more_of body lists
-asked_as (Some names.KillCursors) body lists = kill_cursors_of body lists
-asked_as (Some names.Create) body lists = create_of body lists
-asked_as (Some names.Drop) body lists = drop_of body lists
-asked_as (Some names.CreateIndexes) body lists = create_indexes_of body lists
-asked_as (Some names.DropIndexes) body lists = drop_indexes_of body lists
-asked_as (Some names.Explain) body lists = explain_of body lists
-asked_as (Some names.ViewStats) body lists = view_stats_of body lists
+asked_as (Some (Writing kind)) body lists = write_of kind body lists
+asked_as (Some (Alone name)) body lists = asked_alone name body (is_alone lists)
 
 -- parses a command whose name is a text
 abbrev pub asked_under : List ℕ → List Field → CommandLists → Result Asked Refusal

@@ -1,5 +1,5 @@
 -- The lists of documents that a message has beside a command's body (MongoDB manual, "OP_MSG": sections of kind 1).
-use Rattle.std.specs.Prelude.{ℕ, List, [], ◌∷◌, Option, Some, None, Result, Ok, Err, if◌then◌else◌, ⊤}
+use Rattle.std.specs.Prelude.{ℕ, Bool, true, false, List, [], ◌∷◌, Option, Some, None, Result, Ok, Err, if◌then◌else◌, ⊤}
 use Rattle.std.specs.List.{list_all}
 use Rattle.std.specs.Str.{bytes_eq}
 use Rattle.dv_value.specs.Names.{value_under}
@@ -12,10 +12,14 @@ use Rattle.dv_refusal.specs.declared.refusal.Refusal.TheVariants.{FailedToParse}
 abbrev pub CommandLists : Type 0
 CommandLists = List (List ℕ × List (List Field))
 
--- checks that there is no list beside the body, as for most commands
-abbrev pub check_no_list : CommandLists → Result ⊤ Refusal
-check_no_list [] = Ok tt
-check_no_list (list ∷ lists) = Err FailedToParse
+-- whether a body is alone, with no list beside it
+abbrev pub is_alone : CommandLists → Bool
+is_alone [] = true
+is_alone (list ∷ lists) = false
+
+-- checks that the body is alone, as for most commands
+abbrev pub check_alone : Bool → Result ⊤ Refusal
+check_alone alone = if alone then Ok tt else Err FailedToParse
 
 -- checks that the only list beside the body has this name, as for an insert, update or delete
 abbrev pub check_only : List ℕ → CommandLists → Result ⊤ Refusal

@@ -5,6 +5,7 @@ ghost use Rattle.std.specs.Option.{option_map};
 ghost use Rattle.dv_command.specs.Asked as asking;
 ghost use Rattle.dv_command.specs.Entries as entered;
 ghost use Rattle.dv_command.specs.Inner.View.{asked_seen, index_seen, view_fields_seen, view_on_seen};
+ghost use Rattle.dv_command.specs.Lists.{is_alone};
 ghost use Rattle.dv_refusal.specs.Refusals.{Returns, UnlessWanting};
 ghost use Rattle.dv_value.specs.Results.{each};
 
@@ -12,27 +13,53 @@ use crate::asking::{
     Asked, Create, CreateIndexes, DropIndexes, DropNamespace, IndexAsked, ViewFields, ViewOn,
     ViewStats,
 };
-use crate::checked::checked_database;
+use crate::checked::{DATABASE, checked_database};
 use crate::command::DocumentLists;
 use crate::documents::Documents;
 use crate::entries::index_of;
 use crate::fields::{documents_under, text_under};
 use crate::forms::pipeline_of;
 use crate::namespaces::namespace;
-use crate::tables::{
-    CREATE_INDEXES_RULES, CREATE_RULES, DROP_INDEXES_RULES, DROP_RULES, VIEW_STATS_RULES,
-};
+use crate::rules::{FieldKind, Rule};
 use crate::values::{array_of, text_of};
 use dv_refusal::Refusal;
 use dv_value::Document;
 use std::alloc::Global;
+
+/// The fields of what makes a collection or a view.
+const CREATE_RULES: [Rule; 4] = [
+    DATABASE,
+    Rule("create", FieldKind::Text),
+    Rule("viewOn", FieldKind::Text),
+    Rule("pipeline", FieldKind::Array),
+];
+
+/// The fields of a drop.
+const DROP_RULES: [Rule; 2] = [DATABASE, Rule("drop", FieldKind::Text)];
+
+/// The fields of what makes indexes.
+const CREATE_INDEXES_RULES: [Rule; 3] = [
+    DATABASE,
+    Rule("createIndexes", FieldKind::Text),
+    Rule("indexes", FieldKind::Documents),
+];
+
+/// The fields of what takes indexes out.
+const DROP_INDEXES_RULES: [Rule; 3] = [
+    DATABASE,
+    Rule("dropIndexes", FieldKind::Text),
+    Rule("index", FieldKind::Text),
+];
+
+/// The fields of what asks how a view stands.
+const VIEW_STATS_RULES: [Rule; 2] = [DATABASE, Rule("viewStats", FieldKind::Text)];
 
 pub(crate) fn create_of<'a>(
     alloc: Global,
     body: &'a Document,
     lists: &'a DocumentLists,
 ) -> Result<Asked<'a>, Refusal>
-    ensures { UnlessWanting asked_seen (asking.create_of body.now lists.now) result }
+    ensures { UnlessWanting asked_seen (asking.create_of body.now (is_alone lists.now)) result }
 {
     let database = checked_database(&CREATE_RULES, body, lists)?;
     let collection = text_under(body, "create")?;
@@ -78,7 +105,7 @@ pub(crate) fn drop_of<'a>(
     body: &'a Document,
     lists: &'a DocumentLists,
 ) -> Result<Asked<'a>, Refusal>
-    ensures { UnlessWanting asked_seen (asking.drop_of body.now lists.now) result }
+    ensures { UnlessWanting asked_seen (asking.drop_of body.now (is_alone lists.now)) result }
 {
     let database = checked_database(&DROP_RULES, body, lists)?;
     let collection = text_under(body, "drop")?;
@@ -91,7 +118,7 @@ pub(crate) fn create_indexes_of<'a>(
     body: &'a Document,
     lists: &'a DocumentLists,
 ) -> Result<Asked<'a>, Refusal>
-    ensures { UnlessWanting asked_seen (asking.create_indexes_of body.now lists.now) result }
+    ensures { UnlessWanting asked_seen (asking.create_indexes_of body.now (is_alone lists.now)) result }
 {
     let database = checked_database(&CREATE_INDEXES_RULES, body, lists)?;
     let collection = text_under(body, "createIndexes")?;
@@ -117,7 +144,7 @@ pub(crate) fn drop_indexes_of<'a>(
     body: &'a Document,
     lists: &'a DocumentLists,
 ) -> Result<Asked<'a>, Refusal>
-    ensures { UnlessWanting asked_seen (asking.drop_indexes_of body.now lists.now) result }
+    ensures { UnlessWanting asked_seen (asking.drop_indexes_of body.now (is_alone lists.now)) result }
 {
     let database = checked_database(&DROP_INDEXES_RULES, body, lists)?;
     let collection = text_under(body, "dropIndexes")?;
@@ -134,7 +161,7 @@ pub(crate) fn view_stats_of<'a>(
     body: &'a Document,
     lists: &'a DocumentLists,
 ) -> Result<Asked<'a>, Refusal>
-    ensures { UnlessWanting asked_seen (asking.view_stats_of body.now lists.now) result }
+    ensures { UnlessWanting asked_seen (asking.view_stats_of body.now (is_alone lists.now)) result }
 {
     let database = checked_database(&VIEW_STATS_RULES, body, lists)?;
     let collection = text_under(body, "viewStats")?;

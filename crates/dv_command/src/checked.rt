@@ -3,14 +3,18 @@
 ghost use Rattle.std.specs.Prelude.{map};
 ghost use Rattle.dv_command.specs.Asked as asking;
 ghost use Rattle.dv_command.specs.Inner.RulesView.{rule_seen};
+ghost use Rattle.dv_command.specs.Lists.{is_alone};
 ghost use Rattle.dv_refusal.specs.Refusals.{Returns};
 
 use crate::command::DocumentLists;
-use crate::lists::check_none;
+use crate::lists::check_alone;
 use crate::namespaces::database;
-use crate::rules::{FieldPlace, Rule, check_fields};
+use crate::rules::{FieldKind, FieldPlace, Rule, check_fields};
 use dv_refusal::Refusal;
 use dv_value::Document;
+
+/// The field of a command's database, which is looked at by itself.
+pub(crate) const DATABASE: Rule = Rule("$db", FieldKind::Anything);
 
 /// The database of a command, whose fields are looked at.
 pub(crate) fn looked_database<'a>(rules: &[Rule], body: &'a Document) -> Result<&'a str, Refusal>
@@ -27,9 +31,9 @@ pub(crate) fn checked_database<'a>(
     body: &'a Document,
     lists: &DocumentLists,
 ) -> Result<&'a str, Refusal>
-    ensures { Returns (λ name. name.now) (asking.checked_database (map rule_seen rules.now) body.now lists.now) result }
+    ensures { Returns (λ name. name.now) (asking.checked_database (map rule_seen rules.now) body.now (is_alone lists.now)) result }
 {
     let database = looked_database(rules, body)?;
-    check_none(lists)?;
+    check_alone(lists)?;
     Ok(database)
 }

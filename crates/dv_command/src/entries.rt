@@ -12,14 +12,35 @@ ghost use Rattle.dv_command.specs.Inner.View.{deletion_seen, index_seen, updatin
 use crate::asking::IndexAsked;
 use crate::fields::{boolean_under, document_under, only_first_under, text_under, update_under};
 use crate::forms::{filter_of, is_replacement, update_of};
-use crate::rules::{FieldPlace, check_fields};
-use crate::tables::{DELETION_RULES, INDEX_RULES, UPDATING_RULES};
+use crate::rules::{FieldKind, FieldPlace, Rule, check_fields};
 use dv_candidates::{Path, PathFault};
 use dv_match::Filter;
 use dv_refusal::Refusal;
 use dv_update::Update;
 use dv_value::{Document, Str, Value};
 use std::alloc::Global;
+
+/// The fields of an entry of a delete.
+const DELETION_RULES: [Rule; 2] = [
+    Rule("q", FieldKind::Document),
+    Rule("limit", FieldKind::HowMany),
+];
+
+/// The fields of an entry of an update.
+const UPDATING_RULES: [Rule; 4] = [
+    Rule("q", FieldKind::Document),
+    Rule("u", FieldKind::Update),
+    Rule("multi", FieldKind::Boolean),
+    Rule("upsert", FieldKind::OnlyFalse),
+];
+
+/// The fields of an entry of what makes indexes.
+const INDEX_RULES: [Rule; 4] = [
+    Rule("key", FieldKind::Single),
+    Rule("name", FieldKind::Text),
+    Rule("v", FieldKind::Anything),
+    Rule("unique", FieldKind::Boolean),
+];
 
 /// What an entry of a delete asks: the documents that match go.
 #[derive(Drop)]

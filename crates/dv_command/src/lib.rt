@@ -11,7 +11,6 @@ mod fields;
 mod forms;
 pub mod laws;
 mod lists;
-mod names;
 pub mod namespaces;
 mod needed;
 mod parsing;
@@ -20,7 +19,6 @@ pub mod replies;
 mod reply_names;
 mod rules;
 mod statements;
-mod tables;
 mod values;
 
 pub use asking::{

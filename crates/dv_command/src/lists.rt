@@ -12,8 +12,8 @@ use dv_refusal::Refusal;
 use dv_value::Document;
 
 /// Looks at the lists beside the body of a command that has none: one is refused with `FailedToParse`.
-pub(crate) fn check_none(lists: &DocumentLists) -> Result<(), Refusal>
-    ensures { result ≡ defined.check_no_list lists.now }
+pub(crate) fn check_alone(lists: &DocumentLists) -> Result<(), Refusal>
+    ensures { result ≡ defined.check_alone (defined.is_alone lists.now) }
 {
     if lists.is_empty() {
         Ok(())

@@ -3,7 +3,7 @@
 ghost use Rattle.std.specs.Prelude.{◌≡◌};
 ghost use Rattle.dv_command.specs.Inner.Needed as defined;
 
-use crate::names::{CommandName, command_named};
+use crate::parsing::{CommandName, command_named};
 use crate::statements::STATEMENT_LIMIT;
 
 /// How many documents of a list of this name are needed of those beside the body of the command of that name: what the others
@@ -14,9 +14,7 @@ pub fn documents_needed(command: &str, list: &str) -> usize
     ensures { result ≡ defined.needed_of command.now list.now }
 {
     match command_named(command) {
-        Some(CommandName::Insert) => statements_needed("documents", list),
-        Some(CommandName::Update) => statements_needed("updates", list),
-        Some(CommandName::Delete) => statements_needed("deletes", list),
+        Some(CommandName::Writing(kind)) => statements_needed(kind.statements_name(), list),
         _ => 0,
     }
 }

@@ -4,10 +4,11 @@ ghost use Rattle.std.specs.Prelude.{◌≡◌};
 ghost use Rattle.dv_command.specs.Asked as asking;
 ghost use Rattle.dv_command.specs.Inner.Rare as rare;
 ghost use Rattle.dv_command.specs.Inner.View.{asked_seen, find_seen};
+ghost use Rattle.dv_command.specs.Lists.{is_alone};
 ghost use Rattle.dv_refusal.specs.Refusals.{Returns, UnlessWanting};
 
 use crate::asking::{Aggregate, Asked, Explain, Find, GetMore, KillCursors};
-use crate::checked::checked_database;
+use crate::checked::{DATABASE, checked_database};
 use crate::command::DocumentLists;
 use crate::fields::{
     array_under, boolean_under, document_or, document_under, first_name, integer_under,
@@ -15,13 +16,82 @@ use crate::fields::{
 };
 use crate::forms::{filter_under, pipeline_of, sort_under};
 use crate::namespaces::{database, namespace};
-use crate::rules::{FieldPlace, check_fields};
-use crate::tables::{
-    AGGREGATE_RULES, EXPLAIN_RULES, EXPLAINED_RULES, FIND_RULES, GET_MORE_RULES, KILL_CURSORS_RULES,
-};
+use crate::rules::{FieldKind, FieldPlace, Rule, check_fields};
 use dv_refusal::Refusal;
 use dv_value::Document;
 use std::alloc::Global;
+
+/// The fields of a find.
+const FIND_RULES: [Rule; 9] = [
+    DATABASE,
+    FIND,
+    FILTER,
+    SORT,
+    SKIP,
+    LIMIT,
+    BATCH_SIZE,
+    SINGLE_BATCH,
+    PROJECTION,
+];
+
+/// The fields of a find that is explained.
+const EXPLAINED_RULES: [Rule; 8] = [
+    FIND,
+    FILTER,
+    SORT,
+    SKIP,
+    LIMIT,
+    BATCH_SIZE,
+    SINGLE_BATCH,
+    PROJECTION,
+];
+
+const FIND: Rule = Rule("find", FieldKind::Text);
+
+const FILTER: Rule = Rule("filter", FieldKind::Document);
+
+const SORT: Rule = Rule("sort", FieldKind::Document);
+
+const SKIP: Rule = Rule("skip", FieldKind::Natural);
+
+const LIMIT: Rule = Rule("limit", FieldKind::Natural);
+
+const BATCH_SIZE: Rule = Rule("batchSize", FieldKind::Natural);
+
+const SINGLE_BATCH: Rule = Rule("singleBatch", FieldKind::Boolean);
+
+const PROJECTION: Rule = Rule("projection", FieldKind::EmptyDocument);
+
+/// The fields of an explain; what is explained is looked at by itself.
+const EXPLAIN_RULES: [Rule; 3] = [
+    DATABASE,
+    Rule("explain", FieldKind::Anything),
+    Rule("verbosity", FieldKind::Anything),
+];
+
+/// The fields of an aggregation.
+const AGGREGATE_RULES: [Rule; 5] = [
+    DATABASE,
+    Rule("aggregate", FieldKind::Text),
+    Rule("pipeline", FieldKind::Array),
+    Rule("cursor", FieldKind::Cursor),
+    Rule("allowDiskUse", FieldKind::Anything),
+];
+
+/// The fields of what takes the next rows of a cursor.
+const GET_MORE_RULES: [Rule; 4] = [
+    DATABASE,
+    Rule("getMore", FieldKind::Integer),
+    Rule("collection", FieldKind::Text),
+    BATCH_SIZE,
+];
+
+/// The fields of what ends cursors.
+const KILL_CURSORS_RULES: [Rule; 3] = [
+    DATABASE,
+    Rule("killCursors", FieldKind::Text),
+    Rule("cursors", FieldKind::Integers),
+];
 
 /// How many rows come in a first batch where none says so.
 const FIRST_BATCH_SIZE: u64 = 101;
@@ -31,7 +101,7 @@ pub(crate) fn find_of<'a>(
     body: &'a Document,
     lists: &'a DocumentLists,
 ) -> Result<Asked<'a>, Refusal>
-    ensures { UnlessWanting asked_seen (asking.find_of body.now lists.now) result }
+    ensures { UnlessWanting asked_seen (asking.find_of body.now (is_alone lists.now)) result }
 {
     let database = checked_database(&FIND_RULES, body, lists)?;
     Ok(Asked::Find(find_in(alloc, database, body)?))
@@ -97,7 +167,7 @@ pub(crate) fn aggregate_of<'a>(
     body: &'a Document,
     lists: &'a DocumentLists,
 ) -> Result<Asked<'a>, Refusal>
-    ensures { UnlessWanting asked_seen (asking.aggregate_of body.now lists.now) result }
+    ensures { UnlessWanting asked_seen (asking.aggregate_of body.now (is_alone lists.now)) result }
 {
     let database = checked_database(&AGGREGATE_RULES, body, lists)?;
     let collection = text_under(body, "aggregate")?;
@@ -129,7 +199,7 @@ pub(crate) fn get_more_of<'a>(
     body: &'a Document,
     lists: &'a DocumentLists,
 ) -> Result<Asked<'a>, Refusal>
-    ensures { UnlessWanting asked_seen (asking.get_more_of body.now lists.now) result }
+    ensures { UnlessWanting asked_seen (asking.get_more_of body.now (is_alone lists.now)) result }
 {
     let database = checked_database(&GET_MORE_RULES, body, lists)?;
     let id = integer_under(body, "getMore")?;
@@ -148,7 +218,7 @@ pub(crate) fn kill_cursors_of<'a>(
     body: &'a Document,
     lists: &'a DocumentLists,
 ) -> Result<Asked<'a>, Refusal>
-    ensures { UnlessWanting asked_seen (asking.kill_cursors_of body.now lists.now) result }
+    ensures { UnlessWanting asked_seen (asking.kill_cursors_of body.now (is_alone lists.now)) result }
 {
     let database = checked_database(&KILL_CURSORS_RULES, body, lists)?;
     let collection = text_under(body, "killCursors")?;
@@ -162,7 +232,7 @@ pub(crate) fn explain_of<'a>(
     body: &'a Document,
     lists: &'a DocumentLists,
 ) -> Result<Asked<'a>, Refusal>
-    ensures { UnlessWanting asked_seen (asking.explain_of body.now lists.now) result }
+    ensures { UnlessWanting asked_seen (asking.explain_of body.now (is_alone lists.now)) result }
 {
     let inside = explained(body)?;
     let database = database(body)?;

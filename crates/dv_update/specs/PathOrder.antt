@@ -1,4 +1,4 @@
--- The order in which the paths of an update are applied, and when two of them conflict (MongoDB manual, "Update Operators Behavior").
+-- The order in which the paths of an update are applied, and when one of them begins another (MongoDB manual, "Update Operators Behavior").
 -- That whole numbers come before other names is this server's own.
 use Rattle.std.specs.Prelude.{ℕ, Bool, true, false, ◌&&◌, List, [], ◌∷◌, is_none}
 use Rattle.std.specs.declared.cmp.Ordering.{Ordering}

@@ -1,21 +1,19 @@
 -- What of the lists beside its body a command needs: the rest changes nothing of what it asks.
-use Rattle.std.specs.Prelude.{ℕ, suc, List, map, take, Option, Some, codes, if◌then◌else◌}
+use Rattle.std.specs.Prelude.{ℕ, suc, List, map, take, Option, Some, if◌then◌else◌}
 use Rattle.std.specs.Str.{bytes_eq}
 use Rattle.dv_value.specs.Tree.{Field}
 use Rattle.dv_command.specs.declared.command.Command.{Command}
 use Rattle.dv_command.specs.declared.command.Command.TheVariants.{Sections, Invalid}
-use Rattle.dv_command.specs.declared.names.CommandName.{CommandName}
-use Rattle.dv_command.specs.declared.names.CommandName.TheVariants as names
-use Rattle.dv_command.specs.Asked.{command_name, command_named, statement_limit}
+use Rattle.dv_command.specs.declared.parsing.CommandName.{CommandName}
+use Rattle.dv_command.specs.declared.parsing.CommandName.TheVariants.{Writing}
+use Rattle.dv_command.specs.Asked.{command_name, command_named, statement_limit, statements_name}
 
 -- as many documents as a command may have statements, and one more, by which it is refused; of a list of another name none
 abbrev pub statements_needed : List ℕ → List ℕ → ℕ
 statements_needed statements name = if bytes_eq statements name then suc statement_limit else 0
 
 abbrev pub count_needed : Option CommandName → List ℕ → ℕ
-count_needed (Some names.Insert) name = statements_needed (codes "documents") name
-count_needed (Some names.Update) name = statements_needed (codes "updates") name
-count_needed (Some names.Delete) name = statements_needed (codes "deletes") name
+count_needed (Some (Writing kind)) name = statements_needed (statements_name kind) name
 count_needed command name = 0
 
 -- how many documents of a list of this name the command of that name needs
