@@ -12,7 +12,7 @@ ghost use Rattle.dv_match.specs.Filter.{Members};
 ghost use Rattle.dv_match.specs.Match.{matches};
 ghost use Rattle.dv_order.specs.Key.{KeyTree, key_order};
 ghost use Rattle.dv_keyed.specs.Choice.{chosen};
-ghost use Rattle.dv_index.specs.Inner.Examples.{are_one_key, break_it, clash_beside_it, covered_by, index_for, three_indexes};
+ghost use Rattle.dv_index.specs.Inner.Examples.{are_one_key, break_it, clash_beside_it, covered_by, index_for, replaced_clash, three_indexes};
 ghost use Rattle.dv_keyed.specs.Index.{IndexForm, id_form};
 ghost use Rattle.dv_keyed.specs.Inner.Index.{IndexTree};
 ghost use Rattle.dv_index.specs.Indexed.{IndexedTree, documents_covered, without_index};
@@ -52,12 +52,14 @@ pub fn an_index_made_anew_is_the_same()
     ensures { (x y : IndexTree) (ds : List (List Field)) → x.path ≡ y.path → IsIndexOf x ds → IsIndexOf y ds → (k id : KeyTree) → has_pair k id x.pairs ≡ has_pair k id y.pairs }
 {}
 
-/// An index that is made and dropped leaves the others as they were, and the one on `_id` never goes.
+/// An index that is made and dropped leaves the others as they were, and the one on `_id` never goes. One that others were made
+/// behind goes alone.
 #[tactic(auto, using(crate::proofs::Built::none_dropped))]
 pub fn indexes_come_and_go()
     ensures others { (name : List ℕ) (path : List (List ℕ)) (unique : Bool) (xs : List IndexForm) → bytes_eq name id_form.name ≡ false → has_index_named name xs ≡ false
         → without_index name (xs ++ index_on name path unique ∷ []) ≡ xs }
     ensures on_id { (xs : List IndexForm) → without_index id_form.name xs ≡ xs }
+    ensures between { without_index (codes "a_1") three_indexes ≡ id_form ∷ index_on (codes "b_1") (codes "b" ∷ []) false ∷ [] }
 {}
 
 /// A document that is inserted without a clash breaks no unique index.
@@ -119,11 +121,13 @@ pub fn covered_by_example()
     ensures each_once { covered_by three_indexes (one (codes "a") (doc (one (codes "$gte") (int 0)))) ≡ Ok 3 }
     ensures missing_as_null { covered_by three_indexes (one (codes "b") null) ≡ Ok 3 }
     ensures on_id { covered_by three_indexes (one (codes "_id") (int 2)) ≡ Ok 1 }
+    ensures range_of_ids { covered_by three_indexes (one (codes "_id") (doc (one (codes "$gt") (int 2)))) ≡ Ok 1 }
     ensures no_index { covered_by (id_form ∷ []) (one (codes "a") (int 7)) ≡ Ok 3 }
 {}
 
 /// Two documents break a unique index on `a` if they have one number in two widths, an element in common, an array whole in the one
-/// and as an element in the other, or if both have no `a`, or null: but not by different numbers, or the same document twice.
+/// and as an element in the other, or if both have no `a`, or null: but not by different numbers, or the same document twice. Where
+/// both get another number, the second may get the one that the first had, but not the one that it gets.
 #[tactic(auto, unfolding(dv_candidates::specs::Path::index_of, dv_candidates::specs::Candidates::whole, dv_candidates::specs::Candidates::leaves, dv_path::specs::LeafKeys::is_leaf_key, dv_path::specs::LeafKeys::leaf_values, crate::specs::Unique::share_key))]
 pub fn unique_keys_by_example()
     ensures two_widths { are_one_key (int 5) (long 5) ≡ true }
@@ -135,4 +139,6 @@ pub fn unique_keys_by_example()
     ensures missing_as_null { break_it [] (one (codes "a") null) ≡ true }
     ensures another_document { clash_beside_it 2 ≡ true }
     ensures itself { clash_beside_it 1 ≡ false }
+    ensures in_turn { replaced_clash 7 5 ≡ false }
+    ensures to_one_number { replaced_clash 7 7 ≡ true }
 {}

@@ -8,11 +8,12 @@ use Rattle.dv_match.specs.Parsing.{filter_in}
 use Rattle.dv_value.specs.Results.{◌>>=◌}
 use Rattle.dv_keyed.specs.Index.{IndexForm, id_form}
 use Rattle.dv_index.specs.Indexed.{documents_covered, index_chosen}
-use Rattle.dv_index.specs.Unique.{are_broken, clashes}
+use Rattle.dv_index.specs.Inner.Indexed.{index_on}
+use Rattle.dv_index.specs.Unique.{are_broken, clashes, replacing_clashes}
 
 -- the indexes on `_id`, on a and on b, made in this order
 abbrev pub three_indexes : List IndexForm
-three_indexes = id_form ∷ record { name = codes "a_1"; path = codes "a" ∷ []; unique = false } ∷ record { name = codes "b_1"; path = codes "b" ∷ []; unique = false } ∷ []
+three_indexes = id_form ∷ index_on (codes "a_1") (codes "a" ∷ []) false ∷ index_on (codes "b_1") (codes "b" ∷ []) false ∷ []
 
 -- the name of that of them by which a filter is answered, or the fault of what is no filter
 abbrev pub index_for : List Field → Result (Option (List ℕ)) FilterFault
@@ -28,7 +29,7 @@ covered_by indexes filter = filter_in (fields_of filter) >>= λ ms. Ok (document
 
 -- a unique index on a
 abbrev pub unique_on_a : IndexForm
-unique_on_a = record { name = codes "a_1"; path = codes "a" ∷ []; unique = true }
+unique_on_a = index_on (codes "a_1") (codes "a" ∷ []) true
 
 -- whether two documents break it that have these fields behind their `_id`s
 abbrev pub break_it : List Field → List Field → Bool
@@ -38,6 +39,14 @@ break_it first second = are_broken (id_form ∷ unique_on_a ∷ []) (((codes "_i
 abbrev pub are_one_key : Tree → Tree → Bool
 are_one_key v w = break_it (one (codes "a") v) (one (codes "a") w)
 
+-- a document of this `_id`, with this number as a
+abbrev pub numbered : ℕ → ℕ → List Field
+numbered n a = (codes "_id", int n) ∷ one (codes "a") (int a)
+
 -- whether a document of this `_id`, with 5 as a, clashes with one of `_id` 1 that has 5 too
 abbrev pub clash_beside_it : ℕ → Bool
-clash_beside_it n = clashes (unique_on_a ∷ []) ((codes "_id", int n) ∷ one (codes "a") (int 5)) (((codes "_id", int 1) ∷ one (codes "a") (int 5)) ∷ [])
+clash_beside_it n = clashes (unique_on_a ∷ []) (numbered n 5) (numbered 1 5 ∷ [])
+
+-- whether documents of `_id` 1 and 2 clash that get these numbers as a, one after the other, in place of 5 and 6
+abbrev pub replaced_clash : ℕ → ℕ → Bool
+replaced_clash first second = replacing_clashes (unique_on_a ∷ []) (numbered 1 first ∷ numbered 2 second ∷ []) (numbered 1 5 ∷ numbered 2 6 ∷ [])
