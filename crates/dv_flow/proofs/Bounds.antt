@@ -111,24 +111,24 @@ unwind-alone u p None = omega arith
 unwind-alone u p (Some v) = omega (arith, in_order-length (rows_numbered 0 p (unwound u v) ++ []), numbered-length 0 p (unwound u v))
 
 module _ (rows : Positioned) (change : Change) (are : IsPositioned rows) (exact : IsExactChange change) where
-  pub match-bound : (form : Members) → length (diff (matched_at form rows) (matched_at form (with_change rows change))) ≤ 1
-  match-bound form =
+  pub match_bound : (form : Members) → length (diff (matched_at form rows) (matched_at form (with_change rows change))) ≤ 1
+  match_bound form =
       let p = position_changed change in
       let old = match-alone form p (at p rows) in
       let new = match-alone form p (row_in change) in
       rw (row-owed (matched_at form) (λ q. q) (match_ordered form) refl (λ q x. x) (match_single form) rows change are exact) (rw (old.1, new.1) (diff-alone p old.0 new.0))
 
-  pub project-bound : (s : Project) → length (diff (shown_at s rows) (shown_at s (with_change rows change))) ≤ 1
-  project-bound s =
+  pub project_bound : (s : Project) → length (diff (shown_at s rows) (shown_at s (with_change rows change))) ≤ 1
+  project_bound s =
       let p = position_changed change in
       rw (row-owed (shown_at s) (λ q. q) (project_ordered s) refl (λ q x. x) (project_single s) rows change are exact) (rw (show-alone s p (at p rows), show-alone s p (row_in change)) (diff-alone p (option_map (projected s) (at p rows)) (option_map (projected s) (row_in change))))
 
-  pub sort-bound : (parts : List sorts.Part) → length (diff (sorted_at parts rows) (sorted_at parts (with_change rows change))) ≤ 2
-  sort-bound parts =
+  pub sort_bound : (parts : List sorts.Part) → length (diff (sorted_at parts rows) (sorted_at parts (with_change rows change))) ≤ 2
+  sort_bound parts =
       let p = position_changed change in
       omega (arith, ap length (row-owed (sorted_at parts) (λ q. drop (length parts) q) (sort_ordered parts) (sort_empty parts) (sort_exact parts) (sort_single parts) rows change are exact), diff-length (sorted_at parts (alone p (at p rows))) (sorted_at parts (alone p (row_in change))), sort-alone parts p (at p rows), sort-alone parts p (row_in change))
 
-  pub unwind-bound : (u : Unwind) → length (diff (unwound_at u rows) (unwound_at u (with_change rows change))) ≤ rows_made u (at (position_changed change) rows) + rows_made u (row_in change)
-  unwind-bound u =
+  pub unwind_bound : (u : Unwind) → length (diff (unwound_at u rows) (unwound_at u (with_change rows change))) ≤ rows_made u (at (position_changed change) rows) + rows_made u (row_in change)
+  unwind_bound u =
       let p = position_changed change in
       omega (arith, ap length (row-owed (unwound_at u) but_last (unwind_ordered u) (unwind_empty u) (unwind_exact u) (unwind_single u) rows change are exact), diff-length (unwound_at u (alone p (at p rows))) (unwound_at u (alone p (row_in change))), unwind-alone u p (at p rows), unwind-alone u p (row_in change))

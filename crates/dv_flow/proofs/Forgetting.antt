@@ -8,14 +8,14 @@ use Rattle.dv_row.specs.Projecting.{projected}
 use Rattle.dv_change.specs.Changes.{Positioned, forget}
 use Rattle.dv_flow.specs.Placed.{matched_at, shown_at}
 
-pub match-forgets : (form : Members) (rows : Positioned) → forget (matched_at form rows) ≡ filter (matches form) (forget rows)
-match-forgets form [] = refl
-match-forgets form (e ∷ rows) = by (matches form e.1) (match-forgets form rows)
+pub match_forgets : (form : Members) (rows : Positioned) → forget (matched_at form rows) ≡ filter (matches form) (forget rows)
+match_forgets form [] = refl
+match_forgets form (e ∷ rows) = by (matches form e.1) (match_forgets form rows)
   where
     by : (b : Bool) → forget (matched_at form rows) ≡ filter (matches form) (forget rows) → forget (cond b (e ∷ matched_at form rows) (matched_at form rows)) ≡ cond b (e.1 ∷ filter (matches form) (forget rows)) (filter (matches form) (forget rows))
     by true rest = ap (λ ds. e.1 ∷ ds) rest
     by false rest = rest
 
-pub project-forgets : (p : Project) (rows : Positioned) → forget (shown_at p rows) ≡ map (projected p) (forget rows)
-project-forgets p [] = refl
-project-forgets p (e ∷ rows) = ap (λ ds. projected p e.1 ∷ ds) (project-forgets p rows)
+pub project_forgets : (p : Project) (rows : Positioned) → forget (shown_at p rows) ≡ map (projected p) (forget rows)
+project_forgets p [] = refl
+project_forgets p (e ∷ rows) = ap (λ ds. projected p e.1 ∷ ds) (project_forgets p rows)

@@ -1,7 +1,6 @@
 pub mod Bounds
 pub mod Owed
 pub mod Forgetting
-pub mod Lawful
 pub mod Fronts
 pub mod LimitBound
 pub mod Limits

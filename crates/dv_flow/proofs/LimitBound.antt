@@ -94,8 +94,8 @@ module _ (p : PosTree) (old new : Positioned) (o : IsPositioned old) (n : IsPosi
       by true b = refl
       by false b = same b
 
-pub limit-bound : (n : ℕ) (rows : Positioned) (change : Change) → IsPositioned rows → IsExactChange change → length (diff (front_at n rows) (front_at n (with_change rows change))) ≤ 2
-limit-bound n rows change are exact = by (edge_of n (row_in change) rows) refl
+pub limit_bound : (n : ℕ) (rows : Positioned) (change : Change) → IsPositioned rows → IsExactChange change → length (diff (front_at n rows) (front_at n (with_change rows change))) ≤ 2
+limit_bound n rows change are exact = by (edge_of n (row_in change) rows) refl
   where
     p : PosTree
     p = position_changed change

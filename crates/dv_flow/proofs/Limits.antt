@@ -201,5 +201,5 @@ limit-told n rows pos row are exact edge front shown old new e f s o w =
 
 -- ---- the stage without positions
 
-pub limit-forgets : (n : ℕ) (rows : Positioned) → forget (front_at n rows) ≡ take n (forget rows)
-limit-forgets n rows = sym (take-map (λ e. e.1) n rows)
+pub limit_forgets : (n : ℕ) (rows : Positioned) → forget (front_at n rows) ≡ take n (forget rows)
+limit_forgets n rows = sym (take-map (λ e. e.1) n rows)

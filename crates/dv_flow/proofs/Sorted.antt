@@ -169,6 +169,6 @@ module _ (parts : List Part) where
   fronts-forget (e ∷ rows) =
       fronted-forgets e (fronts rows) ∙ ap (fronted (stands_before parts) e.1) (fronts-forget rows) ∙ sym (ordered-first (stands_before parts) (before-ranks parts) e.1 (forget rows))
 
-  pub sort-forgets : (rows : Positioned) → IsPositioned rows → forget (sorted_at parts rows) ≡ stable parts (forget rows)
+  pub sort_forgets : (rows : Positioned) → IsPositioned rows → forget (sorted_at parts rows) ≡ stable parts (forget rows)
   unfolding sorted_at stable
-  sort-forgets rows are = ap forget (in_order-fronts rows are.ascending) ∙ rows-forget (fronts rows) ∙ fronts-forget rows
+  sort_forgets rows are = ap forget (in_order-fronts rows are.ascending) ∙ rows-forget (fronts rows) ∙ fronts-forget rows

@@ -104,6 +104,6 @@ module _ (u : Unwind) where
         let below = all-numbered (λ p. IsBelow p (flat_map rows_of rows)) 0 e.0 (unwound u e.1) (λ i above. rows-below e.0 i rows all.0 all.1 up.0) in
         ascend-both (rows_of e) (flat_map rows_of rows) (ascend-numbered 0 e.0 (unwound u e.1)) (ascend-rows rows up.1 all.1) below
 
-  pub unwind-forgets : (rows : Positioned) → IsPositioned rows → HaveOneLength rows → forget (unwound_at u rows) ≡ flat_map (unwound u) (forget rows)
+  pub unwind_forgets : (rows : Positioned) → IsPositioned rows → HaveOneLength rows → forget (unwound_at u rows) ≡ flat_map (unwound u) (forget rows)
   unfolding unwound_at
-  unwind-forgets rows are one = ap forget (in_order-stays (flat_map rows_of rows) (ascend-rows one.0 rows are.ascending one.1)) ∙ rows-forget rows
+  unwind_forgets rows are one = ap forget (in_order-stays (flat_map rows_of rows) (ascend-rows one.0 rows are.ascending one.1)) ∙ rows-forget rows

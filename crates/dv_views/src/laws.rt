@@ -69,11 +69,7 @@ pub fn kept_rows_are_those_from_scratch()
     ensures { (stages : List Stage) (source : List ℕ) (places : ListPlaces) (lists : Lists) → IsPositioned (places source) → HaveOneLength (places source)
         → AreFromScratch stages source places lists }
 {
-    dv_flow::laws::matched_rows_are_the_filter();
-    dv_flow::laws::shown_rows_are_each_row_as_it_is_shown();
-    dv_flow::laws::unwound_rows_are_the_rows_of_elements();
-    dv_flow::laws::sorted_rows_are_the_rows_in_order();
-    dv_flow::laws::first_rows_are_the_first_of_the_rows();
+    dv_flow::laws::rows_without_positions_are_those_of_the_stage();
     dv_group::laws::grouped_rows_are_the_rows_of_groups();
     dv_join::laws::joined_rows_are_the_rows_looked_up();
 }
