@@ -3,10 +3,6 @@
 #![tactic(auto)]
 
 #[cfg(test)]
-pub mod simple_turn;
-#[cfg(test)]
 mod told_and_kept;
 #[cfg(test)]
 mod turns;
-#[cfg(test)]
-mod views;

@@ -1,10 +1,10 @@
 //! Views of a registry that isn't told what stood where a change is: their rows behind changes, and what they count.
 
-use crate::turns::{gone, put};
+use crate::turns::{gone, place, put};
 use dv_change::Change;
 use dv_pipe::{Pipeline, Sources};
-use dv_testing::spelled::{array_in, document};
-use dv_value::Value;
+use dv_testing::spelled::{add, array_in, document};
+use dv_value::{Document, Value};
 use dv_views::{Registry, ViewState};
 use std::alloc::Global;
 use std::test::Fail;
@@ -117,6 +117,64 @@ fn a_group_follows_documents_that_are_put_and_gone(rt: HostRuntime) -> Result<()
     );
     assert_eq!(rt; numbers(alloc, &views, "lo")?.as_slice(), [4].as_slice());
     assert_eq!(rt; views.state("t.v"), Some(ViewState::Live));
+    Ok(())
+}
+
+/// The row `{k: k, a: a}` is put at the number.
+fn put_row(alloc: Global, number: u64, k: i32, a: i32) -> Result<Change, Fail> {
+    let mut row = Document::new(alloc);
+    add(&mut row, "k", Value::Int32(k))?;
+    add(&mut row, "a", Value::Int32(a))?;
+    let pos = place(alloc, number)?;
+    Ok(Change::Put { pos, row })
+}
+
+/// What a view of the stages has counted behind each of the rows `{k: k, a: a}` that are put at numbers one after the other, and the
+/// numbers under `a` in its rows in the end.
+fn kept(
+    alloc: Global,
+    stages: &[u8],
+    rows: &[(u64, i32, i32)],
+) -> Result<(Vec<Option<u64>>, Vec<i32>), Fail> {
+    let mut views = registry(alloc, stages)?;
+    let mut changes = Vec::new(alloc);
+    for (number, k, a) in rows {
+        changes.push(put_row(alloc, *number, *k, *a)?)?;
+    }
+    let ticks = counted(alloc, &mut views, changes.as_slice())?;
+    let left = numbers(alloc, &views, "a")?;
+    Ok((ticks, left))
+}
+
+#[test]
+fn rows_are_kept_behind_a_match_a_sort_and_a_limit(rt: HostRuntime) -> Result<(), Fail> {
+    // {p: [{$match: {k: 1}}, {$sort: {a: -1}}, {$limit: 2}]}
+    let (ticks, left) = kept(
+        rt.alloc(),
+        b"X\0\0\0\x04p\0P\0\0\0\x030\0\x19\0\0\0\x03$match\0\x0c\0\0\0\x10k\0\x01\0\0\0\0\0\x031\0\x18\0\0\0\x03$sort\0\x0c\0\0\0\x10a\0\xff\xff\xff\xff\0\0\x032\0\x11\0\0\0\x10$limit\0\x02\0\0\0\0\0\0",
+        &[(1, 1, 1), (2, 1, 2), (3, 1, 3), (4, 0, 4), (3, 1, 0)],
+    )?;
+    assert_eq!(rt;
+        ticks.as_slice(),
+        [Some(6), Some(12), Some(19), Some(20), Some(29)].as_slice()
+    );
+    assert_eq!(rt; left.as_slice(), [2, 1].as_slice());
+    Ok(())
+}
+
+#[test]
+fn a_row_comes_back_behind_a_sort_and_a_limit(rt: HostRuntime) -> Result<(), Fail> {
+    // {p: [{$sort: {a: 1}}, {$limit: 2}]}
+    let (ticks, left) = kept(
+        rt.alloc(),
+        b"<\0\0\0\x04p\04\0\0\0\x030\0\x18\0\0\0\x03$sort\0\x0c\0\0\0\x10a\0\x01\0\0\0\0\0\x031\0\x11\0\0\0\x10$limit\0\x02\0\0\0\0\0\0",
+        &[(1, 1, 10), (2, 1, 20), (3, 1, 30), (1, 1, 15)],
+    )?;
+    assert_eq!(rt;
+        ticks.as_slice().get(2..),
+        Some([Some(11), Some(20)].as_slice())
+    );
+    assert_eq!(rt; left.as_slice(), [15, 20].as_slice());
     Ok(())
 }
 

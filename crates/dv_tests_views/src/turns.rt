@@ -1,16 +1,14 @@
 //! Stages that are kept by changes: what they hand on, and what they count.
 
-ghost use Rattle.std.specs.Prelude.{IfOk, OnOk};
-ghost use Rattle.dv_change.specs.Inner.Linked.{AreLinked, HaveTakenNothing};
+ghost use Rattle.std.specs.Prelude.{OnOk};
 
-use crate::simple_turn::SimpleTurn;
-use dv_change::{Chain, Change, Input, Ordered, Part, Pos, Taken, Ticks, Turn, hand_on, take_in};
+use dv_change::{Change, Input, Ordered, Part, Pos, Taken, Ticks, Turn, hand_on, take_in};
 use dv_flow::{LimitTurn, MatchTurn, ProjectTurn, SortTurn, UnwindTurn};
 use dv_match::Filter;
 use dv_path::SortSpec;
 use dv_row::{Project, Unwind};
-use dv_testing::spelled::{add, document};
-use dv_value::{Document, Str, Value};
+use dv_testing::spelled::document;
+use dv_value::{Str, Value};
 use std::alloc::Global;
 use std::collections::BTreeMap;
 use std::test::Fail;
@@ -225,131 +223,5 @@ fn a_limit_pulls_in_the_next_row(rt: HostRuntime) -> Result<(), Fail> {
         told.as_slice(),
         [(10, Some(7)), (20, Some(7)), (10, None), (30, Some(8))].as_slice()
     );
-    Ok(())
-}
-
-#[test]
-fn a_chain_counts_what_its_turns_hand_on(rt: HostRuntime) -> Result<(), Fail> {
-    let alloc = rt.alloc();
-    let mut turns = Vec::new(alloc);
-    turns.push(SimpleTurn::Unwind(UnwindTurn::new(alloc, &unwind(alloc)?)?))?;
-    turns.push(SimpleTurn::Limit(LimitTurn::new(alloc, 1)))?;
-    let mut chain = Chain::new(alloc, turns);
-    let (mut ticks, mut out) = (Ticks::new(), Vec::new(alloc));
-    chain.change(Input::Left, put(alloc, 10, LISTS[0])?, &mut ticks, &mut out)?;
-    let told = told_by(alloc, &out)?;
-    assert_eq!(rt; told.as_slice(), [(0, Some(1))].as_slice());
-    assert_eq!(rt; ticks.count(), 6);
-    Ok(())
-}
-
-/// The row `{k: k, a: a}` is put at the number.
-fn put_row(alloc: Global, number: u64, k: i32, a: i32) -> Result<Change, Fail> {
-    let mut row = Document::new(alloc);
-    add(&mut row, "k", Value::Int32(k))?;
-    add(&mut row, "a", Value::Int32(a))?;
-    let pos = place(alloc, number)?;
-    Ok(Change::Put { pos, row })
-}
-
-/// The sort `{a: direction}`.
-fn sort_by_a(alloc: Global, direction: i32) -> Result<SortSpec, Fail> {
-    let mut by = Document::new(alloc);
-    add(&mut by, "a", Value::Int32(direction))?;
-    match SortSpec::parse(alloc, &by)? {
-        Some(spec) => Ok(spec),
-        None => Err(Fail::from("a sort")),
-    }
-}
-
-/// The numbers under `a` in the rows.
-fn numbers(alloc: Global, rows: &BTreeMap<Pos, Document>) -> Result<Vec<i32>, Fail> {
-    let mut found = Vec::new(alloc);
-    for row in rows.values() {
-        if let Some(Value::Int32(number)) = row.get("a") {
-            found.push(*number)?;
-        }
-    }
-    Ok(found)
-}
-
-/// Carries the changes out on the rows, one after the other.
-fn carry_out(rows: &mut BTreeMap<Pos, Document>, changes: Vec<Change>) -> Result<(), Fail> {
-    for change in changes {
-        match change {
-            Change::Put { pos, row } => drop(rows.insert(pos, row)?),
-            Change::Gone { pos } => drop(rows.remove(&pos)),
-        }
-    }
-    Ok(())
-}
-
-/// The chain after a change, of which what it returns is carried out on the rows.
-fn changed<T: Turn + Drop>(
-    alloc: Global,
-    chain: Chain<T>,
-    change: Change,
-    ticks: &mut Ticks,
-    rows: &mut BTreeMap<Pos, Document>,
-) -> Result<Chain<T>, Fail>
-    requires linked { AreLinked T.turning chain }
-    ensures linked { IfOk result (λ after. AreLinked T.turning after) }
-{
-    let mut chain = chain;
-    let mut out = Vec::new(alloc);
-    chain.change(Input::Left, change, ticks, &mut out)?;
-    carry_out(rows, out)?;
-    Ok(chain)
-}
-
-/// The rows that come out of a chain of turns when rows `{k: k, a: a}` are put at numbers, one after the other, and the count
-/// after each.
-fn counted<T: Turn + Drop>(
-    alloc: Global,
-    turns: Vec<T>,
-    puts: &[(u64, i32, i32)],
-) -> Result<(BTreeMap<Pos, Document>, Vec<u64>), Fail>
-    requires { HaveTakenNothing T.turning turns.items }
-{
-    let mut chain = Chain::new(alloc, turns);
-    let mut ticks = Ticks::new();
-    let mut rows = BTreeMap::new(alloc);
-    let mut counts = Vec::new(alloc);
-    'puts: for (number, k, a) in puts {
-        let change = put_row(alloc, *number, *k, *a)?;
-        chain = changed(alloc, chain, change, &mut ticks, &mut rows)?;
-        counts.push(ticks.count())?;
-    }
-    Ok((rows, counts))
-}
-
-#[test]
-fn rows_are_kept_behind_a_match_a_sort_and_a_limit(rt: HostRuntime) -> Result<(), Fail> {
-    let alloc = rt.alloc();
-    let filter = Filter::parse(alloc, &document(alloc, b"\x0c\0\0\0\x10k\0\x01\0\0\0\0")?)?;
-    let matching = MatchTurn::new(alloc, &filter)?;
-    let sort = SortTurn::new(alloc, &sort_by_a(alloc, -1)?)?;
-    let mut turns = Vec::new(alloc);
-    turns.push(SimpleTurn::Match(matching))?;
-    turns.push(SimpleTurn::Sort(sort))?;
-    turns.push(SimpleTurn::Limit(LimitTurn::new(alloc, 2)))?;
-    let rows = [(1, 1, 1), (2, 1, 2), (3, 1, 3), (4, 0, 4), (3, 1, 0)];
-    let (kept, counts) = counted(alloc, turns, &rows)?;
-    assert_eq!(rt; counts.as_slice(), [6, 12, 19, 20, 29].as_slice());
-    assert_eq!(rt; numbers(alloc, &kept)?.as_slice(), [2, 1].as_slice());
-    Ok(())
-}
-
-#[test]
-fn a_row_comes_back_behind_a_sort_and_a_limit(rt: HostRuntime) -> Result<(), Fail> {
-    let alloc = rt.alloc();
-    let sort = SortTurn::new(alloc, &sort_by_a(alloc, 1)?)?;
-    let mut turns = Vec::new(alloc);
-    turns.push(SimpleTurn::Sort(sort))?;
-    turns.push(SimpleTurn::Limit(LimitTurn::new(alloc, 2)))?;
-    let rows = [(1, 1, 10), (2, 1, 20), (3, 1, 30), (1, 1, 15)];
-    let (kept, counts) = counted(alloc, turns, &rows)?;
-    assert_eq!(rt; counts.as_slice().get(2..), Some([11, 20].as_slice()));
-    assert_eq!(rt; numbers(alloc, &kept)?.as_slice(), [15, 20].as_slice());
     Ok(())
 }

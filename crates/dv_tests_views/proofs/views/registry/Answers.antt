@@ -1,5 +1,0 @@
-use Rattle.dv_tests_views.proofs.Lists.{unnamed_in_order}
-use Rattle.dv_tests_views.proofs.views.registry.Goals as goal
-
-pub create-requires : goal.create-requires
-create-requires c = unnamed_in_order c.new.result c.new.ensures _

@@ -1,2 +1,0 @@
--- what only bodies and proofs need
-pub mod Inner
