@@ -41,14 +41,14 @@ COMPARED = r"(\d+) scripts \(seed \d+\) with \d+ messages, and \d+ at the limits
 PARTS = [
     Part("worked examples cut after each byte, and with each byte replaced", ["each_byte.py"], r"(\d+) runs, 0 wrong", 80_000),
     *[Part("random scripts compared with the model, from number %d" % start,
-           ["compare.py", "--start", str(start), "--count", "125"] + ["--without-limits"] * (start > 0), COMPARED, 120)
-      for start in range(0, 500, 125)],
+           ["compare.py", "--start", str(start), "--count", "75"] + ["--without-limits"] * (start > 0), COMPARED, 70)
+      for start in range(0, 300, 75)],
     *[Part("each request for memory refused in turn, part %d of 4" % number,
            ["refuse_allocations.py", "--part", "%d/4" % number], REFUSED, 6_000) for number in range(1, 5)],
     *[Part("broken messages compared with the model, %s" % way,
            ["broken_input.py", "--way", way, "--count", "1000"], r"no difference;.* (\d+) messages answered", 1_000)
       for way in ("run", "script", "served", "listened")],
-    Part("rows as deep as commands can make them", ["deep_rows.py"], RIGHT, 60),
+    Part("deep rows, with little stack", ["deep_rows.py", "--views", "3"], RIGHT, 60),
     Part("the model, on examples by hand", ["machine_rows.py"], RIGHT, 5_000, False),
     Part("the prompt, on examples by hand", ["prompt_rows.py"], RIGHT, 700, False),
     Part("the worked examples", ["worked_examples.py"], r"(\d+) examples, 0 wrong", 200),

@@ -5,13 +5,15 @@ A stored document has at most 100 levels, and a stage wraps a value in at most 9
 may wrap it again, a view may stand on seven others, and an aggregate on the highest. What goes down such a row by calls takes
 stack for each of its levels, and a program whose stack ends is killed. Here rows of some 14,000 levels are matched, projected,
 unwound, sorted, grouped, looked up, compared by a view that is kept, refused as a reply, and dropped: each by a docd of its own,
-which has to answer what is told here, and to end well. A case that doesn't is printed, and then the exit status is 1.
+which has to answer what is told here, and to end well. A case that doesn't is printed, and then the exit status is 1. Over fewer views
+the rows are less deep, in less stack: as much for a level, and a run takes a fraction of the time.
 
 Needs the built program (./docd run < /dev/null).
 
     python3 tools/check/deep_rows.py
     python3 tools/check/deep_rows.py --measure --cases "sort,group"      prints how much stack they take at least, and that for a level
     python3 tools/check/deep_rows.py --stack 1024 --program crates/docd/out/docd
+    python3 tools/check/deep_rows.py --views 4                           rows half as deep, with half as much stack
 """
 import argparse
 import contextlib
@@ -29,10 +31,10 @@ from model.values import DOCUMENT, spelling
 from program import parsed
 from spelled import joined, section
 
-HEIGHT, STAGES = 8, 16  # of views over one another, and of a pipeline
+VIEWS, STAGES = 8, 16  # how many views stand over one another, and how many stages a pipeline has
 STORED = 98  # documents around a number, or an array of numbers, in a stored document
 WRAPPED = 96  # documents in which a stage wraps a value
-STACK = 2 << 10  # kilobytes
+STACK = 256  # kilobytes for each of the views
 MOST, STEP = 4 << 10, 8  # kilobytes that are tried to measure what is taken, and how exact that is
 SECONDS = 60  # that a run may take
 
@@ -174,11 +176,11 @@ def find(view, wanted, **others):
 
 
 class Tower:
-    """Views over one another, whose stages each wrap what documents have under `a` in so many documents."""
+    """So many views over one another, whose stages each wrap what documents have under `a` in so many documents."""
 
-    def __init__(self, width):
-        self.width = width
-        self.wrapping = [self.view(place, self.wraps(STAGES)) for place in range(HEIGHT)]
+    def __init__(self, width, height):
+        self.width, self.height = width, height
+        self.wrapping = [self.view(place, self.wraps(STAGES)) for place in range(height)]
 
     def wraps(self, count):
         return [project(a=nested("$a", self.width))] * count
@@ -201,21 +203,23 @@ class Tower:
         return [*self.wraps(count), *probe.stages(path_of(levels), "v%d" % below)], levels
 
     def in_an_aggregate(self, probe):
-        stages, levels = self.staged(probe, HEIGHT, 1)
-        return Case([*self.begun(HEIGHT, probe.end), aggregate("v%d" % HEIGHT, [*stages, project(n=1)], probe.asked)], levels)
+        stages, levels = self.staged(probe, self.height, 1)
+        return Case([*self.begun(self.height, probe.end), aggregate("v%d" % self.height, [*stages, project(n=1)], probe.asked)], levels)
 
     def in_a_view(self, probe):
         """The highest one, behind one write of each kind."""
-        stages, levels = self.staged(probe, HEIGHT - 1, 0)
+        top = "v%d" % self.height
+        stages, levels = self.staged(probe, self.height - 1, 0)
         changed = {"q": {"_id": 1}, "u": {"$set": {path_of(STORED + 1): probe.end(8)}}}
         writes = [put(3, probe.end(7)), asked({"update": "c", "updates": [changed]}, "ok"), deleted({"_id": 2})]
-        shown = [asked({"viewStats": "v%d" % HEIGHT}, "live"), aggregate("v%d" % HEIGHT, [project(n=1)], probe.kept)]
-        return Case([*self.begun(HEIGHT - 1, probe.end), self.view(HEIGHT - 1, stages), *writes, *shown], levels)
+        shown = [asked({"viewStats": top}, "live"), aggregate(top, [project(n=1)], probe.kept)]
+        return Case([*self.begun(self.height - 1, probe.end), self.view(self.height - 1, stages), *writes, *shown], levels)
 
     def cases(self):
         """All, by their names."""
-        path, top, begun, levels = path_of(self.levels(STAGES * HEIGHT)), "v%d" % HEIGHT, self.begun(HEIGHT), self.levels(STAGES * HEIGHT)
-        drops = [asked({"drop": name}, "ok") for name in [*("v%d" % place for place in range(HEIGHT, 0, -1)), "c"]]
+        levels = self.levels(STAGES * self.height)
+        path, top, begun = path_of(levels), "v%d" % self.height, self.begun(self.height)
+        drops = [asked({"drop": name}, "ok") for name in [*("v%d" % place for place in range(self.height, 0, -1)), "c"]]
         others = {
             "a reply": [find(top, 901), aggregate(top, [], 901)],
             "a find along the path": [find(top, 901, filter={path: 5}), find(top, [], filter={path: 7})],
@@ -290,18 +294,19 @@ def measured(program, name, deep, flat):
 def main():
     options = argparse.ArgumentParser(description=__doc__, formatter_class=argparse.RawDescriptionHelpFormatter)
     options.add_argument("--cases", default="", help="words, joined by commas, of which the names of the cases have one")
-    options.add_argument("--stack", type=int, default=STACK, help="the kilobytes of stack")
+    options.add_argument("--views", type=int, default=VIEWS, help="how many views stand over one another")
+    options.add_argument("--stack", type=int, help="the kilobytes of stack, %d for each of the views if it is left out" % STACK)
     options.add_argument("--measure", action="store_true", help="print the stack that is used instead")
     given = parsed(options, "deep_rows")
-    deep = Tower(WRAPPED).cases()
+    deep = Tower(WRAPPED, given.views).cases()
     names = [name for name in deep if any(word in name for word in given.cases.split(","))]
     with ThreadPoolExecutor(len(os.sched_getaffinity(0))) as pool:
         if given.measure:
-            flat = Tower(1).cases()
+            flat = Tower(1, given.views).cases()
             for line in pool.map(lambda name: measured(given.program, name, deep[name], flat[name]), names):
                 print(line, flush=True)
             return 0
-        found = [*zip(names, pool.map(lambda name: wrong(given.program, deep[name], given.stack), names))]
+        found = [*zip(names, pool.map(lambda name: wrong(given.program, deep[name], given.stack or STACK * given.views), names))]
     for name, fault in found:
         if fault:
             print("%s, %d levels: %s" % (name, deep[name].levels, fault))

@@ -126,7 +126,7 @@ def table():
     for name in names():
         proof, edits_time = known().get(name, (0, 0))
         edits = len(list((ROOT / "crates" / name / "must-fail").glob("*.edit")))
-        counts = [lines_in(name, part) for part in ("src", "specs", "proofs")] + [proof, edits, edits_time]
+        counts = [lines_in(name, part) for part in ("src", "specs", "proofs")] + [proof, edits, edits_time if edits else 0]
         yield LINE % (name, *(it or "" for it in counts))
 
 
