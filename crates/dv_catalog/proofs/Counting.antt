@@ -1,5 +1,5 @@
 -- How many documents an update counts.
-use Rattle.std.proofs.Common.{◌≡◌, ◌≤◌, ℕ, Bool, true, false, not, List, [], ◌∷◌, length, map, take, Result, Ok, Err, sym, ap, subst, ◌∙◌, arith}
+use Rattle.std.proofs.Common.{◌≡◌, ℕ, Bool, true, false, not, List, length, map, take, Result, Ok, Err, sym, ap, ◌∙◌}
 use Rattle.dv_value.specs.Tree.{Field}
 use Rattle.dv_value.specs.Results.{◌>>=◌}
 use Rattle.dv_command.specs.Entries.{Updating}
@@ -25,11 +25,5 @@ counts_chosen updating documents effect is = counted (changed_by updating.update
 pub all_counted : (updating : Updating) (documents : List (List Field)) (effect : Effect) → updating.multi ≡ true → update_chosen updating documents ≡ Ok effect → effect.matched ≡ length (matching updating.filter documents)
 all_counted updating documents effect multi is = counts_chosen updating documents effect is ∙ ap (λ (b : Bool). length (chosen b updating documents)) multi
 
-at_most_one : (ds : List (List Field)) → length (take 1 ds) ≤ 1
-at_most_one [] = omega arith
-at_most_one (d ∷ ds) = omega arith
-
-pub first_counted : (updating : Updating) (documents : List (List Field)) (effect : Effect) → updating.multi ≡ false → update_chosen updating documents ≡ Ok effect → effect.matched ≤ 1
-first_counted updating documents effect multi is =
-    let count = counts_chosen updating documents effect is ∙ ap (λ (b : Bool). length (chosen b updating documents)) multi in
-    subst (λ (n : ℕ). n ≤ 1) (sym count) (at_most_one (matching updating.filter documents))
+pub first_counted : (updating : Updating) (documents : List (List Field)) (effect : Effect) → updating.multi ≡ false → update_chosen updating documents ≡ Ok effect → effect.matched ≡ length (take 1 (matching updating.filter documents))
+first_counted updating documents effect multi is = counts_chosen updating documents effect is ∙ ap (λ (b : Bool). length (chosen b updating documents)) multi

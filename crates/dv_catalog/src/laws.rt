@@ -1,6 +1,6 @@
 //! What holds of changes, each the contract of a function that does nothing.
 
-ghost use Rattle.std.specs.Prelude.{◌≡◌, ◌<◌, ◌≤◌, ◌++◌, ◌∷◌, [], true, false, codes, length, List, Ok, Err};
+ghost use Rattle.std.specs.Prelude.{◌≡◌, ◌<◌, ◌≤◌, ◌++◌, ◌∷◌, [], true, false, codes, length, take, List, Ok, Err};
 ghost use Rattle.dv_value.specs.Tree.{Field};
 ghost use Rattle.dv_catalog.specs.Changes.{Change, Effect, with_change};
 ghost use Rattle.dv_catalog.specs.Effects.{update_chosen};
@@ -67,14 +67,16 @@ pub fn there_may_be_sixty_four_indexes()
 {}
 
 /// Beside an index `a_1` on `a`, an entry for the same one changes nothing, nor does one on `_id`. Another name for its path is
-/// refused, another path under its name, and the same one as a unique index; an index on another path comes behind it. `dropIndexes`
-/// by its name leaves the one on `_id`, which cannot be dropped by its own name; no other name is known.
+/// refused, another path under its name, and the same one as a unique index, or as one that isn't beside a unique one; an index on
+/// another path comes behind it. `dropIndexes` by its name leaves the one on `_id`, which cannot be dropped by its own name; no other
+/// name is known.
 pub fn indexes_by_example()
     ensures again { with_index (index_on (codes "a_1") (codes "a" ∷ []) false) beside_id ≡ Ok beside_id }
     ensures on_id { with_index (index_on (codes "i") (codes "_id" ∷ []) true) beside_id ≡ Ok beside_id }
     ensures other_name { with_index (index_on (codes "b_1") (codes "a" ∷ []) false) beside_id ≡ Err ConflictingUpdateOperators }
     ensures other_path { with_index (index_on (codes "a_1") (codes "b" ∷ []) false) beside_id ≡ Err ConflictingUpdateOperators }
     ensures as_unique { with_index (index_on (codes "a_1") (codes "a" ∷ []) true) beside_id ≡ Err ConflictingUpdateOperators }
+    ensures as_no_unique { with_index (index_on (codes "a_1") (codes "a" ∷ []) false) (id_form ∷ index_on (codes "a_1") (codes "a" ∷ []) true ∷ []) ≡ Err ConflictingUpdateOperators }
     ensures another { with_index (index_on (codes "b_1") (codes "b" ∷ []) true) beside_id ≡ Ok (beside_id ++ index_on (codes "b_1") (codes "b" ∷ []) true ∷ []) }
     ensures dropped { without_named (codes "a_1") beside_id ≡ Ok (id_form ∷ []) }
     ensures id_stays { without_named (codes "_id_") beside_id ≡ Err BadValue }
@@ -82,11 +84,11 @@ pub fn indexes_by_example()
     ensures all_dropped { without_named (codes "*") beside_id ≡ Ok (id_form ∷ []) }
 {}
 
-/// An update of all counts each document that matches, and one of the first at most one.
+/// An update of all counts each document that matches, and one of the first counts that, whether it changes or not.
 #[tactic(auto, using(crate::proofs::Counting::all_counted, crate::proofs::Counting::first_counted))]
 pub fn an_update_counts_what_it_chooses()
     ensures all { (updating : Updating) (documents : List (List Field)) (effect : Effect) → updating.multi ≡ true
         → update_chosen updating documents ≡ Ok effect → effect.matched ≡ length (matching updating.filter documents) }
     ensures first { (updating : Updating) (documents : List (List Field)) (effect : Effect) → updating.multi ≡ false
-        → update_chosen updating documents ≡ Ok effect → effect.matched ≤ 1 }
+        → update_chosen updating documents ≡ Ok effect → effect.matched ≡ length (take 1 (matching updating.filter documents)) }
 {}
