@@ -14,7 +14,7 @@ use std::collections::BTreeMap;
 use std::test::Fail;
 
 /// The position at the number.
-pub(crate) fn place(alloc: Global, number: u64) -> Result<Pos, Fail> {
+fn place(alloc: Global, number: u64) -> Result<Pos, Fail> {
     let start = Pos::of(alloc, Vec::new(alloc))?;
     Ok(start.with(alloc, Part::At(number))?)
 }
