@@ -28,6 +28,7 @@ from program import DOCD, parsed  # noqa: E402
 from spelled import message, script_lines  # noqa: E402
 
 RUNS = 5
+LARGE_PAGES = "glibc.malloc.hugetlb=1"  # what ./docd sets
 ALL = 2**31 - 1  # as many rows in a first batch as its bytes let
 
 
@@ -45,9 +46,17 @@ def count_asked(description):
     return asked(options).count
 
 
+def ask_for_large_pages():
+    """Starts this script once more with the variable by which ./docd asks for large pages of memory, so that docd has them as its
+    users do, and so has what is measured in this process beside it. A variable that is set already stays."""
+    if "GLIBC_TUNABLES" not in os.environ:
+        os.execve(sys.executable, [sys.executable, *sys.argv], {**os.environ, "GLIBC_TUNABLES": LARGE_PAGES})
+
+
 def asked(options):
     """What the words ask for. They may name the program too, which all measurements then take."""
     global DOCD
+    ask_for_large_pages()
     given = parsed(options, "bench")
     DOCD = given.program
     check_tools()

@@ -8,6 +8,7 @@ pub mod Behind
 pub mod Alone
 pub mod Underway
 pub mod Lists
-pub mod Flat
+pub mod Filling
+mod Flat
 pub mod Passing
 pub mod Made

@@ -1,5 +1,5 @@
 -- What operators have made, behind a change, behind their first rows, and where nothing came yet.
-use Rattle.std.proofs.Common.{◌≡◌, ◌∙◌, ◌++◌, ap, refl, sym, subst, List, []}
+use Rattle.std.proofs.Common.{◌≡◌, ◌∙◌, ◌++◌, ap, refl, sym, subst, List, [], Some}
 use Rattle.std.specs.List.{AllByRecursion}
 use Rattle.dv_change.specs.declared.change.Change.{Change}
 use Rattle.dv_change.specs.declared.change.Change.TheVariants.{Put, Gone}
@@ -40,11 +40,11 @@ still-positioned (Named i) change left are exact = are
 
 module _ {O : Type 0} (makes : O → List Positioned → Positioned → Positioned) (holds : O → List Positioned → Positioned → Type 0) where
   -- behind a change that went through the operators, and whose outcome was carried out and told
-  pub takes_told : (input : Input) (taken : Taken) (old new : ToldRows O) (nothing out before now : List Taken) → IsExact taken.pos → ChainTakesIn makes holds input taken old.operators new.operators nothing out old.ticks new.ticks → nothing ≡ []
+  pub takes_told : (input : Input) (taken : Taken) (old new : ToldRows O) (nothing out before now : List Taken) → IsExact taken.pos → ChainTakesIn makes holds (Some old.rows.entries) input taken old.operators new.operators nothing out old.ticks new.ticks → nothing ≡ []
       → new.rows.entries ≡ with_changes old.rows.entries (changes_told out) → now ≡ before ++ out → TakesTold makes holds input taken old new before now
   takes_told input taken old new nothing out before now exact passed none rows telling forms left change made has told =
       let comes = comes-in input taken change forms left exact has told in
-      let through = subst (λ (ts : List Taken). IsPassedIn makes holds input change new.operators forms left ts out old.ticks new.ticks) none (passed forms left change made.held comes) in
+      let through = subst (λ (ts : List Taken). IsPassedIn makes holds input change new.operators forms left ts out old.ticks new.ticks) none (passed forms left change made.held comes made.made) in
       let changes = pass_in input change forms left in
       let outs : changes_told out ≡ changes = ap changes_told through.out ∙ changes-told (through_forms forms left) changes in
       let leads : new.rows.entries ≡ with_changes old.rows.entries changes = rows ∙ ap (with_changes old.rows.entries) outs in

@@ -1,5 +1,5 @@
 -- Changes that are told to operators, one operator behind the other.
-use Rattle.std.proofs.Common.{◌≡◌, ◌∙◌, ap, sym, subst, refl, List, [], ◌∷◌, ◌+◌, ℕ, length}
+use Rattle.std.proofs.Common.{◌≡◌, ◌∙◌, ap, sym, subst, refl, List, [], ◌∷◌, ◌+◌, ℕ, Option, arith, length}
 use Rattle.std.specs.Prelude.{◌<◌, ◌-◌, Bool, true, if◌then◌else◌, nat_lt}
 use Rattle.std.specs.List.{AllByRecursion}
 use Rattle.std.proofs.lemmas.Bool.{lt-ltb}
@@ -10,28 +10,31 @@ use Rattle.dv_change.specs.Changes.{Positioned, with_changes}
 use Rattle.dv_change.specs.Difference.{diff}
 use Rattle.dv_change.specs.Inner.Changes.{IsExactChange, IsPositioned}
 use Rattle.dv_change.specs.Inner.DiffLaws.{apply-diff, exact-diff}
-use Rattle.dv_change.specs.Inner.Fed.{AreFresh, AreHeld, ComesIn, IsFed, IsFilled, IsPassed, IsPassedIn, rows_named}
+use Rattle.dv_change.specs.Inner.Fed.{AreFresh, AreHeld, AreKept, ComesIn, IsFed, IsFilled, IsPassed, IsPassedIn, rows_named}
 use Rattle.dv_change.specs.Inner.Told.{ComesTo, list_at, told_along, with_old}
 use Rattle.dv_change.specs.Inputs.{input_changed_at}
 use Rattle.dv_change.specs.Raised.{raised}
 use Rattle.dv_change.specs.Work.{Form, handed, owed_by, stage_rows, through_forms, work}
 use Rattle.dv_change.proofs.Linking.{apply-handed, exact-handed, raised-twice}
 
+plus-none : (n : ℕ) → n ≡ n + 0
+plus-none n = omega arith
+
 module _ {O : Type 0} (makes : O → List Positioned → Positioned → Positioned) (holds : O → List Positioned → Positioned → Type 0)
     (positioned : (o : O) (others : List Positioned) (left : Positioned) → holds o others left → IsPositioned left × AllByRecursion (λ rows. IsPositioned rows) others)
     (ordered : (o : O) (others : List Positioned) (rows : Positioned) → IsPositioned rows → IsPositioned (makes o others rows)) where
-  module _ (o after : O) (behind behind_after : List O) (items told before now : List Taken) (first mid last : ℕ) (same : makes after ≡ makes o)
+  module _ (kept : Option Positioned) (o after : O) (behind behind_after : List O) (items told before now : List Taken) (first mid last : ℕ) (same : makes after ≡ makes o)
       (fed : (others : List Positioned) (left : Positioned) (changes : List Change) → holds o others left → AllByRecursion IsExactChange changes → items ≡ told_along left changes → IsFed (makes o others) (holds after others) left changes [] told first mid)
-      (passed : (forms : List Form) (rows : Positioned) (changes : List Change) → AreHeld makes holds behind forms rows → AllByRecursion IsExactChange changes → told ≡ told_along rows changes → IsPassed makes holds behind_after forms rows changes before now mid last) where
-    more : (forms : List Form) (rows : Positioned) (changes : List Change) → AreHeld makes holds (o ∷ behind) forms rows → AllByRecursion IsExactChange changes → items ≡ told_along rows changes
+      (passed : (forms : List Form) (rows : Positioned) (changes : List Change) → AreHeld makes holds behind forms rows → AllByRecursion IsExactChange changes → told ≡ told_along rows changes → AreKept kept (through_forms forms rows) → IsPassed makes holds behind_after forms rows changes before now mid last) where
+    more : (forms : List Form) (rows : Positioned) (changes : List Change) → AreHeld makes holds (o ∷ behind) forms rows → AllByRecursion IsExactChange changes → items ≡ told_along rows changes → AreKept kept (through_forms forms rows)
         → IsPassed makes holds (after ∷ behind_after) forms rows changes before now first last
-    more [] rows changes held exact are = absurd held
-    more (form ∷ forms) rows changes held exact are =
+    more [] rows changes held exact are is = absurd held
+    more (form ∷ forms) rows changes held exact are is =
         let f = form.makes form.named in
         let in_order = (positioned o form.named rows held.1).0 in
         let one : IsFed f (holds after form.named) rows changes [] told first mid = subst (λ (k : List Positioned → Positioned → Positioned). IsFed (k form.named) (holds after form.named) rows changes [] told first mid) held.0 (fed form.named rows changes held.1 exact are) in
         let keeps : (r : Positioned) → IsPositioned r → IsPositioned (f r) = subst (λ (k : List Positioned → Positioned → Positioned). (r : Positioned) → IsPositioned r → IsPositioned (k form.named r)) held.0 (ordered o form.named) in
-        let rest = passed forms (f rows) (handed f rows changes) held.2 (exact-handed f keeps rows changes in_order exact) one.out in
+        let rest = passed forms (f rows) (handed f rows changes) held.2 (exact-handed f keeps rows changes in_order exact) one.out is in
         let leads = apply-handed f keeps rows changes in_order exact in
         record {
           held = (same ∙ held.0, one.held, subst (λ (r : Positioned). AreHeld makes holds behind_after forms r) leads rest.held);
@@ -40,22 +43,45 @@ module _ {O : Type 0} (makes : O → List Positioned → Positioned → Position
           leads = rest.leads ∙ ap (through_forms forms) leads;
         }
 
-    pub passed-more : (operators : List O) → operators ≡ o ∷ behind → (forms : List Form) (rows : Positioned) (changes : List Change) → AreHeld makes holds operators forms rows → AllByRecursion IsExactChange changes → items ≡ told_along rows changes
+    pub passed-more : (operators : List O) → operators ≡ o ∷ behind → (forms : List Form) (rows : Positioned) (changes : List Change) → AreHeld makes holds operators forms rows → AllByRecursion IsExactChange changes → items ≡ told_along rows changes → AreKept kept (through_forms forms rows)
         → IsPassed makes holds (after ∷ behind_after) forms rows changes before now first last
-    passed-more operators is forms rows changes held exact are = more forms rows changes (subst (λ (os : List O). AreHeld makes holds os forms rows) is held) exact are
+    passed-more operators is forms rows changes held exact are same_rows = more forms rows changes (subst (λ (os : List O). AreHeld makes holds os forms rows) is held) exact are same_rows
+
+  -- the last operator, told of changes by itself
+  module _ (kept : Positioned) (o after : O) (items before now : List Taken) (first last : ℕ) (same : makes after ≡ makes o)
+      (fed : (others : List Positioned) (left : Positioned) (changes : List Change) → holds o others left → AllByRecursion IsExactChange changes → items ≡ told_along left changes → kept ≡ makes o others left → IsFed (makes o others) (holds after others) left changes before now first last) where
+    alone : (forms : List Form) (rows : Positioned) (changes : List Change) → AreHeld makes holds (o ∷ []) forms rows → AllByRecursion IsExactChange changes → items ≡ told_along rows changes → kept ≡ through_forms forms rows
+        → IsPassed makes holds (after ∷ []) forms rows changes before now first last
+    alone [] rows changes held exact are is = absurd held
+    alone (form ∷ []) rows changes held exact are is =
+        let f = form.makes form.named in
+        let one : IsFed f (holds after form.named) rows changes before now first last = subst (λ (k : List Positioned → Positioned → Positioned). IsFed (k form.named) (holds after form.named) rows changes before now first last) held.0
+        (fed form.named rows changes held.1 exact are (is ∙ ap (λ (k : List Positioned → Positioned → Positioned). k form.named rows) (sym held.0))) in
+        let keeps : (r : Positioned) → IsPositioned r → IsPositioned (f r) = subst (λ (k : List Positioned → Positioned → Positioned). (r : Positioned) → IsPositioned r → IsPositioned (k form.named r)) held.0 (ordered o form.named) in
+        record {
+          held = (same ∙ held.0, one.held, tt);
+          out = one.out;
+          ticks = one.ticks ∙ ap (raised first) (plus-none (length changes + length (handed f rows changes)));
+          leads = apply-handed f keeps rows changes (positioned o form.named rows held.1).0 exact;
+        }
+    alone (form ∷ other ∷ forms) rows changes held exact are is = absurd held.2
+
+    pub passed-alone : (operators : List O) → operators ≡ o ∷ [] → (forms : List Form) (rows : Positioned) (changes : List Change) → AreHeld makes holds operators forms rows → AllByRecursion IsExactChange changes → items ≡ told_along rows changes → kept ≡ through_forms forms rows
+        → IsPassed makes holds (after ∷ []) forms rows changes before now first last
+    passed-alone operators is forms rows changes held exact are same_rows = alone forms rows changes (subst (λ (os : List O). AreHeld makes holds os forms rows) is held) exact are same_rows
 
   -- ---- a change of a list that the first operator looks into
 
-  module _ (i : ℕ) (change : Change) (taken : Taken) (exact : IsExactChange change) (o after : O) (behind behind_after : List O) (told before now : List Taken) (first mid last : ℕ) (named : ℕ) (same : makes after ≡ makes o) (counted : (others : List Positioned) (left : Positioned) → holds o others left → named ≡ length others) where
+  module _ (kept_rows : Option Positioned) (i : ℕ) (change : Change) (taken : Taken) (exact : IsExactChange change) (o after : O) (behind behind_after : List O) (told before now : List Taken) (first mid last : ℕ) (named : ℕ) (same : makes after ≡ makes o) (counted : (others : List Positioned) (left : Positioned) → holds o others left → named ≡ length others) where
     pub named-here : i < named
         → ((others : List Positioned) (left : Positioned) (c : Change) → holds o others left → ComesTo (Named i) taken c others left → holds after (input_changed_at i c others) left)
         → ((others : List Positioned) (left : Positioned) (c : Change) → holds o others left → ComesTo (Named i) taken c others left → told ≡ told_along (makes o others left) (owed_by (Named i) c (makes o) others left))
         → ((others : List Positioned) (left : Positioned) (c : Change) → holds o others left → ComesTo (Named i) taken c others left → mid ≡ raised first (1 + length (owed_by (Named i) c (makes o) others left)))
-        → ((forms : List Form) (rows : Positioned) (changes : List Change) → AreHeld makes holds behind forms rows → AllByRecursion IsExactChange changes → told ≡ told_along rows changes → IsPassed makes holds behind_after forms rows changes before now mid last)
-        → (forms : List Form) (rows : Positioned) → AreHeld makes holds (o ∷ behind) forms rows → ComesIn (Named i) taken change forms rows
+        → ((forms : List Form) (rows : Positioned) (changes : List Change) → AreHeld makes holds behind forms rows → AllByRecursion IsExactChange changes → told ≡ told_along rows changes → AreKept kept_rows (through_forms forms rows) → IsPassed makes holds behind_after forms rows changes before now mid last)
+        → (forms : List Form) (rows : Positioned) → AreHeld makes holds (o ∷ behind) forms rows → ComesIn (Named i) taken change forms rows → AreKept kept_rows (through_forms forms rows)
         → IsPassedIn makes holds (Named i) change (after ∷ behind_after) forms rows before now first last
-    named-here low keeps tells counts passed [] rows held comes = absurd held
-    named-here low keeps tells counts passed (form ∷ forms) rows held comes =
+    named-here low keeps tells counts passed [] rows held comes is = absurd held
+    named-here low keeps tells counts passed (form ∷ forms) rows held comes is =
         let count = counted form.named rows held.1 in
         let here : nat_lt i (length form.named) ≡ true = lt-ltb i (length form.named) (subst (λ (n : ℕ). i < n) count low) in
         let one : ComesTo (Named i) taken change form.named rows = record { there = subst (λ (n : ℕ). i < n) count low; told = comes.told ∙ ap (λ (b : Bool). with_old (if b then list_at i form.named else rows_named (i - length form.named) forms) change) here; exact = exact } in
@@ -70,7 +96,7 @@ module _ {O : Type 0} (makes : O → List Positioned → Positioned → Position
         let all = diff olds news in
         let telling : told ≡ told_along olds all = tells form.named rows change held.1 one ∙ ap (λ (k : List Positioned → Positioned → Positioned). told_along (k form.named rows) (owed_by (Named i) change k form.named rows)) held.0 in
         let counting : mid ≡ raised first (1 + length all) = counts form.named rows change held.1 one ∙ ap (λ (k : List Positioned → Positioned → Positioned). raised first (1 + length (owed_by (Named i) change k form.named rows))) held.0 in
-        let rest = passed forms olds all held.2 (exact-diff olds news old_order new_order) telling in
+        let rest = passed forms olds all held.2 (exact-diff olds news old_order new_order) telling is in
         let leads : with_changes olds all ≡ news = apply-diff olds news old_order new_order in
         record {
           held = rw here (same ∙ held.0, kept, subst (λ (r : Positioned). AreHeld makes holds behind_after forms r) leads rest.held);

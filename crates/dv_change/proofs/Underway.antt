@@ -95,9 +95,31 @@ module _ (m : Positioned → Positioned) (holds : Positioned → Type 0) (left :
   pub underway-end : IsUnderway m holds [] left changes before now first after → IsFed m holds left changes before now first after
   underway-end u = ended u.rows u.rest u.are u.held u.all u.out u.ticks
 
-pub nothing-left : (items : List Taken) → length items ≡ 0 → items ≡ []
+-- the only change, told to what has taken in these rows
+module _ (m : Positioned → Positioned) (held_after : Positioned → Type 0) (taken : Taken) (left : Positioned) (before now : List Taken) (first after : ℕ)
+    (law : (change : Change) → taken ≡ with_old left change → IsExactChange change
+    → held_after (with_change left change) × (now ≡ before ++ told_along (m left) (diff (m left) (m (with_change left change)))) × (after ≡ raised first (1 + length (diff (m left) (m (with_change left change)))))) where
+  only : (change : Change) (rest : List Change) → taken ≡ with_old left change → [] ≡ told_along (with_change left change) rest → IsExactChange change → IsFed m held_after left (change ∷ rest) before now first after
+  only change [] one none exact =
+      let done = law change one exact in
+      let owed = diff (m left) (m (with_change left change)) in
+      record {
+        held = done.0;
+        out = done.1 ∙ ap (λ ds. before ++ told_along (m left) ds) (sym (append-nil owed));
+        ticks = done.2 ∙ ap (λ ds. raised first (1 + length ds)) (sym (append-nil owed));
+      }
+  only change (other ∷ rest) one none exact = absurd cc
+
+  pub fed-only : (changes : List Change) → taken ∷ [] ≡ told_along left changes → AllByRecursion IsExactChange changes → IsFed m held_after left changes before now first after
+  fed-only [] are exact = absurd cc
+  fed-only (change ∷ rest) are exact =
+      let one : taken ≡ with_old left change = cc in
+      let none : [] ≡ told_along (with_change left change) rest = cc in
+      only change rest one none exact.0
+
+pub nothing-left : {T : Type 0} (items : List T) → length items ≡ 0 → items ≡ []
 nothing-left [] e = refl
-nothing-left (taken ∷ items) e = absurd cc
+nothing-left (item ∷ items) e = absurd cc
 
 -- what it tells of its first rows leads from nothing to what it makes
 pub fed-filled : (m : Positioned → Positioned) (holds : Positioned → Type 0) → ((rows : Positioned) → IsPositioned rows → IsPositioned (m rows)) → m [] ≡ [] → (changes : List Change) (before now : List Taken) (first after : ℕ) → before ≡ [] → AllByRecursion IsExactChange changes → IsFed m holds [] changes before now first after → IsFilled m holds changes now

@@ -30,7 +30,7 @@ pub use operator::Operator;
 pub use operators::Operators;
 pub use ordered::Ordered;
 pub use position::{Part, Pos};
-pub use taking::{Taken, take_in};
+pub use taking::{Taken, row_alone, take_in};
 pub use ticks::Ticks;
 pub use told_rows::ToldRows;
 pub use turn::Turn;

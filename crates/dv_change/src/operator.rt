@@ -6,12 +6,14 @@ ghost use Rattle.dv_change.specs.Inner.Beginning.{BeginsWith};
 ghost use Rattle.dv_change.specs.Changes.{Positioned};
 ghost use Rattle.dv_change.specs.Inner.Changes.{HaveOneLength, IsPositioned};
 ghost use Rattle.dv_change.specs.Inner.Fed.{OperatorFills};
-ghost use Rattle.dv_change.specs.Inner.Told.{CountsChanges, ReturnsTaken, TakesIn};
+ghost use Rattle.dv_change.specs.Inner.Told.{CountsBeside, CountsChanges, ReturnsBeside, ReturnsTaken, TakesIn};
 
 use crate::input::Input;
+use crate::position::Pos;
 use crate::taking::Taken;
 use crate::ticks::Ticks;
-use dv_value::NoMemory;
+use dv_value::{Document, NoMemory};
+use std::collections::BTreeMap;
 
 /// A stage of a pipeline that is told of each change with the row that stood at its position, and tells so what changes of its
 /// rows. Of what it has taken in it keeps only what it needs for that.
@@ -47,6 +49,34 @@ pub trait Operator {
         ensures ticks { OnOk result (CountsChanges (holds self.old) input taken (makes self.old) ticks.old ticks.new) }
         ensures begins { OnErr result (BeginsWith out.new.items out.old.items) }
         ensures no_fewer { OnErr result (ticks.old ≤ ticks.new) };
+
+    /// The same, where the rows that it has made are kept: it may take from them what it made before the change, in place of making
+    /// that again.
+    fn take_beside(
+        &mut self,
+        input: Input,
+        taken: Taken,
+        made: &BTreeMap<Pos, Document>,
+        ticks: &mut Ticks,
+        out: &mut Vec<Taken>,
+    ) -> Result<(), NoMemory>
+        requires { sound self.old }
+        ensures sound { OnOk result (sound self.new) }
+        ensures makes { OnOk result (makes self.new ≡ makes self.old) }
+        ensures holds { OnOk result (TakesIn (holds self.old) input taken (holds self.new)) }
+        ensures out { OnOk result (ReturnsBeside (holds self.old) input taken made.now.entries (makes self.old) out.old.items out.new.items) }
+        ensures ticks { OnOk result (CountsBeside (holds self.old) input taken made.now.entries (makes self.old) ticks.old ticks.new) }
+        ensures begins { OnErr result (BeginsWith out.new.items out.old.items) }
+        ensures no_fewer { OnErr result (ticks.old ≤ ticks.new) }
+    {
+        let _ = made;
+        self.take(input, taken, ticks, out)
+    }
+
+    /// Whether its first rows cost less where it takes them in at once, as where it makes a row of many.
+    fn is_filled_at_once(&self) -> bool {
+        false
+    }
 
     /// Takes in its first rows, by the changes that put them in. Tells changes that lead to what it makes of these rows; counts
     /// nothing. Fails with `NoMemory` when memory runs out; then it is spent and may only be dropped.

@@ -1,17 +1,20 @@
 //! Operators one behind the other, each told what stood where a change is.
 
-ghost use Rattle.std.specs.Prelude.{◌≡◌, ◌++◌, IfOk, OnErr, OnOk};
+ghost use Rattle.std.specs.Prelude.{◌≡◌, ◌++◌, IfOk, OnErr, OnOk, Some, length};
 ghost use Rattle.std.specs.List.{AllByRecursion};
+ghost use Rattle.std.specs.Option.{option_map};
 ghost use Rattle.dv_change.specs.declared.input.Input.TheVariants.{Named};
 ghost use Rattle.dv_change.specs.Inner.Beginning.{BeginsWith};
-ghost use Rattle.dv_change.specs.Inner.Fed.{ChainFills, ChainTakes, ChainTakesIn, OperatorTakes};
+ghost use Rattle.dv_change.specs.Inner.Fed.{ChainFills, ChainTakes, ChainTakesIn, OperatorTakes, OperatorTakesBeside};
 
 use crate::input::Input;
 use crate::operator::Operator;
+use crate::position::Pos;
 use crate::taking::Taken;
 use crate::ticks::Ticks;
-use dv_value::NoMemory;
+use dv_value::{Document, NoMemory};
 use std::alloc::Global;
+use std::collections::BTreeMap;
 use std::marker::Model;
 
 /// Operators one behind the other. Each takes in the changes that the one before it tells.
@@ -37,19 +40,21 @@ impl<O: Operator + Drop> Operators<O> {
         Operators { alloc, operators }
     }
 
-    /// Takes in a change of an input, and appends what the last operator tells of it to `out`. The lists that operators look into
-    /// are counted from 0 through all of them. Fails with `NoMemory` when memory runs out; then it is spent and may only be
-    /// dropped, `out` may have grown at its end, and what `ticks` counts is not said.
+    /// Takes in a change of an input, and appends what the last operator tells of it to `out`. The rows that the last operator has
+    /// made are kept in `made`. The lists that operators look into are counted from 0 through all of them. Fails with `NoMemory`
+    /// when memory runs out; then it is spent and may only be dropped, `out` may have grown at its end, and what `ticks` counts is
+    /// not said.
     pub fn take(
         &mut self,
         input: Input,
         taken: Taken,
+        made: &BTreeMap<Pos, Document>,
         ticks: &mut Ticks,
         out: &mut Vec<Taken>,
     ) -> Result<(), NoMemory>
         requires { AllByRecursion O.sound self.old }
         ensures sound { OnOk result (AllByRecursion O.sound self.new) }
-        ensures passed { OnOk result (ChainTakesIn O.makes O.holds input taken self.old self.new out.old.items out.new.items ticks.old ticks.new) }
+        ensures passed { OnOk result (ChainTakesIn O.makes O.holds (Some made.now.entries) input taken self.old self.new out.old.items out.new.items ticks.old ticks.new) }
         ensures begins { OnErr result (BeginsWith out.new.items out.old.items) }
     {
         take_input(
@@ -57,6 +62,7 @@ impl<O: Operator + Drop> Operators<O> {
             self.operators.as_mut_slice(),
             input,
             taken,
+            Some(made),
             ticks,
             out,
         )
@@ -69,7 +75,7 @@ impl<O: Operator + Drop> Operators<O> {
         ensures sound { OnOk result (AllByRecursion O.sound self.new) }
         ensures filled { IfOk result (λ made. ChainFills O.makes O.holds self.old self.new all.items made.items) }
     {
-        fill_all(self.operators.as_mut_slice(), all)
+        fill_all(self.alloc, self.operators.as_mut_slice(), all)
     }
 }
 
@@ -79,21 +85,22 @@ fn take_input<O: Operator>(
     operators: &mut [O],
     input: Input,
     taken: Taken,
+    made: Option<&BTreeMap<Pos, Document>>,
     ticks: &mut Ticks,
     out: &mut Vec<Taken>,
 ) -> Result<(), NoMemory>
     requires { AllByRecursion O.sound operators.old }
     ensures sound { OnOk result (AllByRecursion O.sound operators.new) }
-    ensures passed { OnOk result (ChainTakesIn O.makes O.holds input taken operators.old operators.new out.old.items out.new.items ticks.old ticks.new) }
+    ensures passed { OnOk result (ChainTakesIn O.makes O.holds (option_map (λ rows. rows.now.entries) made.entry) input taken operators.old operators.new out.old.items out.new.items ticks.old ticks.new) }
     ensures begins { OnErr result (BeginsWith out.new.items out.old.items) }
 {
     match input {
         Input::Left => {
             let mut all = Vec::with_capacity(alloc, 1)?;
             all.push(taken)?;
-            take_all(alloc, operators, all, ticks, out)
+            take_all(alloc, operators, all, made, ticks, out)
         }
-        Input::Named(place) => take_named(alloc, operators, place, taken, ticks, out),
+        Input::Named(place) => take_named(alloc, operators, place, taken, made, ticks, out),
     }
 }
 
@@ -115,25 +122,53 @@ fn take_each<O: Operator>(
     Ok(())
 }
 
-/// Tells the first operator of the changes, and those behind it of what it tells.
+/// Tells the operator of the only change, where the rows that it has made are kept.
+fn take_only<O: Operator>(
+    operator: &mut O,
+    all: Vec<Taken>,
+    made: &BTreeMap<Pos, Document>,
+    ticks: &mut Ticks,
+    out: &mut Vec<Taken>,
+) -> Result<(), NoMemory>
+    requires sound { O.sound operator.old }
+    requires one { length all.items ≡ 1 }
+    ensures sound { OnOk result (O.sound operator.new) }
+    ensures makes { OnOk result (O.makes operator.new ≡ O.makes operator.old) }
+    ensures fed { OnOk result (OperatorTakesBeside O.makes O.holds made.now.entries operator.old operator.new all.items out.old.items out.new.items ticks.old ticks.new) }
+    ensures begins { OnErr result (BeginsWith out.new.items out.old.items) }
+{
+    let mut all = all;
+    match all.pop() {
+        Some(taken) => operator.take_beside(Input::Left, taken, made, ticks, out),
+        None => Ok(()),
+    }
+}
+
+/// Tells the first operator of the changes, and those behind it of what it tells. The rows that the last one has made are kept.
 fn take_all<O: Operator>(
     alloc: Global,
     operators: &mut [O],
     all: Vec<Taken>,
+    made: Option<&BTreeMap<Pos, Document>>,
     ticks: &mut Ticks,
     out: &mut Vec<Taken>,
 ) -> Result<(), NoMemory>
     requires { AllByRecursion O.sound operators.old }
     ensures sound { OnOk result (AllByRecursion O.sound operators.new) }
-    ensures passed { OnOk result (ChainTakes O.makes O.holds operators.old operators.new all.items out.old.items out.new.items ticks.old ticks.new) }
+    ensures passed { OnOk result (ChainTakes O.makes O.holds (option_map (λ rows. rows.now.entries) made.entry) operators.old operators.new all.items out.old.items out.new.items ticks.old ticks.new) }
     ensures begins { OnErr result (BeginsWith out.new.items out.old.items) }
 {
     let Some((first, behind)) = operators.split_first_mut() else {
         return push_all(all, out);
     };
+    if let Some(rows) = made {
+        if behind.is_empty() && all.len() == 1 {
+            return take_only(first, all, rows, ticks, out);
+        }
+    }
     let mut told = Vec::new(alloc);
     take_each(first, all, ticks, &mut told)?;
-    take_all(alloc, behind, told, ticks, out)
+    take_all(alloc, behind, told, made, ticks, out)
 }
 
 /// Tells the operator that looks into the list of the change, and those behind it of what it tells.
@@ -142,12 +177,13 @@ fn take_named<O: Operator>(
     operators: &mut [O],
     place: usize,
     taken: Taken,
+    made: Option<&BTreeMap<Pos, Document>>,
     ticks: &mut Ticks,
     out: &mut Vec<Taken>,
 ) -> Result<(), NoMemory>
     requires { AllByRecursion O.sound operators.old }
     ensures sound { OnOk result (AllByRecursion O.sound operators.new) }
-    ensures passed { OnOk result (ChainTakesIn O.makes O.holds (Named place) taken operators.old operators.new out.old.items out.new.items ticks.old ticks.new) }
+    ensures passed { OnOk result (ChainTakesIn O.makes O.holds (option_map (λ rows. rows.now.entries) made.entry) (Named place) taken operators.old operators.new out.old.items out.new.items ticks.old ticks.new) }
     ensures begins { OnErr result (BeginsWith out.new.items out.old.items) }
 {
     let Some((first, behind)) = operators.split_first_mut() else {
@@ -157,23 +193,58 @@ fn take_named<O: Operator>(
     if place < named {
         let mut told = Vec::new(alloc);
         first.take(Input::Named(place), taken, ticks, &mut told)?;
-        take_all(alloc, behind, told, ticks, out)
+        take_all(alloc, behind, told, made, ticks, out)
     } else {
-        take_named(alloc, behind, place - named, taken, ticks, out)
+        take_named(alloc, behind, place - named, taken, made, ticks, out)
     }
 }
 
-/// Tells the first operator of its first rows, and those behind it of what it tells. Gives what the last one tells.
-fn fill_all<O: Operator>(operators: &mut [O], all: Vec<Taken>) -> Result<Vec<Taken>, NoMemory>
+/// Has the operators take in their first rows: each row through all of them, so that what they make of it on the way goes at once;
+/// but all rows one operator after the other, as far as one takes them in at once. Gives what the last one tells.
+fn fill_all<O: Operator>(
+    alloc: Global,
+    operators: &mut [O],
+    all: Vec<Taken>,
+) -> Result<Vec<Taken>, NoMemory>
     requires { AllByRecursion O.sound operators.old }
     ensures sound { OnOk result (AllByRecursion O.sound operators.new) }
     ensures filled { IfOk result (λ made. ChainFills O.makes O.holds operators.old operators.new all.items made.items) }
 {
+    if !is_one_filled_at_once(operators) {
+        return fill_each(alloc, operators, all);
+    }
     let Some((first, behind)) = operators.split_first_mut() else {
         return Ok(all);
     };
     let made = first.fill(all)?;
-    fill_all(behind, made)
+    fill_all(alloc, behind, made)
+}
+
+/// Whether one of the operators takes its first rows in at once.
+fn is_one_filled_at_once<O: Operator>(operators: &[O]) -> bool {
+    operators
+        .iter()
+        .any(|operator| operator.is_filled_at_once())
+}
+
+/// Has the operators take in their first rows, one after the other. Gives what the last one tells.
+fn fill_each<O: Operator>(
+    alloc: Global,
+    operators: &mut [O],
+    all: Vec<Taken>,
+) -> Result<Vec<Taken>, NoMemory>
+    requires { AllByRecursion O.sound operators.old }
+    ensures sound { OnOk result (AllByRecursion O.sound operators.new) }
+    ensures filled { IfOk result (λ made. ChainFills O.makes O.holds operators.old operators.new all.items made.items) }
+{
+    let mut ticks = Ticks::new();
+    let mut made = Vec::new(alloc);
+    'changes: for taken in all {
+        let mut one = Vec::with_capacity(alloc, 1)?;
+        one.push(taken)?;
+        take_all(alloc, operators, one, None, &mut ticks, &mut made)?;
+    }
+    Ok(made)
 }
 
 /// Puts what is told behind the others.

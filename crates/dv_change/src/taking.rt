@@ -2,13 +2,15 @@
 
 ghost use Rattle.std.specs.Prelude.{◌≡◌, IfOk, OnOk};
 ghost use Rattle.dv_change.specs.Changes.{at, with_change};
-ghost use Rattle.dv_change.specs.Inner.Changes.{IsExactChange, IsPositioned, position_changed, row_in};
+ghost use Rattle.dv_change.specs.Inner.Changes.{IsExactChange, IsPositioned, alone, position_changed, row_in};
 ghost use Rattle.dv_change.specs.Inner.Told.{change_told};
 ghost use Rattle.dv_change.specs.Positions.{IsExact};
 
 use crate::change::Change;
+use crate::ordered::Ordered;
 use crate::position::Pos;
 use dv_value::{Document, NoMemory};
+use std::alloc::Global;
 use std::collections::BTreeMap;
 
 /// What a change made of rows: at which position, which row was there, and which one is there now.
@@ -105,5 +107,20 @@ pub fn take_in(rows: &mut BTreeMap<Pos, Document>, change: Change) -> Result<Tak
                 new: None,
             })
         }
+    }
+}
+
+/// The row at the position by itself, if there is one; its memory is shared. Fails with `NoMemory` when memory runs out.
+pub fn row_alone(
+    alloc: Global,
+    rows: &BTreeMap<Pos, Document>,
+    pos: &Pos,
+) -> Result<Ordered<Document>, NoMemory>
+    ensures { IfOk result (λ row. row ≡ alone pos.now (at pos.now rows.now.entries)) }
+{
+    let none = Ordered::new(alloc);
+    match rows.get(pos) {
+        Some(row) => none.with(pos.try_clone()?, row.try_clone()?),
+        None => Ok(none),
     }
 }

@@ -65,7 +65,7 @@ impl<O: Operator + Drop> ToldRows<O> {
         taken.law_exact();
         let mut out = Vec::new(live.alloc);
         live.operators
-            .take(input, taken, &mut live.ticks, &mut out)?;
+            .take(input, taken, &live.rows, &mut live.ticks, &mut out)?;
         put_all(&mut live.rows, out, told)?;
         Ok(live)
     }

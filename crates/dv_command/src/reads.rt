@@ -21,46 +21,20 @@ use dv_refusal::Refusal;
 use dv_value::Document;
 use std::alloc::Global;
 
-/// The fields of a find.
+/// The fields of a find; the first is not one of a find that is explained.
 const FIND_RULES: [Rule; 9] = [
     DATABASE,
-    FIND,
-    FILTER,
-    SORT,
-    SKIP,
-    LIMIT,
+    Rule("find", FieldKind::Text),
+    Rule("filter", FieldKind::Document),
+    Rule("sort", FieldKind::Document),
+    Rule("skip", FieldKind::Natural),
+    Rule("limit", FieldKind::Natural),
     BATCH_SIZE,
-    SINGLE_BATCH,
-    PROJECTION,
+    Rule("singleBatch", FieldKind::Boolean),
+    Rule("projection", FieldKind::EmptyDocument),
 ];
-
-/// The fields of a find that is explained.
-const EXPLAINED_RULES: [Rule; 8] = [
-    FIND,
-    FILTER,
-    SORT,
-    SKIP,
-    LIMIT,
-    BATCH_SIZE,
-    SINGLE_BATCH,
-    PROJECTION,
-];
-
-const FIND: Rule = Rule("find", FieldKind::Text);
-
-const FILTER: Rule = Rule("filter", FieldKind::Document);
-
-const SORT: Rule = Rule("sort", FieldKind::Document);
-
-const SKIP: Rule = Rule("skip", FieldKind::Natural);
-
-const LIMIT: Rule = Rule("limit", FieldKind::Natural);
 
 const BATCH_SIZE: Rule = Rule("batchSize", FieldKind::Natural);
-
-const SINGLE_BATCH: Rule = Rule("singleBatch", FieldKind::Boolean);
-
-const PROJECTION: Rule = Rule("projection", FieldKind::EmptyDocument);
 
 /// The fields of an explain; what is explained is looked at by itself.
 const EXPLAIN_RULES: [Rule; 3] = [
@@ -237,7 +211,7 @@ pub(crate) fn explain_of<'a>(
     let inside = explained(body)?;
     let database = database(body)?;
     // The command's own field stands first, so what is in it is looked at before the other fields.
-    check_fields(FieldPlace::Command, &EXPLAINED_RULES, inside)?;
+    check_fields(FieldPlace::Command, &FIND_RULES[1..], inside)?;
     checked_database(&EXPLAIN_RULES, body, lists)?;
     let find = find_in(alloc, database, inside)?;
     Ok(Asked::Explain(Explain { find }))

@@ -6,13 +6,14 @@ use Rattle.std.specs.Cmp.{Equal-is, tied_itself}
 use Rattle.std.specs.Ordering.{is_eq}
 use Rattle.dv_value.specs.Tree.{Field}
 use Rattle.dv_change.specs.declared.change.Change.{Change}
+use Rattle.dv_change.specs.declared.taking.Taken.{Taken}
 use Rattle.dv_change.specs.Changes.{Positioned, at, with_change}
 use Rattle.dv_change.specs.Inner.Changes.{IsExactChange, IsPositioned, alone, position_changed, row_in}
 use Rattle.dv_change.specs.Difference.{diff}
 use Rattle.dv_change.specs.Inner.DiffLaws.{IsPartAt, at-alone, at-changed, diff-parts, exact-place, positioned-alone, positioned-changed}
 use Rattle.dv_change.specs.Inner.PositionLaws.{pos_order_total}
 use Rattle.dv_change.specs.Positions.{IsExact, PosTree, pos_order}
-use Rattle.dv_change.specs.Inner.Told.{diff_told, told_along}
+use Rattle.dv_change.specs.Inner.Told.{diff_told, told_along, with_old}
 use Rattle.dv_change.specs.Inner.ToldLaws.{along-diff, length-told, told-parts}
 
 module _ (makes : Positioned → Positioned) (origin : PosTree → PosTree)
@@ -73,3 +74,18 @@ module _ (makes : Positioned → Positioned) (origin : PosTree → PosTree)
     -- and how much
     pub row-count : length (diff (makes rows) (makes (with_change rows change))) ≡ length (diff_told (makes (alone (position_changed change) (at (position_changed change) rows))) (makes (alone (position_changed change) (row_in change))))
     row-count = sym (length-told (makes rows) (diff (makes rows) (makes (with_change rows change)))) ∙ ap length row-told
+
+    -- what it hands on and counts, of a change that is told, where these are what it made of the row that was there
+    module _ (taken : Taken) (old : Positioned) (told : taken ≡ with_old rows change) (made : old ≡ makes (alone taken.pos taken.old)) where
+      told-by : diff_told old (makes (alone taken.pos taken.new)) ≡ diff_told (makes (alone (position_changed change) (at (position_changed change) rows))) (makes (alone (position_changed change) (row_in change)))
+      told-by = (λ i. diff_told (made i) (makes (alone taken.pos taken.new))) ∙ (λ i. diff_told (makes (alone (told i).pos (told i).old)) (makes (alone (told i).pos (told i).new)))
+
+      pub out-told : diff_told old (makes (alone taken.pos taken.new)) ≡ told_along (makes rows) (diff (makes rows) (makes (with_change rows change)))
+      out-told = told-by ∙ sym row-told
+
+      pub out-counted : length (diff_told old (makes (alone taken.pos taken.new))) ≡ length (diff (makes rows) (makes (with_change rows change)))
+      out-counted = ap length told-by ∙ sym row-count
+
+-- what stood at the position of a change that is told
+pub at-told : (taken : Taken) (rows : Positioned) (change : Change) → taken ≡ with_old rows change → at taken.pos rows ≡ taken.old
+at-told taken rows change told = ap (λ (t : Taken). at t.pos rows) told ∙ sym (ap (λ (t : Taken). t.old) told)

@@ -1,16 +1,19 @@
 //! Stages that make their rows of each row by itself, told which row was at the position of a change.
 
-ghost use Rattle.std.specs.Prelude.{◌≡◌, ◌∷◌, [], IfOk, OnOk};
+ghost use Rattle.std.specs.Prelude.{◌≡◌, ◌≤◌, ◌+◌, ◌++◌, ◌∷◌, [], Some, length, IfOk, OnErr, OnOk};
 ghost use Rattle.std.specs.declared.cmp.Ordering.TheVariants.{Equal};
 ghost use Rattle.dv_change.specs.Changes.{Positioned, at};
+ghost use Rattle.dv_change.specs.Inner.Beginning.{BeginsWith};
 ghost use Rattle.dv_change.specs.Inner.Changes.{HaveOneLength, IsPositioned, alone};
 ghost use Rattle.dv_change.specs.Positions.{IsExact, PosTree, pos_order};
-ghost use Rattle.dv_change.specs.Inner.Told.{no_lists};
-ghost use Rattle.dv_flow.specs.Inner.Rows.{HoldsRows};
+ghost use Rattle.dv_change.specs.Raised.{raised};
+ghost use Rattle.dv_change.specs.Inner.Told.{diff_told, no_lists};
+ghost use Rattle.dv_flow.specs.Inner.Rows.{AreMadeOf, HoldsRows};
 
 use dv_change::{Input, Operator, Ordered, Pos, Taken, Ticks, hand_over};
 use dv_value::{Document, NoMemory};
 use std::alloc::Global;
+use std::collections::BTreeMap;
 
 /// A stage that makes its rows of each row by itself, at positions that say which row they are made of.
 pub trait ByRow {
@@ -36,6 +39,22 @@ pub trait ByRow {
         before: Option<&Document>,
     ) -> Result<Ordered<Document>, NoMemory>
         ensures { IfOk result (λ rows. rows ≡ makes self.now ((pos.now, row.now) ∷ [])) };
+
+    /// What it made of the row at a position, where the rows that it made are kept in `made`: it may take them from there. A row
+    /// that it made before may lend its names. Fails with `NoMemory` when memory runs out.
+    fn rows_beside(
+        &self,
+        alloc: Global,
+        pos: &Pos,
+        row: &Document,
+        made: &BTreeMap<Pos, Document>,
+        before: Option<&Document>,
+    ) -> Result<Ordered<Document>, NoMemory>
+        ensures { IfOk result (λ rows. AreMadeOf (makes self.now) made.now.entries pos.now (Some row.now) rows) }
+    {
+        let _ = made;
+        self.rows_of(alloc, pos, row, before)
+    }
 
     /// What it makes of rows at exact positions, in their order, stands at such.
     ghost ordered: { (s : Self) (rows : Positioned) → IsPositioned rows → IsPositioned (makes s rows) };
@@ -75,16 +94,24 @@ impl<S: ByRow> RowOperator<S> {
         })
     }
 
-    /// What it made of the row that was at the position of a change, and what it makes of the one that is there now.
-    fn both(&mut self, taken: &Taken) -> Result<(Ordered<Document>, Ordered<Document>), NoMemory>
-        ensures stage { OnOk result (self.new.stage ≡ self.old.stage) }
-        ensures old { IfOk result (λ made. made.0 ≡ S.makes self.old.stage (alone taken.now.pos taken.now.old)) }
-        ensures new { IfOk result (λ made. made.1 ≡ S.makes self.old.stage (alone taken.now.pos taken.now.new)) }
+    /// Tells what leads from the rows that it made of the one that was at the position of a change to those that it makes of the one
+    /// that is there now.
+    fn tell(
+        &mut self,
+        taken: &Taken,
+        old: &Ordered<Document>,
+        ticks: &mut Ticks,
+        out: &mut Vec<Taken>,
+    ) -> Result<(), NoMemory>
+        ensures stage { self.new.stage ≡ self.old.stage }
+        ensures out { OnOk result (out.new.items ≡ out.old.items ++ diff_told old.now (S.makes self.old.stage (alone taken.now.pos taken.now.new))) }
+        ensures ticks { OnOk result (ticks.new ≡ raised ticks.old (1 + length (diff_told old.now (S.makes self.old.stage (alone taken.now.pos taken.now.new))))) }
+        ensures begins { OnErr result (BeginsWith out.new.items out.old.items) }
+        ensures no_fewer { OnErr result (ticks.old ≤ ticks.new) }
     {
-        let old = self.made(&taken.pos, &taken.old)?;
         let new = self.made(&taken.pos, &taken.new)?;
         self.keep_last(&new)?;
-        Ok((old, new))
+        hand_over(old, &new, ticks, out)
     }
 
     /// Keeps the first row that it made of a row, where it made any, so that it lends its names.
@@ -105,6 +132,22 @@ impl<S: ByRow> RowOperator<S> {
             Some(row) => { self.stage.rows_of(self.alloc, pos, row, self.last.as_ref()) }
             None => Ok(Ordered::new(self.alloc)),
         }
+    }
+
+    /// What it made of the row at the position, where there is one, and where the rows that it made are kept.
+    fn made_beside(
+        &self,
+        pos: &Pos,
+        row: &Option<Document>,
+        made: &BTreeMap<Pos, Document>,
+    ) -> Result<Ordered<Document>, NoMemory>
+        ensures { IfOk result (λ rows. AreMadeOf (S.makes self.now.stage) made.now.entries pos.now row.now rows) }
+    {
+        let Some(row) = row else {
+            return Ok(Ordered::new(self.alloc));
+        };
+        let last = self.last.as_ref();
+        self.stage.rows_beside(self.alloc, pos, row, made, last)
     }
 }
 
@@ -136,8 +179,25 @@ impl<S: ByRow> Operator for RowOperator<S> {
     ) -> Result<(), NoMemory> {
         match input {
             Input::Left => {
-                let (old, new) = self.both(&taken)?;
-                hand_over(&old, &new, ticks, out)
+                let old = self.made(&taken.pos, &taken.old)?;
+                self.tell(&taken, &old, ticks, out)
+            }
+            Input::Named(_) => Ok(()),
+        }
+    }
+
+    fn take_beside(
+        &mut self,
+        input: Input,
+        taken: Taken,
+        made: &BTreeMap<Pos, Document>,
+        ticks: &mut Ticks,
+        out: &mut Vec<Taken>,
+    ) -> Result<(), NoMemory> {
+        match input {
+            Input::Left => {
+                let old = self.made_beside(&taken.pos, &taken.old, made)?;
+                self.tell(&taken, &old, ticks, out)
             }
             Input::Named(_) => Ok(()),
         }

@@ -6,10 +6,11 @@ ghost use Rattle.dv_flow.specs.Inner.Projecting.{project_even, project_ordered, 
 
 use crate::by_row::ByRow;
 use crate::row_turn::RowTurn;
-use dv_change::{Ordered, Pos};
+use dv_change::{Ordered, Pos, row_alone};
 use dv_row::Project;
 use dv_value::{Document, NoMemory};
 use std::alloc::Global;
+use std::collections::BTreeMap;
 
 /// Rows as they are shown, kept by changes.
 pub type ProjectTurn = RowTurn<Project>;
@@ -32,6 +33,17 @@ impl ByRow for Project {
     ) -> Result<Ordered<Document>, NoMemory> {
         let shown = self.row_behind(alloc, row, before)?;
         Ordered::new(alloc).with(pos.try_clone()?, shown)
+    }
+
+    fn rows_beside(
+        &self,
+        alloc: Global,
+        pos: &Pos,
+        _row: &Document,
+        made: &BTreeMap<Pos, Document>,
+        _before: Option<&Document>,
+    ) -> Result<Ordered<Document>, NoMemory> {
+        row_alone(alloc, made, pos)
     }
 
     ghost ordered = { project_ordered };

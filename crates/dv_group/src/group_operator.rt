@@ -179,6 +179,10 @@ impl Operator for GroupOperator {
         }
     }
 
+    fn is_filled_at_once(&self) -> bool {
+        true
+    }
+
     /// Makes the row of each group once.
     fn fill(&mut self, all: Vec<Taken>) -> Result<Vec<Taken>, NoMemory> {
         follow_all(self.alloc, &self.group, &mut self.groups, all)?;

@@ -58,8 +58,9 @@ impl Transitions {
         let Some(key) = key else {
             return Ok(self);
         };
-        let before = with_row(alloc, self.before, key, transition.before)?;
-        let after = with_row(alloc, self.after, key, transition.after)?;
+        let place = place_of(alloc, key)?;
+        let before = with_row_at(self.before, place.try_clone()?, transition.before)?;
+        let after = with_row_at(self.after, place, transition.after)?;
         Ok(Transitions { before, after })
     }
 
@@ -87,8 +88,19 @@ pub(crate) fn with_row(
 ) -> Result<Ordered<Document>, NoMemory>
     ensures { IfOk result (λ more. more ≡ put_some (Up key.now ∷ []) row rows) }
 {
+    with_row_at(rows, place_of(alloc, key)?, row)
+}
+
+/// The rows, with the one at the place, where there is one. Fails where memory is wanting.
+fn with_row_at(
+    rows: Ordered<Document>,
+    place: Pos,
+    row: Option<Document>,
+) -> Result<Ordered<Document>, NoMemory>
+    ensures { IfOk result (λ more. more ≡ put_some place row rows) }
+{
     match row {
-        Some(row) => rows.with(place_of(alloc, key)?, row),
+        Some(row) => rows.with(place, row),
         None => Ok(rows),
     }
 }

@@ -1,6 +1,5 @@
 -- What `$lookup` returns for rows at positions.
-use Rattle.std.specs.Prelude.{List, map}
-use Rattle.std.proofs.Common.{ap}
+use Rattle.std.specs.Prelude.{map}
 use Rattle.dv_gather.specs.declared.lookup.Lookup.{Lookup}
 use Rattle.dv_gather.specs.Lookups.{joined_row}
 use Rattle.dv_change.specs.Changes.{Positioned, forget}

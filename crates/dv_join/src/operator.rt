@@ -7,17 +7,17 @@ ghost use Rattle.dv_join.specs.Inner.Taking.{HoldsAfterDocument, HoldsAfterRow, 
 ghost use Rattle.dv_join.specs.Placed.{looked_up_at};
 ghost use Rattle.dv_join.specs.Inner.Placed.{looked_up_even, looked_up_ordered};
 ghost use Rattle.dv_join.specs.Turning.{first_input};
-ghost use Rattle.dv_join.specs.Inner.Turning.{HoldsJoin, has_foreign, has_local, if_any, join_positioned};
+ghost use Rattle.dv_join.specs.Inner.Turning.{AreLocalKeys, HoldsJoin, has_foreign, if_any, join_positioned};
 ghost use Rattle.dv_order.specs.Key.{KeyTree, key_order};
 
 use crate::index::Index;
 use crate::joining::{joined_row, joined_rows};
-use dv_change::{Input, Operator, Ordered, Pos, Taken, Ticks, hand_over};
+use dv_change::{Input, Operator, Ordered, Pos, Taken, Ticks, hand_over, row_alone};
 use dv_gather::Lookup;
 use dv_order::Key;
 use dv_value::{Document, NoMemory};
 use std::alloc::Global;
-use std::collections::BTreeSet;
+use std::collections::{BTreeMap, BTreeSet};
 
 /// Rows with the documents of another list that they are joined with, kept by changes of both that tell what stood there. For a
 /// change of a row it looks only at that row, and for a change of a document at the rows that share a key with it.
@@ -48,24 +48,23 @@ impl LookupOperator {
         })
     }
 
-    /// Takes in a change of its rows. Gives what it made of the row that stood at its place, and what it makes of the one that
+    /// Takes in a change of its rows, where the row that stood at its place has these keys. Gives what it makes of the one that
     /// stands there now.
     fn take_left(
         &mut self,
         taken: &Taken,
-    ) -> Result<(Ordered<Document>, Ordered<Document>), NoMemory>
+        old_keys: &BTreeSet<Key>,
+    ) -> Result<Ordered<Document>, NoMemory>
         ensures lookup { OnOk result (self.new.lookup ≡ self.old.lookup) }
-        ensures holds { OnOk result (HoldsAfterRow taken.now self.old self.new) }
-        ensures told { IfOk result (λ made. TellsAfterRow self.old taken.now made.0 made.1) }
+        ensures holds { OnOk result (HoldsAfterRow taken.now old_keys.now self.old self.new) }
+        ensures told { IfOk result (λ after. TellsAfterRow self.old taken.now after) }
     {
-        let Taken { pos, old, new } = taken;
-        let old_keys = self.local_keys(old)?;
+        let Taken { pos, new, .. } = taken;
         let new_keys = self.local_keys(new)?;
-        let before = self.joined_alone(pos, old, &old_keys)?;
         let after = self.joined_alone(pos, new, &new_keys)?;
-        self.left_by.exchange(pos, &old_keys, new, new_keys)?;
+        self.left_by.exchange(pos, old_keys, new, new_keys)?;
         self.last = lender(&after, self.last.take())?;
-        Ok((before, after))
+        Ok(after)
     }
 
     /// Takes in a change of the list that it looks into. Gives what it made of the rows that share a key with the document that
@@ -127,7 +126,7 @@ impl LookupOperator {
 
     /// The keys by which the row is looked up, where there is one.
     fn local_keys(&self, row: &Option<Document>) -> Result<BTreeSet<Key>, NoMemory>
-        ensures { IfOk result (λ keys. (k : KeyTree) → contains key_order keys k ≡ if_any (has_local self.now.lookup k) row.now) }
+        ensures { IfOk result (λ keys. AreLocalKeys self.now.lookup row.now keys) }
     {
         match row {
             Some(row) => self.lookup.local_keys(self.alloc, row),
@@ -182,13 +181,34 @@ impl Operator for LookupOperator {
     ) -> Result<(), NoMemory> {
         match input {
             Input::Left => {
-                let (old, new) = self.take_left(&taken)?;
+                let keys = self.local_keys(&taken.old)?;
+                let old = self.joined_alone(&taken.pos, &taken.old, &keys)?;
+                let new = self.take_left(&taken, &keys)?;
                 hand_over(&old, &new, ticks, out)
             }
             Input::Named(_) => {
                 let (old, new) = self.take_foreign(&taken)?;
                 hand_over(&old, &new, ticks, out)
             }
+        }
+    }
+
+    fn take_beside(
+        &mut self,
+        input: Input,
+        taken: Taken,
+        made: &BTreeMap<Pos, Document>,
+        ticks: &mut Ticks,
+        out: &mut Vec<Taken>,
+    ) -> Result<(), NoMemory> {
+        match input {
+            Input::Left => {
+                let keys = self.local_keys(&taken.old)?;
+                let old = row_alone(self.alloc, made, &taken.pos)?;
+                let new = self.take_left(&taken, &keys)?;
+                hand_over(&old, &new, ticks, out)
+            }
+            Input::Named(_) => self.take(input, taken, ticks, out),
         }
     }
 }

@@ -31,3 +31,4 @@ pub mod Listed
 pub mod Walked
 pub mod Copied
 pub mod Kept
+mod Staged

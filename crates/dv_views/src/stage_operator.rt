@@ -3,15 +3,16 @@
 ghost use Rattle.std.specs.Prelude.{IfOk};
 ghost use Rattle.dv_views.specs.Inner.Operating.{AreFresh, HoldsStage, IsFreshStage, IsSoundStage, stage_empty, stage_even, stage_makes, stage_ordered, stage_positioned};
 
-use dv_change::{Input, Operator, Taken, Ticks};
+use dv_change::{Input, Operator, Pos, Taken, Ticks};
 use dv_flow::{LimitOperator, RowOperator};
 use dv_group::GroupOperator;
 use dv_join::LookupOperator;
 use dv_match::Filter;
 use dv_path::SortSpec;
 use dv_pipe::{Project, Stage, Unwind};
-use dv_value::NoMemory;
+use dv_value::{Document, NoMemory};
 use std::alloc::Global;
+use std::collections::BTreeMap;
 
 /// A stage of any kind that is told of changes, so that all can stand one behind the other.
 #[derive(Drop)]
@@ -74,6 +75,29 @@ impl Operator for StageOperator {
             StageOperator::Limit(stage) => stage.take(input, taken, ticks, out),
             StageOperator::Group(stage) => stage.take(input, taken, ticks, out),
             StageOperator::Lookup(stage) => stage.take(input, taken, ticks, out),
+        }
+    }
+
+    fn take_beside(
+        &mut self,
+        input: Input,
+        taken: Taken,
+        made: &BTreeMap<Pos, Document>,
+        ticks: &mut Ticks,
+        out: &mut Vec<Taken>,
+    ) -> Result<(), NoMemory> {
+        match self {
+            StageOperator::Project(stage) => stage.take_beside(input, taken, made, ticks, out),
+            StageOperator::Lookup(stage) => stage.take_beside(input, taken, made, ticks, out),
+            // The others make again what they made before.
+            _ => self.take(input, taken, ticks, out),
+        }
+    }
+
+    fn is_filled_at_once(&self) -> bool {
+        match self {
+            StageOperator::Group(stage) => stage.is_filled_at_once(),
+            _ => false,
         }
     }
 

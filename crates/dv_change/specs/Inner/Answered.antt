@@ -5,6 +5,10 @@ pub ok-both : {A E : Type 0} {P Q R : Type 0} (r : Result A E) → OnOk r P → 
 ok-both (Ok a) p q f = f p q
 ok-both (Err e) p q f = tt
 
+pub ok-all : {A E : Type 0} {P Q R S : Type 0} (r : Result A E) → OnOk r P → OnOk r Q → OnOk r R → (P → Q → R → S) → OnOk r S
+ok-all (Ok a) p q r f = f p q r
+ok-all (Err e) p q r f = tt
+
 pub ok-one : {A E : Type 0} {P R : Type 0} (r : Result A E) → OnOk r P → (P → R) → OnOk r R
 ok-one (Ok a) p f = f p
 ok-one (Err e) p f = tt

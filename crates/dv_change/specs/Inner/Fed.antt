@@ -1,5 +1,5 @@
 -- Changes that operators take in, one operator behind the other.
-use Rattle.std.specs.Prelude.{◌≡◌, ◌≤◌, ◌+◌, ℕ, List, [], ◌∷◌, ◌++◌, ◌-◌, length, nat_lt, if◌then◌else◌, ⊤}
+use Rattle.std.specs.Prelude.{◌≡◌, ◌≤◌, ◌+◌, ℕ, List, [], ◌∷◌, ◌++◌, ◌-◌, Option, None, Some, length, nat_lt, if◌then◌else◌, ⊤}
 use Rattle.std.specs.List.{AllByRecursion}
 use Rattle.dv_change.specs.declared.change.Change.{Change}
 use Rattle.dv_change.specs.declared.input.Input.{Input}
@@ -35,6 +35,10 @@ OperatorFills makes holds old new all made = (others : List Positioned) (changes
 abbrev pub OperatorTakes : {O : Type 0} → (O → List Positioned → Positioned → Positioned) → (O → List Positioned → Positioned → Type 0) → O → O → List Taken → List Taken → List Taken → ℕ → ℕ → Type 0
 OperatorTakes makes holds old new all before now first after = (others : List Positioned) (left : Positioned) (changes : List Change) → holds old others left → AllByRecursion IsExactChange changes → all ≡ told_along left changes → IsFed (makes old others) (holds new others) left changes before now first after
 
+-- the same where the rows that it has made are those that are kept
+abbrev pub OperatorTakesBeside : {O : Type 0} → (O → List Positioned → Positioned → Positioned) → (O → List Positioned → Positioned → Type 0) → Positioned → O → O → List Taken → List Taken → List Taken → ℕ → ℕ → Type 0
+OperatorTakesBeside makes holds made old new all before now first after = (others : List Positioned) (left : Positioned) (changes : List Change) → holds old others left → AllByRecursion IsExactChange changes → all ≡ told_along left changes → made ≡ makes old others left → IsFed (makes old others) (holds new others) left changes before now first after
+
 -- it is about to take in some, and so far all is as it should be
 pub record IsUnderway (makes : Positioned → Positioned) (holds : Positioned → Type 0) (items : List Taken) (left : Positioned) (changes : List Change) (before now : List Taken) (first after : ℕ) : Type 0 where
   pub rows : Positioned
@@ -61,6 +65,11 @@ pub record ComesIn (input : Input) (taken : Taken) (change : Change) (forms : Li
   pub there : HasAny input forms
   pub told : taken ≡ with_old (rows_in input forms rows) change
   pub exact : IsExactChange change
+
+-- the rows that are kept, where they are, are these
+abbrev pub AreKept : Option Positioned → Positioned → Type 0
+AreKept None rows = ⊤
+AreKept (Some kept) rows = kept ≡ rows
 
 -- of operators: what they make of the lists that they look into and of rows, and which of these they have taken in
 module _ {O : Type 0} (makes : O → List Positioned → Positioned → Positioned) (holds : O → List Positioned → Positioned → Type 0) where
@@ -92,14 +101,27 @@ module _ {O : Type 0} (makes : O → List Positioned → Positioned → Position
     pub ticks : after ≡ raised first (work_in input change forms rows)
     pub leads : with_changes (through_forms forms rows) (pass_in input change forms rows) ≡ through_forms (forms_after input change forms) (left_after input change rows)
 
-  -- whatever they hold, the changes that they are told go through them
-  abbrev pub ChainTakes : List O → List O → List Taken → List Taken → List Taken → ℕ → ℕ → Type 0
-  ChainTakes old new all before now first after = (forms : List Form) (rows : Positioned) (changes : List Change) → AreHeld old forms rows → AllByRecursion IsExactChange changes → all ≡ told_along rows changes → IsPassed new forms rows changes before now first after
+  -- whatever they hold, the changes that they are told go through them, where the rows that the last one has made are those that are kept
+  abbrev pub ChainTakes : Option Positioned → List O → List O → List Taken → List Taken → List Taken → ℕ → ℕ → Type 0
+  ChainTakes made old new all before now first after = (forms : List Form) (rows : Positioned) (changes : List Change) → AreHeld old forms rows → AllByRecursion IsExactChange changes → all ≡ told_along rows changes → AreKept made (through_forms forms rows) → IsPassed new forms rows changes before now first after
 
   -- so does a change of an input
-  abbrev pub ChainTakesIn : Input → Taken → List O → List O → List Taken → List Taken → ℕ → ℕ → Type 0
-  ChainTakesIn input taken old new before now first after = (forms : List Form) (rows : Positioned) (change : Change) → AreHeld old forms rows → ComesIn input taken change forms rows → IsPassedIn input change new forms rows before now first after
+  abbrev pub ChainTakesIn : Option Positioned → Input → Taken → List O → List O → List Taken → List Taken → ℕ → ℕ → Type 0
+  ChainTakesIn made input taken old new before now first after = (forms : List Form) (rows : Positioned) (change : Change) → AreHeld old forms rows → ComesIn input taken change forms rows → AreKept made (through_forms forms rows) → IsPassedIn input change new forms rows before now first after
 
   -- whatever lists they hold, with no rows, they are filled by the changes that they are told
   abbrev pub ChainFills : List O → List O → List Taken → List Taken → Type 0
   ChainFills old new all made = (forms : List Form) (changes : List Change) → AreHeld old forms [] → AllByRecursion IsExactChange changes → all ≡ told_along [] changes → IsFilled (through_forms forms) (AreHeld new forms) changes made
+
+  -- they are about to take in the rest of their first rows, and so far what they told leads from nothing to what they make
+  pub record AreFilling (operators : List O) (forms : List Form) (items : List Taken) (changes : List Change) (made : List Taken) : Type 0 where
+    pub rows : Positioned
+    pub rest : List Change
+    pub are : items ≡ told_along rows rest
+    pub exact : AllByRecursion IsExactChange rest
+    pub held : AreHeld operators forms rows
+    pub all : with_changes rows rest ≡ with_changes [] changes
+    pub outs : List Change
+    pub exactly : AllByRecursion IsExactChange outs
+    pub told : made ≡ told_along [] outs
+    pub leads : with_changes [] outs ≡ through_forms forms rows

@@ -88,6 +88,13 @@ module _ (holds : List Positioned → Positioned → Type 0) (input : Input) (ta
   abbrev pub CountsChanges : (List Positioned → Positioned → Positioned) → ℕ → ℕ → Type 0
   CountsChanges makes before now = WhateverIsHeld (λ others left change. now ≡ raised before (1 + length (owed_by input change makes others left)))
 
+  -- the same where the rows that it has made are those that are kept
+  abbrev pub ReturnsBeside : Positioned → (List Positioned → Positioned → Positioned) → List Taken → List Taken → Type 0
+  ReturnsBeside made makes before now = WhateverIsHeld (λ others left change. made ≡ makes others left → now ≡ before ++ told_along (makes others left) (owed_by input change makes others left))
+
+  abbrev pub CountsBeside : Positioned → (List Positioned → Positioned → Positioned) → ℕ → ℕ → Type 0
+  CountsBeside made makes before now = WhateverIsHeld (λ others left change. made ≡ makes others left → now ≡ raised before (1 + length (owed_by input change makes others left)))
+
 -- where there are no lists, all are positioned
 pub no_lists : (others : List Positioned) → others ≡ [] → AllByRecursion (λ rows. IsPositioned rows) others
 no_lists [] none = tt

@@ -7,6 +7,7 @@ use Rattle.std.specs.Map.{keys_of}
 use Rattle.std.specs.Option.{option_map}
 use Rattle.std.specs.Ordering.{is_eq}
 use Rattle.std.specs.declared.cmp.Ordering.TheVariants.{Equal}
+use Rattle.dv_value.specs.Tree.{Field}
 use Rattle.dv_row.specs.declared.project.Project.{Project}
 use Rattle.dv_row.specs.Projecting.{projected}
 use Rattle.dv_change.specs.Changes.{Positioned, at}
@@ -42,3 +43,7 @@ project_single s rows q p are x y e =
     at-shown s q rows
     ∙ ap (option_map (projected s)) (at-like q p e rows ∙ sym (ap (λ r. cond (is_eq r) (at p rows) None) e) ∙ sym (at-alone q p (at p rows)))
     ∙ sym (at-shown s q (alone p (at p rows)))
+
+-- what it made of a row stands at the position of that row
+pub project_beside : (p : Project) (made : Positioned) (q : PosTree) (row : List Field) (left : Positioned) → made ≡ shown_at p left → at q left ≡ Some row → alone q (at q made) ≡ shown_at p ((q, row) ∷ [])
+project_beside p made q row left is there = ap (alone q) (ap (at q) is ∙ at-shown p q left ∙ ap (option_map (projected p)) there)

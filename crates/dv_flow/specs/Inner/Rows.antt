@@ -1,10 +1,16 @@
 -- A stage that makes its rows of each row by itself: what it has taken in.
-use Rattle.std.specs.Prelude.{◌≡◌, List, [], map}
-use Rattle.dv_change.specs.Changes.{Positioned}
-use Rattle.dv_change.specs.Inner.Changes.{IsPositioned}
+use Rattle.std.specs.Prelude.{◌≡◌, List, [], Option, map}
+use Rattle.dv_value.specs.Tree.{Field}
+use Rattle.dv_change.specs.Changes.{Positioned, at}
+use Rattle.dv_change.specs.Inner.Changes.{IsPositioned, alone}
 use Rattle.dv_change.specs.Inner.Turning.{Turning}
+use Rattle.dv_change.specs.Positions.{PosTree}
 use Rattle.dv_flow.specs.declared.by_row.RowOperator.{RowOperator}
 use Rattle.dv_flow.specs.declared.row_turn.RowTurn.{RowTurn}
+
+-- whatever rows it made the kept ones of, where this one was at a position: these are what it made of that one
+abbrev pub AreMadeOf : (Positioned → Positioned) → Positioned → PosTree → Option (List Field) → Positioned → Type 0
+AreMadeOf makes made pos row rows = (left : Positioned) → IsPositioned left → made ≡ makes left → at pos left ≡ row → rows ≡ makes (alone pos row)
 
 module _ {S : Type 0} where
   -- the operator keeps no row: it may have taken in any at exact positions, in their order, and no list

@@ -1,5 +1,5 @@
 -- Rows joined with the documents of an index, whatever documents it is of.
-use Rattle.std.specs.Prelude.{◌≡◌, List, Option}
+use Rattle.std.specs.Prelude.{◌≡◌, Option}
 use Rattle.std.specs.BTreeSet.{BTreeSet, contains}
 use Rattle.dv_order.specs.Key.{KeyTree, key_order}
 use Rattle.dv_gather.specs.declared.lookup.Lookup.{Lookup}
@@ -11,7 +11,7 @@ use Rattle.dv_change.specs.Positions.{PosTree}
 use Rattle.dv_join.specs.declared.index.Index.{Index}
 use Rattle.dv_join.specs.Inner.Copied.{DiffersByTarget, Row, made_of}
 use Rattle.dv_join.specs.Inner.Indexed.{IsJoinIndexOf}
-use Rattle.dv_join.specs.Inner.Turning.{has_foreign, has_local, if_any}
+use Rattle.dv_join.specs.Inner.Turning.{AreLocalKeys, has_foreign, has_local}
 use Rattle.dv_join.specs.Placed.{looked_up_at}
 
 -- a copy of a row, with the documents that the row is joined with
@@ -33,4 +33,4 @@ module _ (l : Lookup) (foreign : Index) where
 
   -- this is the row at a position joined, where there is one, which is looked up by these keys
   abbrev pub IsJoinedAlone : PosTree → Option Row → BTreeSet KeyTree → Positioned → Type 0
-  IsJoinedAlone pos row keys joined = (documents : Positioned) → IsPositioned documents → IsJoinIndexOf (has_foreign l) documents foreign → ((k : KeyTree) → contains key_order keys k ≡ if_any (has_local l k) row) → joined ≡ looked_up_at l (alone pos row) documents
+  IsJoinedAlone pos row keys joined = (documents : Positioned) → IsPositioned documents → IsJoinIndexOf (has_foreign l) documents foreign → AreLocalKeys l row keys → joined ≡ looked_up_at l (alone pos row) documents

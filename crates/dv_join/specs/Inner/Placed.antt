@@ -1,15 +1,16 @@
 -- Of `Placed`, what only bodies and proofs need.
-use Rattle.std.specs.Prelude.{◌≡◌, Bool, true, false, cond, List, [], ◌∷◌, length, map, Some, refl}
-use Rattle.std.proofs.Common.{ap, subst, sym}
+use Rattle.std.specs.Prelude.{◌≡◌, Bool, true, false, cond, List, [], ◌∷◌, length, Option, None, Some, refl}
+use Rattle.std.proofs.Common.{ap, subst, sym, ◌∙◌}
 use Rattle.std.specs.List.{AllByRecursion}
 use Rattle.std.specs.List.Sorted.{IsStrictlySortedBy}
 use Rattle.std.specs.Map.{keys_of}
 use Rattle.std.specs.Option.{option_map}
 use Rattle.std.specs.Ordering.{is_eq}
+use Rattle.dv_value.specs.Tree.{Field}
 use Rattle.dv_gather.specs.declared.lookup.Lookup.{Lookup}
 use Rattle.dv_gather.specs.Lookups.{joined_row}
 use Rattle.dv_change.specs.Changes.{Positioned, at, forget}
-use Rattle.dv_change.specs.Inner.Changes.{HaveOneLength, IsPositioned}
+use Rattle.dv_change.specs.Inner.Changes.{HaveOneLength, IsPositioned, alone}
 use Rattle.dv_change.specs.Positions.{IsExact, PosTree, pos_order}
 use Rattle.dv_join.specs.Placed.{looked_up_at}
 
@@ -27,6 +28,14 @@ module _ (l : Lookup) (foreign : Positioned) where
           → cond b (Some (joined_row l (forget foreign) e.1)) (at q (looked_up_at l rows foreign)) ≡ option_map (joined_row l (forget foreign)) (cond b (Some e.1) (at q rows))
       by true rest = refl
       by false rest = rest
+
+  -- what was made of the row at a position stands there among what was made of all
+  pub looked_up_alone : (made : Positioned) (q : PosTree) (row : Option (List Field)) (rows : Positioned) → made ≡ looked_up_at l rows foreign → at q rows ≡ row → alone q (at q made) ≡ looked_up_at l (alone q row) foreign
+  looked_up_alone made q row rows is there = ap (alone q) (ap (at q) is ∙ at-looked_up q rows ∙ ap (option_map (joined_row l (forget foreign))) there) ∙ by row
+    where
+      by : (row : Option (List Field)) → alone q (option_map (joined_row l (forget foreign)) row) ≡ looked_up_at l (alone q row) foreign
+      by None = refl
+      by (Some d) = refl
 
   pub looked_up_ordered : (rows : Positioned) → IsPositioned rows → IsPositioned (looked_up_at l rows foreign)
   looked_up_ordered rows are = record {

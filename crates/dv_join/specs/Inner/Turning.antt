@@ -1,9 +1,10 @@
 -- Of `Turning`, what only bodies and proofs need.
 use Rattle.std.specs.Prelude.{◌≡◌, Bool, false, List, [], ◌∷◌, Option, None, Some, map}
 use Rattle.std.proofs.Common.{subst, sym}
+use Rattle.std.specs.BTreeSet.{BTreeSet, contains}
 use Rattle.std.specs.List.{AllByRecursion}
 use Rattle.dv_value.specs.Tree.{Field}
-use Rattle.dv_order.specs.Key.{KeyTree}
+use Rattle.dv_order.specs.Key.{KeyTree, key_order}
 use Rattle.dv_path.specs.LeafKeys.{is_some_key, leaf_values}
 use Rattle.dv_gather.specs.declared.lookup.Lookup.{Lookup}
 use Rattle.dv_gather.specs.Joining.{joined_by}
@@ -28,6 +29,10 @@ has_foreign l k d = is_some_key k (leaf_values l.foreign d)
 abbrev pub if_any : (List Field → Bool) → Option (List Field) → Bool
 if_any test None = false
 if_any test (Some d) = test d
+
+-- these are the keys of the values by which a row is looked up, where there is one
+abbrev pub AreLocalKeys : Lookup → Option (List Field) → BTreeSet KeyTree → Type 0
+AreLocalKeys l row keys = (k : KeyTree) → contains key_order keys k ≡ if_any (has_local l k) row
 
 -- what an operator may have taken in: one list, and rows; both stand at exact positions, in their order, and are indexed by their
 -- keys

@@ -1,5 +1,4 @@
 -- The positions so far are exact.
-use Rattle.std.proofs.Common.{◌≡◌}
 use Rattle.std.specs.List.{AllByRecursion}
 use Rattle.std.specs.Map.{keys_of}
 use Rattle.dv_change.specs.Positions.{IsExact}

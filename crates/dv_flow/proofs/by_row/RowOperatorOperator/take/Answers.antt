@@ -3,22 +3,22 @@ use Rattle.std.proofs.Common.{◌≡◌, ◌∙◌, ◌+◌, ◌++◌, List, ap,
 use Rattle.dv_change.specs.Inner.Answered.{ok-one}
 use Rattle.dv_change.specs.declared.input.Input.{Input}
 use Rattle.dv_change.specs.Changes.{Positioned}
-use Rattle.dv_change.specs.Inner.Changes.{IsPositioned, alone}
+use Rattle.dv_change.specs.Inner.Changes.{IsPositioned}
 use Rattle.dv_change.specs.Inner.DiffLaws.{positioned-changed}
 use Rattle.dv_change.specs.Inputs.{left_after, others_after}
 use Rattle.dv_change.specs.Raised.{raised}
-use Rattle.dv_change.specs.Inner.Told.{diff_told, input_rows, told_along, with_old}
+use Rattle.dv_change.specs.Inner.Told.{input_rows, told_along, with_old}
 use Rattle.dv_change.specs.Work.{owed_by}
-use Rattle.dv_flow.proofs.Owed.{row-count, row-told}
+use Rattle.dv_flow.proofs.Owed.{out-counted, out-told}
 use Rattle.dv_flow.proofs.by_row.RowOperatorOperator.take.Goals as goal
 
 pub returns-in-Left-clause-makes : goal.returns-in-Left-clause-makes
 returns-in-Left-clause-makes g c =
-    ok-one c.hand_over.result c.hand_over.ensures.out (λ out. ap (λ stage (others : List Positioned) (rows : Positioned). g.S.ByRow.makes stage rows) c.in_ok-old-in-Left.ensures.stage)
+    ok-one c.tell.result c.tell.ensures.out (λ out. ap (λ stage (others : List Positioned) (rows : Positioned). g.S.ByRow.makes stage rows) c.tell.ensures.stage)
 
 pub returns-in-Left-clause-holds : goal.returns-in-Left-clause-holds
 returns-in-Left-clause-holds g c =
-    ok-one c.hand_over.result c.hand_over.ensures.out (λ out others left change held comes. record {
+    ok-one c.tell.result c.tell.ensures.out (λ out others left change held comes. record {
       positioned = subst (λ (i : Input). IsPositioned (left_after i change left)) (sym c.in-Left.is) (positioned-changed left change held.positioned comes.exact);
       none = ap (λ i. others_after i change others) c.in-Left.is ∙ held.none;
     })
@@ -28,13 +28,10 @@ returns-in-Left-clause-out g c =
     let stage = c.args.self.now.stage in
     let makes = g.S.ByRow.makes stage in
     let laws = g.met.S.ByRow in
-    let both = c.in_ok-old-in-Left.ensures in
-    ok-one c.hand_over.result c.hand_over.ensures.out (λ out others left change held comes.
+    ok-one c.tell.result c.tell.ensures.out (λ out others left change held comes.
     let told : c.args.taken ≡ with_old left change = comes.told ∙ ap (λ i. with_old (input_rows i others left) change) c.in-Left.is in
     out ∙ ap (λ ts. c.args.out.now.items ++ ts) (
-    (λ i. diff_told (both.old i) (both.new i))
-    ∙ (λ i. diff_told (makes (alone (told i).pos (told i).old)) (makes (alone (told i).pos (told i).new)))
-    ∙ sym (row-told makes (g.S.ByRow.origin stage) (laws.ordered stage) (laws.empty stage) (laws.exact stage) (laws.single stage) left change held.positioned comes.exact)
+    out-told makes (g.S.ByRow.origin stage) (laws.ordered stage) (laws.empty stage) (laws.exact stage) (laws.single stage) left change held.positioned comes.exact c.args.taken c.in_ok-old-in-Left.old told c.in_ok-old-in-Left.ensures
     ∙ sym (ap (λ i. told_along (makes left) (owed_by i change (λ others' rows. makes rows) others left)) c.in-Left.is)))
 
 pub returns-in-Left-clause-ticks : goal.returns-in-Left-clause-ticks
@@ -42,11 +39,8 @@ returns-in-Left-clause-ticks g c =
     let stage = c.args.self.now.stage in
     let makes = g.S.ByRow.makes stage in
     let laws = g.met.S.ByRow in
-    let both = c.in_ok-old-in-Left.ensures in
-    ok-one c.hand_over.result c.hand_over.ensures.ticks (λ ticks others left change held comes.
+    ok-one c.tell.result c.tell.ensures.ticks (λ ticks others left change held comes.
     let told : c.args.taken ≡ with_old left change = comes.told ∙ ap (λ i. with_old (input_rows i others left) change) c.in-Left.is in
     ticks ∙ ap (λ n. raised c.args.ticks.now (1 + n)) (
-    (λ i. length (diff_told (both.old i) (both.new i)))
-    ∙ (λ i. length (diff_told (makes (alone (told i).pos (told i).old)) (makes (alone (told i).pos (told i).new))))
-    ∙ sym (row-count makes (g.S.ByRow.origin stage) (laws.ordered stage) (laws.empty stage) (laws.exact stage) (laws.single stage) left change held.positioned comes.exact)
+    out-counted makes (g.S.ByRow.origin stage) (laws.ordered stage) (laws.empty stage) (laws.exact stage) (laws.single stage) left change held.positioned comes.exact c.args.taken c.in_ok-old-in-Left.old told c.in_ok-old-in-Left.ensures
     ∙ sym (ap (λ i. length (owed_by i change (λ others' rows. makes rows) others left)) c.in-Left.is)))

@@ -5,31 +5,23 @@ use Rattle.dv_change.specs.declared.change.Change.{Change}
 use Rattle.dv_change.specs.declared.input.Input.{Input}
 use Rattle.dv_change.specs.declared.taking.Taken.{Taken}
 use Rattle.dv_change.specs.Changes.{Positioned}
-use Rattle.dv_change.specs.Inputs.{left_after, others_after}
 use Rattle.dv_change.specs.Inner.Told.{ComesTo, told_along}
 use Rattle.dv_change.specs.Raised.{raised}
 use Rattle.dv_change.specs.Work.{owed_by}
 use Rattle.dv_views.specs.declared.stage_operator.StageOperator.{StageOperator}
 use Rattle.dv_views.specs.declared.stage_operator.StageOperator.TheVariants.{Match, Project, Unwind, Sort, Limit, Group, Lookup}
 use Rattle.dv_views.specs.Inner.Operating.{HoldsStage, stage_makes}
+use Rattle.dv_views.proofs.Staged.{Holds, Makes}
 use Rattle.dv_views.proofs.stage_operator.StageOperatorOperator.take.Goals as goal
 
-module _ {A E : Type 0} (r : Result A E) where
-  abbrev Makes : StageOperator → StageOperator → Type 0
-  Makes after before = OnOk r (stage_makes after ≡ stage_makes before)
+module _ {A E : Type 0} (r : Result A E) (input : Input) (taken : Taken) where
+  abbrev Tells : List Taken → List Taken → StageOperator → Type 0
+  Tells now first before =
+      OnOk r ((others : List Positioned) (left : Positioned) (change : Change) → HoldsStage before others left → ComesTo input taken change others left → now ≡ first ++ told_along (stage_makes before others left) (owed_by input change (stage_makes before) others left))
 
-  module _ (input : Input) (taken : Taken) where
-    abbrev Holds : StageOperator → StageOperator → Type 0
-    Holds after before =
-        OnOk r ((others : List Positioned) (left : Positioned) (change : Change) → HoldsStage before others left → ComesTo input taken change others left → HoldsStage after (others_after input change others) (left_after input change left))
-
-    abbrev Tells : List Taken → List Taken → StageOperator → Type 0
-    Tells now first before =
-        OnOk r ((others : List Positioned) (left : Positioned) (change : Change) → HoldsStage before others left → ComesTo input taken change others left → now ≡ first ++ told_along (stage_makes before others left) (owed_by input change (stage_makes before) others left))
-
-    abbrev Counts : ℕ → ℕ → StageOperator → Type 0
-    Counts now first before =
-        OnOk r ((others : List Positioned) (left : Positioned) (change : Change) → HoldsStage before others left → ComesTo input taken change others left → now ≡ raised first (1 + length (owed_by input change (stage_makes before) others left)))
+  abbrev Counts : ℕ → ℕ → StageOperator → Type 0
+  Counts now first before =
+      OnOk r ((others : List Positioned) (left : Positioned) (change : Change) → HoldsStage before others left → ComesTo input taken change others left → now ≡ raised first (1 + length (owed_by input change (stage_makes before) others left)))
 
 pub returns-in-Match-clause-makes : goal.returns-in-Match-clause-makes
 returns-in-Match-clause-makes c = subst (Makes c.take.result (Match c.take.new.self)) (sym c.in-Match.is) c.take.ensures.makes
