@@ -89,7 +89,7 @@ impl Operator for StageOperator {
         match self {
             StageOperator::Project(stage) => stage.take_beside(input, taken, made, ticks, out),
             StageOperator::Lookup(stage) => stage.take_beside(input, taken, made, ticks, out),
-            // The others make again what they made before.
+            // The others have no use for the rows that are kept.
             _ => self.take(input, taken, ticks, out),
         }
     }
