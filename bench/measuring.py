@@ -7,8 +7,10 @@ programs on the machine change least, and the least of some runs.
 import argparse
 import json
 import os
+import pathlib
 import queue
 import random
+import re
 import resource
 import sqlite3
 import struct
@@ -28,7 +30,7 @@ from program import DOCD, parsed  # noqa: E402
 from spelled import message, script_lines  # noqa: E402
 
 RUNS = 5
-LARGE_PAGES = "glibc.malloc.hugetlb=1"  # what ./docd sets
+TUNABLES = "GLIBC_TUNABLES"  # the variable by which ./docd says how memory is to be taken
 ALL = 2**31 - 1  # as many rows in a first batch as its bytes let
 
 
@@ -46,17 +48,18 @@ def count_asked(description):
     return asked(options).count
 
 
-def ask_for_large_pages():
-    """Starts this script once more with the variable by which ./docd asks for large pages of memory, so that docd has them as its
-    users do, and so has what is measured in this process beside it. A variable that is set already stays."""
-    if "GLIBC_TUNABLES" not in os.environ:
-        os.execve(sys.executable, [sys.executable, *sys.argv], {**os.environ, "GLIBC_TUNABLES": LARGE_PAGES})
+def take_memory_as_docd():
+    """Starts this script once more with the variable that ./docd sets, so that docd takes memory as it does for its users, and so
+    does what is measured in this process beside it. A variable that is set already stays."""
+    if TUNABLES not in os.environ:
+        set_by_docd = re.search(r"\{%s-([^}]+)\}" % TUNABLES, pathlib.Path(TOOLS, os.pardir, "docd").read_text())[1]
+        os.execve(sys.executable, [sys.executable, *sys.argv], {**os.environ, TUNABLES: set_by_docd})
 
 
 def asked(options):
     """What the words ask for. They may name the program too, which all measurements then take."""
     global DOCD
-    ask_for_large_pages()
+    take_memory_as_docd()
     given = parsed(options, "bench")
     DOCD = given.program
     check_tools()

@@ -42,7 +42,7 @@ module _ {O : Type 0} (makes : O → List Positioned → Positioned → Position
       leads = sym (nothing_through makes holds positioned ordered empty operators forms held);
     }
 
-    module _ (operators after : List O) (taken : Taken) (items one made now : List Taken) (first last : ℕ) (only : one ≡ taken ∷ []) (takes : ChainTakes makes holds None operators after one made now first last) where
+    module _ (operators after : List O) (taken : Taken) (items made now : List Taken) (first last : ℕ) (takes : ChainTakes makes holds None operators after (taken ∷ []) made now first last) where
       next : (u : AreFilling makes holds operators forms (taken ∷ items) changes made) (rest : List Change) → u.rest ≡ rest → AreFilling makes holds after forms items changes now
       next u [] is = let are : taken ∷ items ≡ told_along u.rows [] = u.are ∙ ap (told_along u.rows) is in absurd cc
       next u (change ∷ rest) is =
@@ -50,7 +50,7 @@ module _ {O : Type 0} (makes : O → List Positioned → Positioned → Position
           let told : taken ≡ with_old u.rows change = cc in
           let others : items ≡ told_along (with_change u.rows change) rest = cc in
           let exact = subst (λ (cs : List Change). AllByRecursion IsExactChange cs) is u.exact in
-          let passed = takes forms u.rows (change ∷ []) u.held (exact.0, tt) (only ∙ ap (λ t. t ∷ []) told) tt in
+          let passed = takes forms u.rows (change ∷ []) u.held (exact.0, tt) (ap (λ t. t ∷ []) told) tt in
           let more = pass forms u.rows (change ∷ []) in
           record {
             rows = with_change u.rows change;

@@ -10,8 +10,8 @@ use Rattle.dv_change.specs.Changes.{Positioned, with_changes}
 use Rattle.dv_change.specs.Difference.{diff}
 use Rattle.dv_change.specs.Inner.Changes.{IsExactChange, IsPositioned}
 use Rattle.dv_change.specs.Inner.DiffLaws.{apply-diff, exact-diff}
-use Rattle.dv_change.specs.Inner.Fed.{AreFresh, AreHeld, AreKept, ComesIn, IsFed, IsFilled, IsPassed, IsPassedIn, rows_named}
-use Rattle.dv_change.specs.Inner.Told.{ComesTo, list_at, told_along, with_old}
+use Rattle.dv_change.specs.Inner.Fed.{AreFresh, AreHeld, AreKept, ChainFills, ChainStays, ComesIn, IsFed, IsFilled, IsPassed, IsPassedIn, rows_named}
+use Rattle.dv_change.specs.Inner.Told.{ComesTo, StaysTaken, list_at, told_along, with_old}
 use Rattle.dv_change.specs.Inputs.{input_changed_at}
 use Rattle.dv_change.specs.Raised.{raised}
 use Rattle.dv_change.specs.Work.{Form, handed, owed_by, stage_rows, through_forms, work}
@@ -19,6 +19,21 @@ use Rattle.dv_change.proofs.Linking.{apply-handed, exact-handed, raised-twice}
 
 plus-none : (n : ℕ) → n ≡ n + 0
 plus-none n = omega arith
+
+module _ {O : Type 0} (makes : O → List Positioned → Positioned → Positioned) (holds : O → List Positioned → Positioned → Type 0) where
+  -- the first operator holds what it held, and so do those behind it
+  module _ (o after : O) (behind behind_after : List O) (same : makes after ≡ makes o) (first : StaysTaken (holds o) (holds after)) (rest : ChainStays makes holds behind behind_after) where
+    pub stays-more : (operators : List O) → operators ≡ o ∷ behind → ChainStays makes holds operators (after ∷ behind_after)
+    stays-more operators is [] rows held = absurd (subst (λ (os : List O). AreHeld makes holds os [] rows) is held)
+    stays-more operators is (form ∷ forms) rows held =
+        let all = subst (λ (os : List O). AreHeld makes holds os (form ∷ forms) rows) is held in
+        (same ∙ all.0, first form.named rows all.1, rest forms (stage_rows form rows) all.2)
+
+  -- operators that hold what they held, before they are filled and afterwards
+  pub filled-packed : (old first filled packed : List O) (all made : List Taken) → ChainStays makes holds old first → ChainFills makes holds first filled all made → ChainStays makes holds filled packed → ChainFills makes holds old packed all made
+  filled-packed old first filled packed all made before fills stays = λ forms changes held exact are.
+      let f = fills forms changes (before forms [] held) exact are in
+      record { held = stays forms (with_changes [] changes) f.held; outs = f.outs; exact = f.exact; told = f.told; leads = f.leads }
 
 module _ {O : Type 0} (makes : O → List Positioned → Positioned → Positioned) (holds : O → List Positioned → Positioned → Type 0)
     (positioned : (o : O) (others : List Positioned) (left : Positioned) → holds o others left → IsPositioned left × AllByRecursion (λ rows. IsPositioned rows) others)
@@ -48,15 +63,15 @@ module _ {O : Type 0} (makes : O → List Positioned → Positioned → Position
     passed-more operators is forms rows changes held exact are same_rows = more forms rows changes (subst (λ (os : List O). AreHeld makes holds os forms rows) is held) exact are same_rows
 
   -- the last operator, told of changes by itself
-  module _ (kept : Positioned) (o after : O) (items before now : List Taken) (first last : ℕ) (same : makes after ≡ makes o)
-      (fed : (others : List Positioned) (left : Positioned) (changes : List Change) → holds o others left → AllByRecursion IsExactChange changes → items ≡ told_along left changes → kept ≡ makes o others left → IsFed (makes o others) (holds after others) left changes before now first last) where
-    alone : (forms : List Form) (rows : Positioned) (changes : List Change) → AreHeld makes holds (o ∷ []) forms rows → AllByRecursion IsExactChange changes → items ≡ told_along rows changes → kept ≡ through_forms forms rows
+  module _ (kept : Option Positioned) (o after : O) (items before now : List Taken) (first last : ℕ) (same : makes after ≡ makes o)
+      (fed : (others : List Positioned) (left : Positioned) (changes : List Change) → holds o others left → AllByRecursion IsExactChange changes → items ≡ told_along left changes → AreKept kept (makes o others left) → IsFed (makes o others) (holds after others) left changes before now first last) where
+    alone : (forms : List Form) (rows : Positioned) (changes : List Change) → AreHeld makes holds (o ∷ []) forms rows → AllByRecursion IsExactChange changes → items ≡ told_along rows changes → AreKept kept (through_forms forms rows)
         → IsPassed makes holds (after ∷ []) forms rows changes before now first last
     alone [] rows changes held exact are is = absurd held
     alone (form ∷ []) rows changes held exact are is =
         let f = form.makes form.named in
         let one : IsFed f (holds after form.named) rows changes before now first last = subst (λ (k : List Positioned → Positioned → Positioned). IsFed (k form.named) (holds after form.named) rows changes before now first last) held.0
-        (fed form.named rows changes held.1 exact are (is ∙ ap (λ (k : List Positioned → Positioned → Positioned). k form.named rows) (sym held.0))) in
+        (fed form.named rows changes held.1 exact are (subst (λ (r : Positioned). AreKept kept r) (ap (λ (k : List Positioned → Positioned → Positioned). k form.named rows) (sym held.0)) is)) in
         let keeps : (r : Positioned) → IsPositioned r → IsPositioned (f r) = subst (λ (k : List Positioned → Positioned → Positioned). (r : Positioned) → IsPositioned r → IsPositioned (k form.named r)) held.0 (ordered o form.named) in
         record {
           held = (same ∙ held.0, one.held, tt);
@@ -66,7 +81,7 @@ module _ {O : Type 0} (makes : O → List Positioned → Positioned → Position
         }
     alone (form ∷ other ∷ forms) rows changes held exact are is = absurd held.2
 
-    pub passed-alone : (operators : List O) → operators ≡ o ∷ [] → (forms : List Form) (rows : Positioned) (changes : List Change) → AreHeld makes holds operators forms rows → AllByRecursion IsExactChange changes → items ≡ told_along rows changes → kept ≡ through_forms forms rows
+    pub passed-alone : (operators : List O) → operators ≡ o ∷ [] → (forms : List Form) (rows : Positioned) (changes : List Change) → AreHeld makes holds operators forms rows → AllByRecursion IsExactChange changes → items ≡ told_along rows changes → AreKept kept (through_forms forms rows)
         → IsPassed makes holds (after ∷ []) forms rows changes before now first last
     passed-alone operators is forms rows changes held exact are same_rows = alone forms rows changes (subst (λ (os : List O). AreHeld makes holds os forms rows) is held) exact are same_rows
 

@@ -7,12 +7,13 @@ ghost use Rattle.dv_change.specs.Difference.{diff};
 ghost use Rattle.dv_change.specs.Positions.{PosTree};
 ghost use Rattle.dv_change.specs.Raised.{raised};
 ghost use Rattle.dv_change.specs.Inner.Telling.{diff_by, gone_by, gones_by, put_by, puts_by};
-ghost use Rattle.dv_change.specs.Inner.Told.{change_to, diff_told};
+ghost use Rattle.dv_change.specs.Inner.Changes.{alone};
+ghost use Rattle.dv_change.specs.Inner.Told.{change_to, diff_told, is_kept};
 
 use crate::change::Change;
 use crate::ordered::Ordered;
 use crate::position::Pos;
-use crate::taking::Taken;
+use crate::taking::{Taken, copied};
 use crate::ticks::Ticks;
 use dv_order::same_documents;
 use dv_value::{Document, NoMemory};
@@ -47,6 +48,42 @@ pub fn hand_over(
     ensures no_fewer { OnErr result (ticks.old ≤ ticks.new) }
 {
     push_all(old, new, ticks, out)
+}
+
+/// The same where at most one row stood at the position, and at most one stands there now.
+pub fn hand_over_at(
+    pos: &Pos,
+    old: &Option<Document>,
+    new: &Option<Document>,
+    ticks: &mut Ticks,
+    out: &mut Vec<Taken>,
+) -> Result<(), NoMemory>
+    ensures out { OnOk result (out.new.items ≡ out.old.items ++ diff_told (alone pos.now old.now) (alone pos.now new.now)) }
+    ensures ticks { OnOk result (ticks.new ≡ raised ticks.old (1 + length (diff_told (alone pos.now old.now) (alone pos.now new.now)))) }
+    ensures begins { OnErr result (BeginsWith out.new.items out.old.items) }
+    ensures no_fewer { OnErr result (ticks.old ≤ ticks.new) }
+{
+    ticks.add(1);
+    if is_kept(old, new) {
+        return Ok(());
+    }
+    let pos = pos.try_clone()?;
+    let old = copied(old)?;
+    let new = copied(new)?;
+    out.push(Taken { pos, old, new })?;
+    ticks.add(1);
+    Ok(())
+}
+
+/// Whether there is no row now where there was none, or the same one.
+fn is_kept(old: &Option<Document>, new: &Option<Document>) -> bool
+    ensures { result ≡ is_kept old.now new.now }
+{
+    match (old, new) {
+        (None, None) => true,
+        (Some(old), Some(new)) => same_documents(old, new),
+        _ => false,
+    }
 }
 
 /// What tells of a change of rows.

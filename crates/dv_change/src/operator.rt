@@ -6,7 +6,7 @@ ghost use Rattle.dv_change.specs.Inner.Beginning.{BeginsWith};
 ghost use Rattle.dv_change.specs.Changes.{Positioned};
 ghost use Rattle.dv_change.specs.Inner.Changes.{HaveOneLength, IsPositioned};
 ghost use Rattle.dv_change.specs.Inner.Fed.{OperatorFills};
-ghost use Rattle.dv_change.specs.Inner.Told.{CountsBeside, CountsChanges, ReturnsBeside, ReturnsTaken, TakesIn};
+ghost use Rattle.dv_change.specs.Inner.Told.{CountsBeside, CountsChanges, ReturnsBeside, ReturnsTaken, StaysTaken, TakesIn};
 
 use crate::input::Input;
 use crate::position::Pos;
@@ -92,6 +92,17 @@ pub trait Operator {
             self.take(Input::Left, taken, &mut ticks, &mut made)?;
         }
         Ok(made)
+    }
+
+    /// Stores what it keeps in less memory, where it can; it has then taken in the same. Called after its first rows. Fails with
+    /// `NoMemory` when memory runs out; then it is spent and may only be dropped.
+    fn pack(&mut self) -> Result<(), NoMemory>
+        requires { sound self.old }
+        ensures sound { OnOk result (sound self.new) }
+        ensures makes { OnOk result (makes self.new ≡ makes self.old) }
+        ensures holds { OnOk result (StaysTaken (holds self.old) (holds self.new)) }
+    {
+        Ok(())
     }
 
     /// What it may have taken in stands at exact positions, in their order.

@@ -1,11 +1,11 @@
 //! Operators one behind the other, each told what stood where a change is.
 
-ghost use Rattle.std.specs.Prelude.{◌≡◌, ◌++◌, IfOk, OnErr, OnOk, Some, length};
+ghost use Rattle.std.specs.Prelude.{◌≡◌, ◌∷◌, [], ◌++◌, IfOk, OnErr, OnOk, Some};
 ghost use Rattle.std.specs.List.{AllByRecursion};
 ghost use Rattle.std.specs.Option.{option_map};
 ghost use Rattle.dv_change.specs.declared.input.Input.TheVariants.{Named};
 ghost use Rattle.dv_change.specs.Inner.Beginning.{BeginsWith};
-ghost use Rattle.dv_change.specs.Inner.Fed.{ChainFills, ChainTakes, ChainTakesIn, OperatorTakes, OperatorTakesBeside};
+ghost use Rattle.dv_change.specs.Inner.Fed.{ChainFills, ChainStays, ChainTakes, ChainTakesIn, OperatorTakes, OperatorTakesOne};
 
 use crate::input::Input;
 use crate::operator::Operator;
@@ -75,7 +75,7 @@ impl<O: Operator + Drop> Operators<O> {
         ensures sound { OnOk result (AllByRecursion O.sound self.new) }
         ensures filled { IfOk result (λ made. ChainFills O.makes O.holds self.old self.new all.items made.items) }
     {
-        fill_all(self.alloc, self.operators.as_mut_slice(), all)
+        fill_packed(self.alloc, self.operators.as_mut_slice(), all)
     }
 }
 
@@ -95,11 +95,7 @@ fn take_input<O: Operator>(
     ensures begins { OnErr result (BeginsWith out.new.items out.old.items) }
 {
     match input {
-        Input::Left => {
-            let mut all = Vec::with_capacity(alloc, 1)?;
-            all.push(taken)?;
-            take_all(alloc, operators, all, made, ticks, out)
-        }
+        Input::Left => take_one(alloc, operators, taken, made, ticks, out),
         Input::Named(place) => take_named(alloc, operators, place, taken, made, ticks, out),
     }
 }
@@ -122,29 +118,55 @@ fn take_each<O: Operator>(
     Ok(())
 }
 
-/// Tells the operator of the only change, where the rows that it has made are kept.
-fn take_only<O: Operator>(
+/// Tells the last operator of a change, where the rows that it has made may be kept.
+fn take_last<O: Operator>(
     operator: &mut O,
-    all: Vec<Taken>,
-    made: &BTreeMap<Pos, Document>,
+    taken: Taken,
+    made: Option<&BTreeMap<Pos, Document>>,
     ticks: &mut Ticks,
     out: &mut Vec<Taken>,
 ) -> Result<(), NoMemory>
-    requires sound { O.sound operator.old }
-    requires one { length all.items ≡ 1 }
+    requires { O.sound operator.old }
     ensures sound { OnOk result (O.sound operator.new) }
     ensures makes { OnOk result (O.makes operator.new ≡ O.makes operator.old) }
-    ensures fed { OnOk result (OperatorTakesBeside O.makes O.holds made.now.entries operator.old operator.new all.items out.old.items out.new.items ticks.old ticks.new) }
+    ensures fed { OnOk result (OperatorTakesOne O.makes O.holds (option_map (λ rows. rows.now.entries) made.entry) operator.old operator.new taken out.old.items out.new.items ticks.old ticks.new) }
     ensures begins { OnErr result (BeginsWith out.new.items out.old.items) }
 {
-    let mut all = all;
-    match all.pop() {
-        Some(taken) => operator.take_beside(Input::Left, taken, made, ticks, out),
-        None => Ok(()),
+    match made {
+        Some(rows) => operator.take_beside(Input::Left, taken, rows, ticks, out),
+        None => operator.take(Input::Left, taken, ticks, out),
     }
 }
 
-/// Tells the first operator of the changes, and those behind it of what it tells. The rows that the last one has made are kept.
+/// Tells the first operator of a change, and those behind it of what it tells. The rows that the last one has made may be kept.
+#[cycle(passing)]
+fn take_one<O: Operator>(
+    alloc: Global,
+    operators: &mut [O],
+    taken: Taken,
+    made: Option<&BTreeMap<Pos, Document>>,
+    ticks: &mut Ticks,
+    out: &mut Vec<Taken>,
+) -> Result<(), NoMemory>
+    requires { AllByRecursion O.sound operators.old }
+    ensures sound { OnOk result (AllByRecursion O.sound operators.new) }
+    ensures passed { OnOk result (ChainTakes O.makes O.holds (option_map (λ rows. rows.now.entries) made.entry) operators.old operators.new (taken ∷ []) out.old.items out.new.items ticks.old ticks.new) }
+    ensures begins { OnErr result (BeginsWith out.new.items out.old.items) }
+{
+    let Some((first, behind)) = operators.split_first_mut() else {
+        out.push(taken)?;
+        return Ok(());
+    };
+    if behind.is_empty() {
+        return take_last(first, taken, made, ticks, out);
+    }
+    let mut told = Vec::new(alloc);
+    first.take(Input::Left, taken, ticks, &mut told)?;
+    take_all(alloc, behind, told, made, ticks, out)
+}
+
+/// The same of changes, one after the other.
+#[cycle(passing)]
 fn take_all<O: Operator>(
     alloc: Global,
     operators: &mut [O],
@@ -158,14 +180,16 @@ fn take_all<O: Operator>(
     ensures passed { OnOk result (ChainTakes O.makes O.holds (option_map (λ rows. rows.now.entries) made.entry) operators.old operators.new all.items out.old.items out.new.items ticks.old ticks.new) }
     ensures begins { OnErr result (BeginsWith out.new.items out.old.items) }
 {
+    let mut all = all;
+    if all.len() == 1 {
+        let Some(taken) = all.pop() else {
+            unreachable!()
+        };
+        return take_one(alloc, operators, taken, made, ticks, out);
+    }
     let Some((first, behind)) = operators.split_first_mut() else {
         return push_all(all, out);
     };
-    if let Some(rows) = made {
-        if behind.is_empty() && all.len() == 1 {
-            return take_only(first, all, rows, ticks, out);
-        }
-    }
     let mut told = Vec::new(alloc);
     take_each(first, all, ticks, &mut told)?;
     take_all(alloc, behind, told, made, ticks, out)
@@ -197,6 +221,23 @@ fn take_named<O: Operator>(
     } else {
         take_named(alloc, behind, place - named, taken, made, ticks, out)
     }
+}
+
+/// Has the operators take in their first rows. What they keep is stored in little memory before that, so that the rows can take
+/// what it leaves, and afterwards. Gives what the last one tells.
+fn fill_packed<O: Operator>(
+    alloc: Global,
+    operators: &mut [O],
+    all: Vec<Taken>,
+) -> Result<Vec<Taken>, NoMemory>
+    requires { AllByRecursion O.sound operators.old }
+    ensures sound { OnOk result (AllByRecursion O.sound operators.new) }
+    ensures filled { IfOk result (λ made. ChainFills O.makes O.holds operators.old operators.new all.items made.items) }
+{
+    pack_all(operators)?;
+    let made = fill_all(alloc, operators, all)?;
+    pack_all(operators)?;
+    Ok(made)
 }
 
 /// Has the operators take in their first rows: each row through all of them, so that what they make of it on the way goes at once;
@@ -240,11 +281,22 @@ fn fill_each<O: Operator>(
     let mut ticks = Ticks::new();
     let mut made = Vec::new(alloc);
     'changes: for taken in all {
-        let mut one = Vec::with_capacity(alloc, 1)?;
-        one.push(taken)?;
-        take_all(alloc, operators, one, None, &mut ticks, &mut made)?;
+        take_one(alloc, operators, taken, None, &mut ticks, &mut made)?;
     }
     Ok(made)
+}
+
+/// Has the operators store what they keep in less memory, where they can.
+fn pack_all<O: Operator>(operators: &mut [O]) -> Result<(), NoMemory>
+    requires { AllByRecursion O.sound operators.old }
+    ensures sound { OnOk result (AllByRecursion O.sound operators.new) }
+    ensures held { OnOk result (ChainStays O.makes O.holds operators.old operators.new) }
+{
+    let Some((first, behind)) = operators.split_first_mut() else {
+        return Ok(());
+    };
+    first.pack()?;
+    pack_all(behind)
 }
 
 /// Puts what is told behind the others.

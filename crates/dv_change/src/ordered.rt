@@ -53,33 +53,37 @@ impl<V: Drop> Ordered<V> {
     pub fn with(self, pos: Pos, value: V) -> Result<Self, NoMemory>
         ensures { IfOk result (λ more. more ≡ put pos value self) }
     {
+        let (more, _) = self.exchange(pos, value)?;
+        Ok(more)
+    }
+
+    /// The values with one more, and the one that it replaces at its position, if any. Fails with `NoMemory` when memory runs out;
+    /// then all are dropped.
+    pub fn exchange(self, pos: Pos, value: V) -> Result<(Self, Option<V>), NoMemory>
+        ensures values { IfOk result (λ both. both.0 ≡ put pos value self) }
+        ensures stood { IfOk result (λ both. both.1 ≡ found_at pos self) }
+    {
         pos.law_exact();
         let Ordered { first, mut others } = self;
-        match first {
-            None => Ok(Ordered {
-                first: Some((pos, value)),
-                others,
-            }),
-            Some((at, there)) => match pos.cmp(&at) {
-                Ordering::Less => {
-                    others.insert(at, there)?;
-                    Ok(Ordered {
-                        first: Some((pos, value)),
-                        others,
-                    })
-                }
-                Ordering::Equal => Ok(Ordered {
-                    first: Some((at, value)),
-                    others,
-                }),
-                Ordering::Greater => {
-                    others.insert(pos, value)?;
-                    Ok(Ordered {
-                        first: Some((at, there)),
-                        others,
-                    })
-                }
-            },
+        let Some((at, there)) = first else {
+            let first = Some((pos, value));
+            return Ok((Ordered { first, others }, None));
+        };
+        match pos.cmp(&at) {
+            Ordering::Less => {
+                others.insert(at, there)?;
+                let first = Some((pos, value));
+                Ok((Ordered { first, others }, None))
+            }
+            Ordering::Equal => {
+                let first = Some((at, value));
+                Ok((Ordered { first, others }, Some(there)))
+            }
+            Ordering::Greater => {
+                let stood = others.insert(pos, value)?;
+                let first = Some((at, there));
+                Ok((Ordered { first, others }, stood))
+            }
         }
     }
 
@@ -87,27 +91,32 @@ impl<V: Drop> Ordered<V> {
     pub fn without(self, pos: &Pos) -> Self
         ensures { result ≡ gone pos.now self }
     {
+        let (rest, _) = self.take_out(pos);
+        rest
+    }
+
+    /// The values without the one at the position, and that one, if there is one.
+    pub fn take_out(self, pos: &Pos) -> (Self, Option<V>)
+        ensures values { result.0 ≡ gone pos.now self }
+        ensures stood { result.1 ≡ found_at pos.now self }
+    {
         let Ordered { first, mut others } = self;
-        match first {
-            None => Ordered {
-                first: None,
-                others,
-            },
-            Some((at, there)) => {
-                if *pos == at {
-                    let next = others.pop_first();
-                    Ordered {
-                        first: next,
-                        others,
-                    }
-                } else {
-                    others.remove(pos);
-                    Ordered {
-                        first: Some((at, there)),
-                        others,
-                    }
-                }
-            }
+        let Some((at, there)) = first else {
+            return (
+                Ordered {
+                    first: None,
+                    others,
+                },
+                None,
+            );
+        };
+        if *pos == at {
+            let first = others.pop_first();
+            (Ordered { first, others }, Some(there))
+        } else {
+            let stood = others.remove(pos);
+            let first = Some((at, there));
+            (Ordered { first, others }, stood)
         }
     }
 

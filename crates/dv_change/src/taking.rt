@@ -70,7 +70,7 @@ impl Taken {
 }
 
 /// The row, where there is one, whose memory is shared.
-fn copied(row: &Option<Document>) -> Result<Option<Document>, NoMemory>
+pub(crate) fn copied(row: &Option<Document>) -> Result<Option<Document>, NoMemory>
     ensures { IfOk result (λ copy. copy ≡ row.now) }
 {
     match row {

@@ -1,9 +1,9 @@
+pub mod Apart
 pub mod Bounds
 pub mod Owed
 pub mod Forgetting
 pub mod Fronts
 pub mod LimitBound
 pub mod Limits
-pub mod Onto
 pub mod Sorted
 pub mod Unwound

@@ -6,6 +6,8 @@ use Rattle.std.specs.Cmp.{Equal-is, tied_itself}
 use Rattle.std.specs.Ordering.{is_eq}
 use Rattle.dv_value.specs.Tree.{Field}
 use Rattle.dv_change.specs.declared.change.Change.{Change}
+use Rattle.dv_change.specs.declared.input.Input.{Input}
+use Rattle.dv_change.specs.declared.input.Input.TheVariants.{Left}
 use Rattle.dv_change.specs.declared.taking.Taken.{Taken}
 use Rattle.dv_change.specs.Changes.{Positioned, at, with_change}
 use Rattle.dv_change.specs.Inner.Changes.{IsExactChange, IsPositioned, alone, position_changed, row_in}
@@ -13,8 +15,16 @@ use Rattle.dv_change.specs.Difference.{diff}
 use Rattle.dv_change.specs.Inner.DiffLaws.{IsPartAt, at-alone, at-changed, diff-parts, exact-place, positioned-alone, positioned-changed}
 use Rattle.dv_change.specs.Inner.PositionLaws.{pos_order_total}
 use Rattle.dv_change.specs.Positions.{IsExact, PosTree, pos_order}
-use Rattle.dv_change.specs.Inner.Told.{diff_told, told_along, with_old}
+use Rattle.dv_change.specs.Inner.Fed.{AreKept}
+use Rattle.dv_change.specs.Inner.Told.{ComesTo, diff_told, input_rows, told_along, with_old}
 use Rattle.dv_change.specs.Inner.ToldLaws.{along-diff, length-told, told-parts}
+use Rattle.dv_change.specs.Work.{owed_by}
+use Rattle.dv_flow.specs.Inner.Rows.{TellsApart}
+use Rattle.dv_flow.specs.declared.by_row.RowsApart.{RowsApart}
+
+-- what stood at the position of a change that is told
+at-told : (taken : Taken) (rows : Positioned) (change : Change) → taken ≡ with_old rows change → at taken.pos rows ≡ taken.old
+at-told taken rows change told = ap (λ (t : Taken). at t.pos rows) told ∙ sym (ap (λ (t : Taken). t.old) told)
 
 module _ (makes : Positioned → Positioned) (origin : PosTree → PosTree)
     (ordered : (rows : Positioned) → IsPositioned rows → IsPositioned (makes rows))
@@ -75,17 +85,22 @@ module _ (makes : Positioned → Positioned) (origin : PosTree → PosTree)
     pub row-count : length (diff (makes rows) (makes (with_change rows change))) ≡ length (diff_told (makes (alone (position_changed change) (at (position_changed change) rows))) (makes (alone (position_changed change) (row_in change))))
     row-count = sym (length-told (makes rows) (diff (makes rows) (makes (with_change rows change)))) ∙ ap length row-told
 
-    -- what it hands on and counts, of a change that is told, where these are what it made of the row that was there
-    module _ (taken : Taken) (old : Positioned) (told : taken ≡ with_old rows change) (made : old ≡ makes (alone taken.pos taken.old)) where
-      told-by : diff_told old (makes (alone taken.pos taken.new)) ≡ diff_told (makes (alone (position_changed change) (at (position_changed change) rows))) (makes (alone (position_changed change) (row_in change)))
-      told-by = (λ i. diff_told (made i) (makes (alone taken.pos taken.new))) ∙ (λ i. diff_told (makes (alone (told i).pos (told i).old)) (makes (alone (told i).pos (told i).new)))
+    -- what it hands on and counts, of a change that is told, where two lists differ as what it makes of the changed row
+    module _ (input : Input) (is : input ≡ Left) (taken : Taken) (others : List Positioned) (comes : ComesTo input taken change others rows) (kept : Option Positioned) (both : RowsApart) (apart : TellsApart makes kept taken both) (made : AreKept kept (makes rows)) where
+      told : taken ≡ with_old rows change
+      told = comes.told ∙ ap (λ i. with_old (input_rows i others rows) change) is
 
-      pub out-told : diff_told old (makes (alone taken.pos taken.new)) ≡ told_along (makes rows) (diff (makes rows) (makes (with_change rows change)))
-      out-told = told-by ∙ sym row-told
+      told-by : diff_told both.old both.new ≡ diff_told (makes (alone (position_changed change) (at (position_changed change) rows))) (makes (alone (position_changed change) (row_in change)))
+      told-by = apart rows are made (at-told taken rows change told) ∙ (λ i. diff_told (makes (alone (told i).pos (told i).old)) (makes (alone (told i).pos (told i).new)))
 
-      pub out-counted : length (diff_told old (makes (alone taken.pos taken.new))) ≡ length (diff (makes rows) (makes (with_change rows change)))
-      out-counted = ap length told-by ∙ sym row-count
+      abbrev pub owed : List Change
+      owed = owed_by input change (λ others' rows'. makes rows') others rows
 
--- what stood at the position of a change that is told
-pub at-told : (taken : Taken) (rows : Positioned) (change : Change) → taken ≡ with_old rows change → at taken.pos rows ≡ taken.old
-at-told taken rows change told = ap (λ (t : Taken). at t.pos rows) told ∙ sym (ap (λ (t : Taken). t.old) told)
+      all-owed : diff (makes rows) (makes (with_change rows change)) ≡ owed
+      all-owed = sym (ap (λ i. owed_by i change (λ others' rows'. makes rows') others rows) is)
+
+      pub out-told : diff_told both.old both.new ≡ told_along (makes rows) owed
+      out-told = told-by ∙ sym row-told ∙ ap (told_along (makes rows)) all-owed
+
+      pub out-counted : length (diff_told both.old both.new) ≡ length owed
+      out-counted = ap length told-by ∙ sym row-count ∙ ap length all-owed

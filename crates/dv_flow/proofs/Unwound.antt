@@ -46,7 +46,7 @@ ascend-both (e ∷ es) fs some others below = (all-both (λ q. pos_order e.0 q �
 -- ---- positions behind others
 
 -- behind one position the numbers decide
-less-numbered : (p : PosTree) (i j : ℕ) → i < j → pos_order (p ++ At i ∷ []) (p ++ At j ∷ []) ≡ Less
+pub less-numbered : (p : PosTree) (i j : ℕ) → i < j → pos_order (p ++ At i ∷ []) (p ++ At j ∷ []) ≡ Less
 less-numbered [] i j less = rw (lt-ltb i j less) refl
 less-numbered (a ∷ p) i j less = ap (λ r. ordering_then r (pos_order (p ++ At i ∷ []) (p ++ At j ∷ []))) (tied_itself part_order_total a) ∙ less-numbered p i j less
 

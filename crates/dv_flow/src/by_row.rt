@@ -1,19 +1,28 @@
 //! Stages that make their rows of each row by itself, told which row was at the position of a change.
 
-ghost use Rattle.std.specs.Prelude.{◌≡◌, ◌≤◌, ◌+◌, ◌++◌, ◌∷◌, [], Some, length, IfOk, OnErr, OnOk};
+ghost use Rattle.std.specs.Prelude.{◌≡◌, ◌≤◌, ◌∷◌, [], Some, IfOk, IfSome, OnErr, OnOk};
+ghost use Rattle.std.specs.Option.{option_map};
 ghost use Rattle.std.specs.declared.cmp.Ordering.TheVariants.{Equal};
 ghost use Rattle.dv_change.specs.Changes.{Positioned, at};
 ghost use Rattle.dv_change.specs.Inner.Beginning.{BeginsWith};
 ghost use Rattle.dv_change.specs.Inner.Changes.{HaveOneLength, IsPositioned, alone};
 ghost use Rattle.dv_change.specs.Positions.{IsExact, PosTree, pos_order};
-ghost use Rattle.dv_change.specs.Raised.{raised};
-ghost use Rattle.dv_change.specs.Inner.Told.{diff_told, no_lists};
-ghost use Rattle.dv_flow.specs.Inner.Rows.{AreMadeOf, HoldsRows};
+ghost use Rattle.dv_change.specs.Inner.Told.{TakesIn, no_lists};
+ghost use Rattle.dv_flow.specs.Inner.Rows.{AreApart, AreMadeOf, CountsKept, HoldsRows, ReturnsKept, TellsApart, WereMadeOf, row_makes};
 
 use dv_change::{Input, Operator, Ordered, Pos, Taken, Ticks, hand_over};
 use dv_value::{Document, NoMemory};
 use std::alloc::Global;
 use std::collections::BTreeMap;
+
+/// What a stage makes of one row at a position, and what of another one there. Rows that both have may be left out of both.
+#[derive(Drop)]
+pub struct RowsApart {
+    /// The rows of the one.
+    pub old: Ordered<Document>,
+    /// The rows of the other.
+    pub new: Ordered<Document>,
+}
 
 /// A stage that makes its rows of each row by itself, at positions that say which row they are made of.
 pub trait ByRow {
@@ -56,6 +65,24 @@ pub trait ByRow {
         self.rows_of(alloc, pos, row, before)
     }
 
+    /// What it makes of one row at a position, and what of another one there, where it can tell which rows both have before it
+    /// makes them; else none. Fails with `NoMemory` when memory runs out.
+    fn rows_apart(
+        &self,
+        alloc: Global,
+        pos: &Pos,
+        old: &Document,
+        new: &Document,
+    ) -> Result<Option<RowsApart>, NoMemory>
+        ensures { IfOk result (λ apart. IfSome apart (AreApart (makes self.now ((pos.now, old.now) ∷ [])) (makes self.now ((pos.now, new.now) ∷ [])))) }
+    {
+        let _ = alloc;
+        let _ = pos;
+        let _ = old;
+        let _ = new;
+        Ok(None)
+    }
+
     /// What it makes of rows at exact positions, in their order, stands at such.
     ghost ordered: { (s : Self) (rows : Positioned) → IsPositioned rows → IsPositioned (makes s rows) };
 
@@ -94,24 +121,31 @@ impl<S: ByRow> RowOperator<S> {
         })
     }
 
-    /// Tells what leads from the rows that it made of the one that was at the position of a change to those that it makes of the one
-    /// that is there now.
-    fn tell(
+    /// Takes in a change of an input, and appends what changes of its rows to `out`. Where the rows that it made are kept in `made`,
+    /// it may take from there what it made before the change. Counts 1 for the change and 1 for each that it tells.
+    fn take_change(
         &mut self,
+        input: Input,
         taken: &Taken,
-        old: &Ordered<Document>,
+        made: Option<&BTreeMap<Pos, Document>>,
         ticks: &mut Ticks,
         out: &mut Vec<Taken>,
     ) -> Result<(), NoMemory>
-        ensures stage { self.new.stage ≡ self.old.stage }
-        ensures out { OnOk result (out.new.items ≡ out.old.items ++ diff_told old.now (S.makes self.old.stage (alone taken.now.pos taken.now.new))) }
-        ensures ticks { OnOk result (ticks.new ≡ raised ticks.old (1 + length (diff_told old.now (S.makes self.old.stage (alone taken.now.pos taken.now.new))))) }
+        ensures makes { OnOk result (row_makes S.makes self.new ≡ row_makes S.makes self.old) }
+        ensures holds { OnOk result (TakesIn (HoldsRows self.old) input taken.now (HoldsRows self.new)) }
+        ensures out { OnOk result (ReturnsKept S.makes self.old input taken.now (option_map (λ m. m.now.entries) made.entry) out.old.items out.new.items) }
+        ensures ticks { OnOk result (CountsKept S.makes self.old input taken.now (option_map (λ m. m.now.entries) made.entry) ticks.old ticks.new) }
         ensures begins { OnErr result (BeginsWith out.new.items out.old.items) }
         ensures no_fewer { OnErr result (ticks.old ≤ ticks.new) }
     {
-        let new = self.made(&taken.pos, &taken.new)?;
-        self.keep_last(&new)?;
-        hand_over(old, &new, ticks, out)
+        match input {
+            Input::Left => {
+                let rows = self.apart(taken, made)?;
+                self.keep_last(&rows.new)?;
+                hand_over(&rows.old, &rows.new, ticks, out)
+            }
+            Input::Named(_) => Ok(()),
+        }
     }
 
     /// Keeps the first row that it made of a row, where it made any, so that it lends its names.
@@ -134,25 +168,48 @@ impl<S: ByRow> RowOperator<S> {
         }
     }
 
-    /// What it made of the row at the position, where there is one, and where the rows that it made are kept.
-    fn made_beside(
+    /// What it made of the row at the position, where there is one. Where the rows that it made are kept, it may take them from
+    /// there.
+    fn made_before(
         &self,
         pos: &Pos,
         row: &Option<Document>,
-        made: &BTreeMap<Pos, Document>,
+        made: Option<&BTreeMap<Pos, Document>>,
     ) -> Result<Ordered<Document>, NoMemory>
-        ensures { IfOk result (λ rows. AreMadeOf (S.makes self.now.stage) made.now.entries pos.now row.now rows) }
+        ensures { IfOk result (λ rows. WereMadeOf (S.makes self.now.stage) (option_map (λ m. m.now.entries) made.entry) pos.now row.now rows) }
     {
-        let Some(row) = row else {
-            return Ok(Ordered::new(self.alloc));
-        };
-        let last = self.last.as_ref();
-        self.stage.rows_beside(self.alloc, pos, row, made, last)
+        match (row, made) {
+            (Some(row), Some(made)) => {
+                let last = self.last.as_ref();
+                self.stage.rows_beside(self.alloc, pos, row, made, last)
+            }
+            _ => self.made(pos, row),
+        }
+    }
+
+    /// What it made of the row that was at the position of a change, and what it makes of the one that is there now. Where the
+    /// rows that it made are kept, it may take from there what it made.
+    fn apart(
+        &self,
+        taken: &Taken,
+        made: Option<&BTreeMap<Pos, Document>>,
+    ) -> Result<RowsApart, NoMemory>
+        ensures { IfOk result (λ rows. TellsApart (S.makes self.now.stage) (option_map (λ m. m.now.entries) made.entry) taken.now rows) }
+    {
+        if let (Some(old), Some(new)) = (&taken.old, &taken.new) {
+            if let Some(rows) = self.stage.rows_apart(self.alloc, &taken.pos, old, new)? {
+                return Ok(rows);
+            }
+        }
+        Ok(RowsApart {
+            old: self.made_before(&taken.pos, &taken.old, made)?,
+            new: self.made(&taken.pos, &taken.new)?,
+        })
     }
 }
 
 impl<S: ByRow> Operator for RowOperator<S> {
-    ghost makes = { λ o others rows. S.makes o.stage rows };
+    ghost makes = { row_makes S.makes };
 
     ghost sound = { λ o. Unit {0} };
 
@@ -177,13 +234,7 @@ impl<S: ByRow> Operator for RowOperator<S> {
         ticks: &mut Ticks,
         out: &mut Vec<Taken>,
     ) -> Result<(), NoMemory> {
-        match input {
-            Input::Left => {
-                let old = self.made(&taken.pos, &taken.old)?;
-                self.tell(&taken, &old, ticks, out)
-            }
-            Input::Named(_) => Ok(()),
-        }
+        self.take_change(input, &taken, None, ticks, out)
     }
 
     fn take_beside(
@@ -194,12 +245,6 @@ impl<S: ByRow> Operator for RowOperator<S> {
         ticks: &mut Ticks,
         out: &mut Vec<Taken>,
     ) -> Result<(), NoMemory> {
-        match input {
-            Input::Left => {
-                let old = self.made_beside(&taken.pos, &taken.old, made)?;
-                self.tell(&taken, &old, ticks, out)
-            }
-            Input::Named(_) => Ok(()),
-        }
+        self.take_change(input, &taken, Some(made), ticks, out)
     }
 }

@@ -12,7 +12,7 @@ mod row_turn;
 mod sort;
 mod unwind;
 
-pub use by_row::{ByRow, RowOperator};
+pub use by_row::{ByRow, RowOperator, RowsApart};
 pub use dv_change::{Chain, Change, Input, Part, Pos, Ticks, Turn};
 pub use limit::LimitOperator;
 pub use limit_turn::LimitTurn;

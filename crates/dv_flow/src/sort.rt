@@ -1,6 +1,7 @@
 //! `$sort`, kept by changes.
 
-ghost use Rattle.std.specs.Prelude.{◌≡◌, IfOk, drop, length};
+ghost use Rattle.std.specs.Prelude.{◌≡◌, ◌++◌, IfOk, drop, length};
+ghost use Rattle.dv_path.specs.SortKey as keys;
 ghost use Rattle.dv_flow.specs.Placed as defined;
 ghost use Rattle.dv_flow.specs.Placed.{sorted_at};
 ghost use Rattle.dv_flow.specs.Inner.Sorting.{sort_empty, sort_even, sort_exact, sort_ordered, sort_single};
@@ -9,7 +10,7 @@ use crate::by_row::ByRow;
 use crate::row_turn::RowTurn;
 use dv_change::{Ordered, Part, Pos};
 use dv_order::Key;
-use dv_path::{Direction, SortSpec, sort_key};
+use dv_path::{Direction, SortPart, SortSpec, sort_key};
 use dv_value::{Document, NoMemory};
 use std::alloc::Global;
 
@@ -33,7 +34,7 @@ impl ByRow for SortSpec {
         row: &Document,
         _before: Option<&Document>,
     ) -> Result<Ordered<Document>, NoMemory> {
-        let place = pos.behind(alloc, places_of(alloc, self, row)?)?;
+        let place = place_of(alloc, self, pos, row)?;
         Ordered::new(alloc).with(place, row.try_clone()?)
     }
 
@@ -48,17 +49,35 @@ impl ByRow for SortSpec {
     ghost single = { sort_single };
 }
 
-/// Where the sort places the row: its sort keys. Fails where memory is wanting.
+/// Where the sort places a row that is at the position: behind its sort keys. Fails where memory is wanting.
+fn place_of(alloc: Global, spec: &SortSpec, pos: &Pos, row: &Document) -> Result<Pos, NoMemory>
+    ensures { IfOk result (λ place. place ≡ defined.sort_place spec.now row.now ++ pos.now) }
+{
+    let parts = spec.parts();
+    if parts.len() == 1 {
+        return pos.behind_part(alloc, part_of(&parts[0], row)?);
+    }
+    pos.behind(alloc, places_of(alloc, spec, row)?)
+}
+
+/// The sort keys of the row. Fails where memory is wanting.
 fn places_of(alloc: Global, spec: &SortSpec, row: &Document) -> Result<Vec<Part>, NoMemory>
     ensures { IfOk result (λ places. places.items ≡ defined.sort_place spec.now row.now) }
 {
     let parts = spec.parts();
     let mut places = Vec::with_capacity(alloc, parts.len())?;
     for part in parts {
-        let key = sort_key(row, &part.path, part.direction)?;
-        places.push(part_at(part.direction, key))?;
+        places.push(part_of(part, row)?)?;
     }
     Ok(places)
+}
+
+/// The key by which a part of the sort places the row. Fails where memory is wanting.
+fn part_of(part: &SortPart, row: &Document) -> Result<Part, NoMemory>
+    ensures { IfOk result (λ place. place ≡ defined.part_at part.now.direction (keys.sort_key row.now part.now.path part.now.direction)) }
+{
+    let key = sort_key(row, &part.path, part.direction)?;
+    Ok(part_at(part.direction, key))
 }
 
 /// The key as a part of a position.

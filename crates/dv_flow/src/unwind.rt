@@ -1,14 +1,14 @@
 //! `$unwind`, kept by changes.
 
-ghost use Rattle.std.specs.Prelude.{◌≡◌, IfOk};
+ghost use Rattle.std.specs.Prelude.{◌≡◌, false, slice_index_or, IfOk};
 ghost use Rattle.dv_change.specs.Changes.{in_row_order};
-ghost use Rattle.dv_flow.specs.Placed.{rows_numbered, unwound_at};
-ghost use Rattle.dv_flow.specs.Inner.Unwinding.{but_last, unwind_empty, unwind_even, unwind_exact, unwind_ordered, unwind_single};
+ghost use Rattle.dv_flow.specs.Placed.{unwound_at};
+ghost use Rattle.dv_flow.specs.Inner.Unwinding.{but_last, rows_unmarked, unwind_empty, unwind_even, unwind_exact, unwind_ordered, unwind_single};
 
-use crate::by_row::ByRow;
+use crate::by_row::{ByRow, RowsApart};
 use crate::row_turn::RowTurn;
 use dv_change::{Ordered, Part, Pos};
-use dv_row::Unwind;
+use dv_row::{Unwind, UnwoundRows};
 use dv_value::{Document, NoMemory};
 use std::alloc::Global;
 
@@ -31,7 +31,25 @@ impl ByRow for Unwind {
         row: &Document,
         _before: Option<&Document>,
     ) -> Result<Ordered<Document>, NoMemory> {
-        place_all(alloc, pos, self.rows(alloc, row)?)
+        let rows = self.each_row(alloc, row)?;
+        place_rows(alloc, pos, &rows, &[])
+    }
+
+    fn rows_apart(
+        &self,
+        alloc: Global,
+        pos: &Pos,
+        old: &Document,
+        new: &Document,
+    ) -> Result<Option<RowsApart>, NoMemory> {
+        pos.law_exact();
+        let old = self.each_row(alloc, old)?;
+        let new = self.each_row(alloc, new)?;
+        let common = old.common(alloc, &new)?;
+        Ok(Some(RowsApart {
+            old: place_rows(alloc, pos, &old, &common)?,
+            new: place_rows(alloc, pos, &new, &common)?,
+        }))
     }
 
     ghost ordered = { unwind_ordered };
@@ -45,15 +63,32 @@ impl ByRow for Unwind {
     ghost single = { unwind_single };
 }
 
-/// The rows behind the position, each at its number.
-fn place_all(alloc: Global, pos: &Pos, rows: Vec<Document>) -> Result<Ordered<Document>, NoMemory>
-    ensures { IfOk result (λ placed. placed ≡ in_row_order (rows_numbered 0 pos.now rows.items)) }
+/// The rows behind the position, each at its number, but for those whose places are marked.
+fn place_rows(
+    alloc: Global,
+    pos: &Pos,
+    rows: &UnwoundRows<'_>,
+    marked: &[bool],
+) -> Result<Ordered<Document>, NoMemory>
+    ensures { IfOk result (λ placed. placed ≡ in_row_order (rows_unmarked marked.now 0 pos.now rows.now)) }
 {
-    let mut rows = rows;
     let mut placed = Ordered::new(alloc);
-    'rows: while let Some(row) = rows.pop() {
-        let place = pos.with(alloc, Part::At(rows.len() as u64))?;
-        placed = placed.with(place, row)?;
+    'rows: for place in (0..rows.len()).rev() {
+        if is_marked(marked, place) {
+            continue;
+        }
+        let number = pos.with(alloc, Part::At(place as u64))?;
+        placed = placed.with(number, rows.row(place)?)?;
     }
     Ok(placed)
+}
+
+/// Whether the place is marked.
+fn is_marked(marked: &[bool], place: usize) -> bool
+    ensures { result ≡ slice_index_or marked.now place false }
+{
+    match marked.get(place) {
+        Some(mark) => *mark,
+        None => false,
+    }
 }

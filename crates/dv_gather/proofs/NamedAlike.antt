@@ -1,5 +1,5 @@
 -- Rows with one more field, under the names of another document.
-use Rattle.std.proofs.Common.{◌≡◌, ◌∙◌, ap, ap₂, sym, refl, false, ◌||◌, List, [], ◌∷◌, ◌++◌, ℕ, zero, suc, length, slice_get, Some, None, arith, if◌then◌else◌}
+use Rattle.std.proofs.Common.{◌≡◌, ◌∙◌, ap, ap₂, sym, refl, false, ◌||◌, List, [], ◌∷◌, ◌++◌, ℕ, zero, suc, length, slice_get, Some, arith, if◌then◌else◌}
 use Rattle.std.proofs.lemmas.Slice.Eq.{bytes_eq-Decides}
 use Rattle.std.specs.Str.{bytes_eq}
 use Rattle.dv_value.specs.Tree.{Tree, Field}

@@ -1,17 +1,17 @@
 //! What a group holds.
 
-ghost use Rattle.std.specs.Prelude.{◌≡◌, ℕ, suc, map, IfOk, IfSome, OnOk};
+ghost use Rattle.std.specs.Prelude.{◌≡◌, ℕ, suc, map, IfOk, OnOk};
 ghost use Rattle.dv_value.specs.View.{tree};
 ghost use Rattle.dv_row.specs.Inner.RowValueView.{row_value};
 ghost use Rattle.dv_gather.specs.Inner.SumBounds.{AreWithin, most};
 ghost use Rattle.dv_gather.specs.Inner.GroupView.{accumulation};
 ghost use Rattle.dv_gather.specs.Inner.GroupStates as defined;
-ghost use Rattle.dv_gather.specs.Inner.GroupStates.{IsRowOf};
 ghost use Rattle.dv_gather.specs.Inner.StateView.{keys_seen, group_state_seen, state_seen};
 
 use crate::accumulator_state::{AccumulatorState, add_at};
 use crate::group::GroupField;
-use dv_row::{RowValue, push_field};
+use crate::group_rows::row_of_values;
+use dv_row::RowValue;
 use dv_value::{Document, NoMemory, Value};
 use std::alloc::Global;
 
@@ -88,20 +88,10 @@ impl GroupState {
         fields: &[GroupField],
         another: Option<&Document>,
     ) -> Result<Document, NoMemory>
-        requires { IfSome another (λ other. IsRowOf (map accumulation fields.now) other.now) }
         ensures { IfOk result (λ row. row ≡ defined.row_of_state (map accumulation fields.now) (group_state_seen self)) }
     {
         let values = self.values(alloc)?;
-        let mut row = match another {
-            // A row with so many fields has each of the names.
-            Some(other) if other.len() == values.len() && fields.len() < values.len() => {
-                Document::like(other, values)?
-            }
-            _ => named_row(alloc, fields, values)?,
-        };
-        // Its length is asked more than once before it is written.
-        row.keep_size();
-        Ok(row)
+        row_of_values(alloc, fields, values, another)
     }
 
     /// The key, and the values of the states. Fails where memory is wanting.
@@ -116,25 +106,6 @@ impl GroupState {
         }
         Ok(values)
     }
-}
-
-/// The row of these values: the key, and one for each field. Fails where memory is wanting.
-fn named_row(alloc: Global, fields: &[GroupField], values: Vec<Value>) -> Result<Document, NoMemory>
-    ensures { IfOk result (λ row. row ≡ defined.row_of_values (map accumulation fields.now) (map tree values.items)) }
-{
-    let mut row = Document::new(alloc);
-    let mut values = values.into_iter();
-    let Some(key) = values.next() else {
-        return Ok(row);
-    };
-    push_field(&mut row, "_id", Some(key))?;
-    'fields: for field in fields {
-        let Some(value) = values.next() else {
-            break;
-        };
-        push_field(&mut row, field.name.as_str(), Some(value))?;
-    }
-    Ok(row)
 }
 
 /// Adds a row's values to the states of the fields. Fails where memory is wanting.

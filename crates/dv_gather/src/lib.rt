@@ -7,6 +7,7 @@ mod alike;
 mod extreme;
 mod group;
 mod group_parsing;
+mod group_rows;
 mod group_state;
 mod joining;
 mod keys;
@@ -17,5 +18,6 @@ mod sum_state;
 
 pub use accumulator::Accumulator;
 pub use group::{Group, GroupField};
+pub use group_rows::row_of_values;
 pub use lookup::{Join, Lookup};
 pub use sum_state::{addend, is_int64, sum_value};

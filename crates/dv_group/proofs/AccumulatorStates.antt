@@ -15,11 +15,12 @@ use Rattle.dv_change.specs.Positions.{IsExact, PosTree, pos_order}
 use Rattle.dv_gather.specs.declared.accumulator.Accumulator.{Accumulator}
 use Rattle.dv_gather.specs.declared.accumulator.Accumulator.TheVariants.{Sum, Min, Max, Push}
 use Rattle.dv_gather.specs.Grouping.{Accumulation, accumulated, field_over, values_over, with_accumulated}
+use Rattle.dv_gather.specs.Inner.GroupStates.{with_named}
 use Rattle.dv_gather.specs.Sums.{spelled}
 use Rattle.dv_group.specs.declared.accumulator_state.RowChange.{RowChange}
 use Rattle.dv_group.specs.declared.accumulator_state.RowChange.TheVariants.{Added, Removed}
 use Rattle.dv_group.specs.Inner.SumBounds.{AreSummableIn, HasRoomFor, HaveRoom, IsSummable, IsSummableFor, IsSummableIn, IsWithinCount, most_rows}
-use Rattle.dv_group.specs.Inner.AccumulatorStates.{AccumulatorState, states_after_at, state_after, states_after_from, state_by, state_over, sum_state, state_value, state_with_row, with_state_values, state_without_row}
+use Rattle.dv_group.specs.Inner.AccumulatorStates.{AccumulatorState, states_after_at, state_after, states_after_from, state_by, state_over, sum_state, state_value, state_values, state_with_row, state_without_row}
 use Rattle.dv_group.proofs.Pushing.{pushed-gone, pushed-put, pushed-values}
 use Rattle.dv_group.proofs.Ranking.{first-greatest, first-least, ranked-gone, ranked-put}
 use Rattle.dv_group.proofs.Summing.{counted, narrow-is, sum-gone, sum-put, total-is, int64s-gone, int64s-put, within-most}
@@ -146,8 +147,8 @@ all-summable [] d rows summable = tt
 all-summable (a ∷ fields) d rows summable = (summable-for a.accumulator a d rows summable.0, all-summable fields d rows summable.1)
 
 -- the values of the states are those that are accumulated
-pub all-values : (fields : List Accumulation) (rows : Positioned) (fs : List Field) → IsPositioned rows → with_state_values fields (map (λ a. state_over a rows) fields) fs ≡ with_accumulated fields (forget rows) fs
+pub all-values : (fields : List Accumulation) (rows : Positioned) (fs : List Field) → IsPositioned rows → with_named fields (state_values fields (map (λ a. state_over a rows) fields)) fs ≡ with_accumulated fields (forget rows) fs
 all-values [] rows fs are = refl
 all-values (a ∷ fields) rows fs are =
-    ap (λ v. with_state_values fields (map (λ a. state_over a rows) fields) (with_field_behind a.name (Some v) fs)) (value-is a rows are a.accumulator refl)
+    ap (λ v. with_named fields (state_values fields (map (λ a. state_over a rows) fields)) (with_field_behind a.name (Some v) fs)) (value-is a rows are a.accumulator refl)
     ∙ all-values fields rows (with_field_behind a.name (Some (field_over a (forget rows))) fs) are

@@ -3,6 +3,7 @@ use Rattle.std.specs.Prelude.{◌≡◌, ◌≤◌, Bool, true, false, cond, cod
 use Rattle.std.proofs.Common.{ap, subst, sym, ◌∙◌}
 use Rattle.std.specs.Cmp.{tied_itself}
 use Rattle.std.specs.List.{AllByRecursion}
+use Rattle.std.specs.Option.{IfSome}
 use Rattle.std.specs.Ordering.{is_eq}
 use Rattle.dv_value.specs.Tree.{Tree}
 use Rattle.dv_row.specs.Row.{Row}
@@ -13,6 +14,7 @@ use Rattle.dv_change.specs.Inner.PositionLaws.{pos_order_total}
 use Rattle.dv_change.specs.Positions.{IsExact, PosTree, pos_order}
 use Rattle.dv_change.specs.Inner.RowLaws.{at-gone, at-put, at_back, positioned-gone, positioned-put, same_rows}
 use Rattle.dv_gather.specs.Grouping.{Accumulation, Grouping, key_in, row_shown, with_accumulated}
+use Rattle.dv_gather.specs.Inner.GroupStates.{row_of_values}
 use Rattle.dv_group.specs.declared.group_state.GroupState.{GroupState}
 use Rattle.dv_group.specs.declared.accumulator_state.AccumulatorState as memory
 use Rattle.dv_group.specs.declared.accumulator_state.AccumulatorState.TheVariants.{Sum}
@@ -20,7 +22,7 @@ use Rattle.dv_group.specs.declared.accumulator_state.RowChange.TheVariants.{Adde
 use Rattle.dv_group.specs.declared.sum_state.SumState.{SumState}
 use Rattle.dv_group.specs.Inner.Members.{set_at}
 use Rattle.dv_group.specs.Inner.SumBounds.{AreSummableIn, HaveRoom, IsGroupState, IsSummable, IsSummableIn, IsSummableValue, most_rows}
-use Rattle.dv_group.specs.Inner.AccumulatorStates.{AccumulatorState, states_after_from, state_over, field_value, with_state_values}
+use Rattle.dv_group.specs.Inner.AccumulatorStates.{AccumulatorState, states_after_from, states_after_some, state_over, state_values, field_value}
 use Rattle.dv_group.specs.Inner.StateView.{state_seen}
 use Rattle.dv_group.proofs.AccumulatorStates.{all-added, all-with, all-without, all-may-be-added, all-may-be-removed, all-summable, all-values, all-removed}
 
@@ -61,16 +63,25 @@ set-over p (Some d) rows are x = put-over p d rows are x
 module _ (fields : List Accumulation) (p : PosTree) (x : IsExact p) (before : GroupState) (sound : IsGroupState fields before) where
   -- ---- there is room
 
-  pub may-be-added : (d : Row) → length before.members ≤ most_rows → HaveRoom Added fields p d (map state_seen before.states.items)
+  may-be-added : (d : Row) → length before.members ≤ most_rows → HaveRoom Added fields p d (map state_seen before.states.items)
   may-be-added d few = subst (λ ts. HaveRoom Added fields p d ts) (sym sound.states) (all-may-be-added p d before.members sound.positioned x few fields sound.summable)
 
-  pub may-be-removed : (d : Row) → length before.members ≤ most_rows → at p before.members ≡ Some d → HaveRoom Removed fields p d (map state_seen before.states.items)
+  may-be-removed : (d : Row) → length before.members ≤ most_rows → at p before.members ≡ Some d → HaveRoom Removed fields p d (map state_seen before.states.items)
   may-be-removed d few there = subst (λ ts. HaveRoom Removed fields p d ts) (sym sound.states) (all-may-be-removed p d before.members sound.positioned x few fields there sound.summable)
+
+  -- for what is put at the position, if anything, and without what stood there
+  pub room-for-some : (row : Option Row) → length before.members ≤ most_rows → IfSome row (λ d. HaveRoom Added fields p d (map state_seen before.states.items))
+  room-for-some None few = tt
+  room-for-some (Some d) few = may-be-added d few
+
+  pub room-without : (old : Option Row) → length before.members ≤ most_rows → old ≡ at p before.members → IfSome old (λ d. HaveRoom Removed fields p d (map state_seen before.states.items))
+  room-without None few stood = tt
+  room-without (Some d) few stood = may-be-removed d few (sym stood)
 
   -- ---- a row is added, or removed
 
   module _ (after : GroupState) where
-    pub added-sound : (d : Row) → at p before.members ≡ None → after.members ≡ put p d before.members → map state_seen after.states.items ≡ states_after_from Added p d 0 fields (map state_seen before.states.items) → AreSummableIn (map state_seen before.states.items) fields d → IsGroupState fields after
+    added-sound : (d : Row) → at p before.members ≡ None → after.members ≡ put p d before.members → map state_seen after.states.items ≡ states_after_from Added p d 0 fields (map state_seen before.states.items) → AreSummableIn (map state_seen before.states.items) fields d → IsGroupState fields after
     added-sound d none come after-is summable =
         let each : AllByRecursion (λ a. IsSummable a d) fields = all-summable fields d before.members (subst (λ ts. AreSummableIn ts fields d) sound.states summable) in
         record {
@@ -85,19 +96,30 @@ module _ (fields : List Accumulation) (p : PosTree) (x : IsExact p) (before : Gr
     removed-positioned : after.members ≡ gone p before.members → IsPositioned after.members
     removed-positioned left = subst (λ (es : Positioned). IsPositioned es) (sym left) (positioned-gone p before.members sound.positioned)
 
-    pub removed-sound : (d : Row) → at p before.members ≡ Some d → after.members ≡ gone p before.members → map state_seen after.states.items ≡ states_after_from Removed p d 0 fields (map state_seen before.states.items) → IsGroupState fields after
+    removed-sound : (d : Row) → at p before.members ≡ Some d → after.members ≡ gone p before.members → map state_seen after.states.items ≡ states_after_from Removed p d 0 fields (map state_seen before.states.items) → IsGroupState fields after
     removed-sound d there left after-is = record {
       positioned = removed-positioned left;
       states = after-is ∙ ap (states_after_from Removed p d 0 fields) sound.states ∙ all-removed fields p d before.members sound.positioned x there ∙ ap (λ es. map (λ a. state_over a es) fields) (sym left);
       summable = removed-summable left;
     }
 
-    pub none-removed : at p before.members ≡ None → after.members ≡ gone p before.members → after.states ≡ before.states → IsGroupState fields after
+    none-removed : at p before.members ≡ None → after.members ≡ gone p before.members → map state_seen after.states.items ≡ map state_seen before.states.items → IsGroupState fields after
     none-removed none left same = record {
       positioned = removed-positioned left;
-      states = ap (λ ts. map state_seen ts.items) same ∙ sound.states ∙ ap (λ es. map (λ a. state_over a es) fields) (sym (left ∙ gone-none p before.members none));
+      states = same ∙ sound.states ∙ ap (λ es. map (λ a. state_over a es) fields) (sym (left ∙ gone-none p before.members none));
       summable = removed-summable left;
     }
+
+    -- what stood at the position is removed, if anything did
+    pub sound-without : (old : Option Row) → old ≡ at p before.members → after.members ≡ gone p before.members → map state_seen after.states.items ≡ states_after_some Removed p old fields (map state_seen before.states.items) → IsGroupState fields after
+    sound-without None stood left after-is = none-removed (sym stood) left after-is
+    sound-without (Some d) stood left after-is = removed-sound d (sym stood) left after-is
+
+    -- where nothing stands, a row is added, if there is one
+    pub sound-with : (row : Option Row) → at p before.members ≡ None → after.members ≡ set_at p row before.members → map state_seen after.states.items ≡ states_after_some Added p row fields (map state_seen before.states.items) → IfSome row (λ d. AreSummableIn (map state_seen before.states.items) fields d)
+        → IsGroupState fields after
+    sound-with None none come after-is summable = none-removed none come after-is
+    sound-with (Some d) none come after-is summable = added-sound d none come after-is summable
 
 -- ---- what is shown
 
@@ -106,10 +128,10 @@ summable-seen t s a d v is same summable = subst (λ u. IsSummableIn (state_seen
 
 -- the row of a group is made of its first row, and of the values of its states
 pub row-is-shown : (g : Grouping) (rows : Positioned) (e : PosTree × Row) (ts : List AccumulatorState) → IsPositioned rows → slice_get rows 0 ≡ Some e → ts ≡ map (λ a. state_over a rows) g.fields
-    → Some (with_state_values g.fields ts ((codes "_id", key_in g e.1) ∷ [])) ≡ row_shown g (forget rows)
+    → Some (row_of_values g.fields (key_in g e.1 ∷ state_values g.fields ts)) ≡ row_shown g (forget rows)
 row-is-shown g [] e ts are first same = cc
 row-is-shown g (r ∷ rows) e ts are first same =
     let own : r ≡ e = cc in
-    ap (λ us. Some (with_state_values g.fields us ((codes "_id", key_in g e.1) ∷ []))) same
+    ap (λ us. Some (row_of_values g.fields (key_in g e.1 ∷ state_values g.fields us))) same
     ∙ ap Some (all-values g.fields (r ∷ rows) ((codes "_id", key_in g e.1) ∷ []) are)
     ∙ ap (λ f. Some (with_accumulated g.fields (forget (r ∷ rows)) ((codes "_id", key_in g f.1) ∷ []))) (sym own)

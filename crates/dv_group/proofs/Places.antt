@@ -2,14 +2,13 @@
 use Rattle.std.specs.Prelude.{◌≡◌, ◌⊎◌, ◌≤◌, ◌<◌, ℕ, zero, suc, ◌+◌, List, [], ◌∷◌, drop, get_or, length, map, slice_set, refl}
 use Rattle.std.proofs.Common.{add-one, ap, arith, inl, inr, subst, sym, ◌∙◌}
 use Rattle.std.proofs.lemmas.List.{drop_more}
-use Rattle.dv_value.specs.Tree.{Field}
 use Rattle.dv_row.specs.Row.{Row}
 use Rattle.dv_change.specs.Positions.{PosTree}
 use Rattle.dv_gather.specs.Grouping.{Accumulation}
 use Rattle.dv_group.specs.declared.accumulator_state.AccumulatorState as memory
 use Rattle.dv_group.specs.declared.accumulator_state.RowChange.{RowChange}
 use Rattle.dv_group.specs.Inner.SumBounds.{AreSummableIn, HasRoomFor, HaveRoom, IsSummableIn}
-use Rattle.dv_group.specs.Inner.AccumulatorStates.{AccumulatorState, states_after_at, state_after, states_after_from, with_state_values}
+use Rattle.dv_group.specs.Inner.AccumulatorStates.{AccumulatorState, states_after_at, state_after, states_after_from, state_values}
 use Rattle.dv_group.specs.Inner.StateView.{state_seen}
 
 pub drop-one : {A : Type 0} (n : ℕ) (xs : List A) → drop 1 (drop n xs) ≡ drop (suc n) xs
@@ -94,8 +93,8 @@ module _ (change : RowChange) (a : Accumulation) (p : PosTree) (d : Row) (fields
 -- ---- the values of states
 
 -- where one of the two ends, no more values come
-pub values-ended : (fields : List Accumulation) (ts : List AccumulatorState) (fs : List Field) → (length fields ≡ 0) ⊎ (length ts ≡ 0) → with_state_values fields ts fs ≡ fs
-values-ended [] ts fs over = refl
-values-ended (a ∷ fields) [] fs over = refl
-values-ended (a ∷ fields) (t ∷ ts) fs (inl none) = absurd (omega (arith, none))
-values-ended (a ∷ fields) (t ∷ ts) fs (inr none) = absurd (omega (arith, none))
+pub values-ended : (fields : List Accumulation) (ts : List AccumulatorState) → (length fields ≡ 0) ⊎ (length ts ≡ 0) → state_values fields ts ≡ []
+values-ended [] ts over = refl
+values-ended (a ∷ fields) [] over = refl
+values-ended (a ∷ fields) (t ∷ ts) (inl none) = absurd (omega (arith, none))
+values-ended (a ∷ fields) (t ∷ ts) (inr none) = absurd (omega (arith, none))

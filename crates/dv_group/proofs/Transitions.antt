@@ -13,7 +13,7 @@ use Rattle.dv_group.specs.declared.transition.Transition.{Transition}
 use Rattle.dv_group.specs.declared.transition.Transitions.{Transitions}
 use Rattle.dv_group.specs.declared.transition.RowsWanted.{RowsWanted}
 use Rattle.dv_group.specs.declared.transition.RowsWanted.TheVariants.{Unwanted, Wanted}
-use Rattle.dv_group.specs.Inner.Members.{AreTransitions, IsTransitionAt, LiveGroups, are_one, group_members, is_key, put_some, set_at, with_row, with_shown}
+use Rattle.dv_group.specs.Inner.Members.{AreTransitions, IsTransitionAt, LiveGroups, are_one, group_members, is_key, put_some, rows_after, rows_before, set_at, with_row, with_shown}
 use Rattle.dv_group.proofs.Under.{shown-once}
 
 -- where two keys aren't equal, neither is that of the other
@@ -40,7 +40,7 @@ module _ (g : Grouping) where
   -- where the keys are equal, of one group
   pub one-shown : (wish : RowsWanted) (es fs : LiveGroups) (key other : Option KeyTree) (transition : Transition) (transitions : Transitions) → are_one key other ≡ true
       → IsTransitionAt wish g (λ k. group_members k es) (λ k. group_members k fs) key transition
-      → transitions.before ≡ with_row key transition.before [] → transitions.after ≡ with_row key transition.after []
+      → rows_before transitions ≡ with_row key transition.before [] → rows_after transitions ≡ with_row key transition.after []
       → AreTransitions wish g (λ k. group_members k es) (λ k. group_members k fs) key other transitions
   one-shown Unwanted es fs key other transition transitions one shown before after = tt
   one-shown (Wanted lender) es fs key other transition transitions one shown before after =
@@ -67,16 +67,16 @@ module _ (g : Grouping) where
     still-now : (k : KeyTree) → key ≡ Some k → between k ≡ now k
     still-now k is = sym (added k ∙ ap (λ b. cond b (set_at pos new (between k)) (between k)) (key-apart key other apart k is))
 
-    pub two-shown : (wish : RowsWanted) (goes comes : Transition) (first both : Transitions) → IsTransitionAt wish g was between key goes → IsTransitionAt wish g between now other comes
-        → first.before ≡ with_row key goes.before [] → first.after ≡ with_row key goes.after [] → both.before ≡ with_row other comes.before first.before → both.after ≡ with_row other comes.after first.after
+    pub two-shown : (wish : RowsWanted) (goes comes : Transition) (both : Transitions) → IsTransitionAt wish g was between key goes → IsTransitionAt wish g between now other comes
+        → rows_before both ≡ with_row other comes.before (with_row key goes.before []) → rows_after both ≡ with_row other comes.after (with_row key goes.after [])
         → AreTransitions wish g was now key other both
-    two-shown Unwanted goes comes first both goes_shown comes_shown before after more_before more_after = tt
-    two-shown (Wanted lender) goes comes first both goes_shown comes_shown before after more_before more_after = (
-      more_before
-          ∙ before-shown lender between now other comes first.before comes_shown
-          ∙ shown-like between was other first.before was-between
-          ∙ ap (with_shown g was other) (before ∙ before-shown lender was between key goes [] goes_shown),
-      more_after
-          ∙ after-shown lender between now other comes first.after comes_shown
-          ∙ ap (with_shown g now other) (after ∙ after-shown lender was between key goes [] goes_shown ∙ shown-like between now key [] still-now),
+    two-shown Unwanted goes comes both goes_shown comes_shown before after = tt
+    two-shown (Wanted lender) goes comes both goes_shown comes_shown before after = (
+      before
+          ∙ before-shown lender between now other comes (with_row key goes.before []) comes_shown
+          ∙ shown-like between was other (with_row key goes.before []) was-between
+          ∙ ap (with_shown g was other) (before-shown lender was between key goes [] goes_shown),
+      after
+          ∙ after-shown lender between now other comes (with_row key goes.after []) comes_shown
+          ∙ ap (with_shown g now other) (after-shown lender was between key goes [] goes_shown ∙ shown-like between now key [] still-now),
     )

@@ -10,11 +10,11 @@ ghost use Rattle.dv_gather.specs.Grouping.{row_shown};
 ghost use Rattle.dv_group.specs.Inner.Grouped.{group_empty, group_even, group_ordered};
 ghost use Rattle.dv_group.specs.Inner.Held.{HoldsGroups};
 ghost use Rattle.dv_group.specs.Inner.Members as defined;
-ghost use Rattle.dv_group.specs.Inner.Members.{AreLiveGroups, AreGroupRows, FollowTaken, changes_shown, group_members};
+ghost use Rattle.dv_group.specs.Inner.Members.{AreLiveGroups, AreGroupRows, FollowTaken, changes_shown, group_members, rows_after, rows_before};
 ghost use Rattle.dv_group.specs.Placed.{grouped_at};
 
 use crate::groups::{Groups, follow, follow_all};
-use crate::transition::{RowsWanted, Transitions, with_row};
+use crate::transition::{RowsWanted, Transitions, first_row, with_row};
 use dv_change::{Input, Operator, Ordered, Taken, Ticks, hand_over};
 use dv_gather::Group;
 use dv_order::Key;
@@ -84,13 +84,13 @@ impl GroupOperator {
     ) -> Result<(), NoMemory>
         ensures group { self.new.group ≡ self.old.group }
         ensures groups { self.new.groups.entries ≡ self.old.groups.entries }
-        ensures out { OnOk result (out.new.items ≡ out.old.items ++ diff_told transitions.now.before transitions.now.after) }
-        ensures ticks { OnOk result (ticks.new ≡ raised ticks.old (1 + length (diff_told transitions.now.before transitions.now.after))) }
+        ensures out { OnOk result (out.new.items ≡ out.old.items ++ diff_told (rows_before transitions.now) (rows_after transitions.now)) }
+        ensures ticks { OnOk result (ticks.new ≡ raised ticks.old (1 + length (diff_told (rows_before transitions.now) (rows_after transitions.now)))) }
         ensures begins { OnErr result (BeginsWith out.new.items out.old.items) }
         ensures no_fewer { OnErr result (ticks.old ≤ ticks.new) }
     {
-        self.keep_last(transitions.after())?;
-        hand_over(transitions.before(), transitions.after(), ticks, out)
+        self.keep_last(transitions.row_after())?;
+        transitions.tell(ticks, out)
     }
 
     /// The rows of all groups.
@@ -129,18 +129,18 @@ impl GroupOperator {
 
     /// A row that lends its names: the first of these, or the one that is kept for it.
     fn lender<'a>(&'a self, rows: &'a Ordered<Document>) -> Option<&'a Document> {
-        match rows.first() {
-            Some((_, first)) => Some(first),
+        match first_row(rows) {
+            Some(first) => Some(first),
             None => self.last.as_ref(),
         }
     }
 
-    /// Keeps the row of a group, where there is one, so that it lends its names.
-    fn keep_last(&mut self, shown: &Ordered<Document>) -> Result<(), NoMemory>
+    /// Keeps the row, where there is one, so that it lends its names.
+    fn keep_last(&mut self, row: Option<&Document>) -> Result<(), NoMemory>
         ensures groups { self.new.groups.entries ≡ self.old.groups.entries }
         ensures group { self.new.group ≡ self.old.group }
     {
-        if let Some((_, row)) = shown.first() {
+        if let Some(row) = row {
             self.last = Some(row.try_clone()?);
         }
         Ok(())
@@ -187,7 +187,7 @@ impl Operator for GroupOperator {
     fn fill(&mut self, all: Vec<Taken>) -> Result<Vec<Taken>, NoMemory> {
         follow_all(self.alloc, &self.group, &mut self.groups, all)?;
         let rows = self.all_shown()?;
-        self.keep_last(&rows)?;
+        self.keep_last(first_row(&rows))?;
         puts_of(self.alloc, &rows)
     }
 }

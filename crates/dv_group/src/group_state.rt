@@ -1,20 +1,19 @@
 //! What a group holds.
 
-ghost use Rattle.std.specs.Prelude.{◌≡◌, ◌≤◌, ◌↔◌, [], ◌∷◌, IfOk, IsTrue, OnOk, drop, length, map};
-ghost use Rattle.dv_change.specs.Changes.{forget};
-ghost use Rattle.dv_change.specs.Inner.Ordered.{gone};
+ghost use Rattle.std.specs.Prelude.{◌≡◌, ◌≤◌, ◌↔◌, [], ◌∷◌, IfOk, IfSome, IsTrue, OnOk, drop, length, map};
+ghost use Rattle.dv_value.specs.View.{tree};
+ghost use Rattle.dv_change.specs.Changes.{at, forget};
 ghost use Rattle.dv_gather.specs.Inner.GroupView.{accumulation};
 ghost use Rattle.dv_gather.specs.Grouping.{row_shown};
 ghost use Rattle.dv_group.specs.Inner.Members.{set_at};
 ghost use Rattle.dv_group.specs.Inner.SumBounds.{AreSummableIn, HaveRoom, IsGroupState, most_rows};
-ghost use Rattle.dv_group.specs.Inner.AccumulatorStates.{states_after_at, states_after_from, state_over, with_state_values};
+ghost use Rattle.dv_group.specs.Inner.AccumulatorStates.{state_over, state_values, states_after_at, states_after_from, states_after_some};
 ghost use Rattle.dv_group.specs.Inner.StateView.{state_seen};
 
 use crate::accumulator_state::{AccumulatorState, RowChange};
 use dv_change::{Ordered, Pos};
-use dv_gather::{Group, GroupField};
-use dv_row::{push_field, row_beside};
-use dv_value::{Document, NoMemory};
+use dv_gather::{Group, GroupField, row_of_values};
+use dv_value::{Document, NoMemory, Value};
 use std::alloc::Global;
 use std::mem::replace;
 
@@ -57,14 +56,16 @@ impl GroupState {
         ensures rows { OnOk result (self.new.members ≡ set_at pos row self.old.members) }
         ensures sound { OnOk result (IsGroupState group.now.fields self.new) }
     {
-        set_in_states(alloc, &mut self.states, &self.members, group, &pos, &row)?;
-        let rows = replace(&mut self.members, Ordered::new(alloc));
-        let now = with_set(rows, pos, row)?;
-        self.members = now;
-        Ok(())
+        pos.law_exact();
+        // No sum of so many numbers is beyond 128 bits.
+        law_few(&self.members);
+        let old = exchange(alloc, &mut self.members, &pos, &row)?;
+        let states = &mut self.states;
+        apply_some(alloc, states, group, RowChange::Removed, &pos, &old)?;
+        apply_some(alloc, states, group, RowChange::Added, &pos, &row)
     }
 
-    /// The group's row, where it has rows. A row before it lends its names. Fails where memory is wanting.
+    /// The group's row, where it has rows. A row before it lends its names, if there is one. Fails where memory is wanting.
     pub(crate) fn row(
         &self,
         alloc: Global,
@@ -78,28 +79,27 @@ impl GroupState {
             return Ok(None);
         };
         let key = group.key_in(alloc, first)?.into_value()?;
-        let mut row = row_beside(alloc, before)?;
-        push_field(&mut row, "_id", Some(key))?;
-        self.push_fields(alloc, group.fields(), &mut row)?;
-        // Its length is asked more than once before it is written.
-        row.keep_size();
+        let fields = group.fields();
+        let values = self.values(alloc, fields, key)?;
+        let row = row_of_values(alloc, fields, values, before)?;
         Ok(Some(row))
     }
 
-    /// Puts the fields of the group behind those of the row. Fails where memory is wanting.
-    fn push_fields(
+    /// The key, and the values of the states. Fails where memory is wanting.
+    fn values(
         &self,
         alloc: Global,
         fields: &[GroupField],
-        row: &mut Document,
-    ) -> Result<(), NoMemory>
-        ensures { OnOk result (row.new ≡ with_state_values (map accumulation fields.now) (map state_seen self.now.states.items) row.old) }
+        key: Value,
+    ) -> Result<Vec<Value>, NoMemory>
+        ensures { IfOk result (λ values. map tree values.items ≡ tree key ∷ state_values (map accumulation fields.now) (map state_seen self.now.states.items)) }
     {
+        let mut values = Vec::with_capacity(alloc, fields.len().saturating_add(1))?;
+        values.push(key)?;
         'fields: for (field, state) in fields.iter().zip(&self.states) {
-            let value = state.value(alloc, field)?;
-            push_field(row, field.name.as_str(), Some(value))?;
+            values.push(state.value(alloc, field)?)?;
         }
-        Ok(())
+        Ok(values)
     }
 }
 
@@ -114,60 +114,36 @@ fn states_of_none(alloc: Global, fields: &[GroupField]) -> Result<Vec<Accumulato
     Ok(states)
 }
 
-/// The rows, with this one at the position, or with none there. Fails where memory is wanting.
-fn with_set(
-    rows: Ordered<Document>,
-    pos: Pos,
-    row: Option<Document>,
-) -> Result<Ordered<Document>, NoMemory>
-    ensures { IfOk result (λ now. now ≡ set_at pos row rows) }
-{
-    match row {
-        Some(row) => rows.with(pos, row),
-        None => Ok(rows.without(&pos)),
-    }
-}
-
-/// Removes what stands at the position from the states of the fields, and adds the row, where there is one. Fails where memory is
-/// wanting.
-fn set_in_states(
+/// Sets which of the rows stands at the position, or that none does. Gives the one that stood there. Fails where memory is wanting;
+/// then all are dropped.
+fn exchange(
     alloc: Global,
-    states: &mut Vec<AccumulatorState>,
-    members: &Ordered<Document>,
-    group: &Group,
+    rows: &mut Ordered<Document>,
     pos: &Pos,
     row: &Option<Document>,
-) -> Result<(), NoMemory>
-    requires { IsGroupState group.now.fields (record { members = members.now; states = states.old }) }
-    ensures { OnOk result (IsGroupState group.now.fields (record { members = set_at pos.now row.now members.now; states = states.new })) }
+) -> Result<Option<Document>, NoMemory>
+    ensures rows { OnOk result (rows.new ≡ set_at pos.now row.now rows.old) }
+    ensures stood { IfOk result (λ old. old ≡ at pos.now rows.old) }
 {
-    pos.law_exact();
-    // No sum of so many numbers is beyond 128 bits.
-    law_few(members);
-    remove_from_states(alloc, states, members, group, pos)?;
-    match row {
-        Some(row) => apply_each(alloc, states, group.fields(), RowChange::Added, pos, row),
-        None => Ok(()),
-    }
+    let was = replace(rows, Ordered::new(alloc));
+    let (now, old) = with_set(was, pos, row)?;
+    *rows = now;
+    Ok(old)
 }
 
-/// Removes what stands at the position from the states of the fields. Fails where memory is wanting.
-fn remove_from_states(
-    alloc: Global,
-    states: &mut Vec<AccumulatorState>,
-    members: &Ordered<Document>,
-    group: &Group,
+/// The rows, with this one at the position, or with none there, and the one that stood there, if any. Fails where memory is wanting.
+fn with_set(
+    rows: Ordered<Document>,
     pos: &Pos,
-) -> Result<(), NoMemory>
-    requires { IsGroupState group.now.fields (record { members = members.now; states = states.old }) }
-    ensures { OnOk result (IsGroupState group.now.fields (record { members = gone pos.now members.now; states = states.new })) }
+    row: &Option<Document>,
+) -> Result<(Ordered<Document>, Option<Document>), NoMemory>
+    ensures rows { IfOk result (λ both. both.0 ≡ set_at pos.now row.now rows) }
+    ensures stood { IfOk result (λ both. both.1 ≡ at pos.now rows) }
 {
-    pos.law_exact();
-    law_few(members);
-    let Some(row) = members.get(pos) else {
-        return Ok(());
-    };
-    apply_each(alloc, states, group.fields(), RowChange::Removed, pos, row)
+    match row {
+        Some(row) => rows.exchange(pos.try_clone()?, row.try_clone()?),
+        None => Ok(rows.take_out(pos)),
+    }
 }
 
 /// That the rows are no more than memory can hold. Does nothing.
@@ -175,6 +151,26 @@ fn law_few(members: &Ordered<Document>)
     ensures { length members.now ≤ most_rows }
 {
     let _count = members.len();
+}
+
+/// Adds the row at the position to the states of the group's fields, or removes it, where there is one. Fails where memory is
+/// wanting.
+fn apply_some(
+    alloc: Global,
+    states: &mut Vec<AccumulatorState>,
+    group: &Group,
+    change: RowChange,
+    pos: &Pos,
+    row: &Option<Document>,
+) -> Result<(), NoMemory>
+    requires { IfSome row.now (λ d. HaveRoom change group.now.fields pos.now d (map state_seen states.old.items)) }
+    ensures states { OnOk result (map state_seen states.new.items ≡ states_after_some change pos.now row.now group.now.fields (map state_seen states.old.items)) }
+    ensures summable { OnOk result (IfSome row.now (λ d. AreSummableIn (map state_seen states.old.items) group.now.fields d)) }
+{
+    match row {
+        Some(row) => apply_each(alloc, states, group.fields(), change, pos, row),
+        None => Ok(()),
+    }
 }
 
 /// Adds the row at the position to the states of the fields, or removes it. Fails where memory is wanting.

@@ -87,17 +87,15 @@ fn move_row(
     ensures shown { IfOk result (λ all. AreTransitionsOfKeys wish.entry group.now groups.old.entries groups.new.entries key.now other.now all) }
 {
     pos.law_exact();
-    let empty = Transitions::none(alloc);
     if are_one(key, other) {
         let transition = set_in(alloc, group, groups, key, pos, new, wish)?;
-        let one = empty.with(alloc, key, transition)?;
+        let one = Transitions::of_one(alloc, key, transition)?;
         return Ok(one);
     }
     let place = pos.try_clone()?;
     let left = set_in(alloc, group, groups, key, place, None, wish)?;
     let come = set_in(alloc, group, groups, other, pos, new, wish)?;
-    let first = empty.with(alloc, key, left)?;
-    let both = first.with(alloc, other, come)?;
+    let both = Transitions::of_two(alloc, key, left, other, come)?;
     Ok(both)
 }
 

@@ -54,7 +54,7 @@ impl LiveGroup {
         let before = self.shown_if_wanted(alloc, group, wish)?;
         self.state.set(alloc, group, pos, row)?;
         self.row = None;
-        let after = self.settle(alloc, group, wish)?;
+        let after = self.settle(alloc, group, wish.beside(&before))?;
         Ok(Transition { before, after })
     }
 

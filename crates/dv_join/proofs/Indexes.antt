@@ -2,16 +2,17 @@
 use Rattle.std.specs.Prelude.{◌≡◌, ◌<◌, ◌≤◌, Bool, true, false, ◌&&◌, ◌||◌, not, cond, List, [], ◌∷◌, filter, length, slice_get, Option, Some, None, refl}
 use Rattle.std.proofs.Common.{ap, arith, sym, ◌∙◌}
 use Rattle.std.proofs.lemmas.List.Elements.{filter_agree}
-use Rattle.std.proofs.lemmas.Map.Keys.{sorted_head}
+use Rattle.std.proofs.lemmas.Map.Keys.{IsDistinct-from_sorted, sorted_head}
+use Rattle.std.proofs.lemmas.Map.Made.{update_all_none}
 use Rattle.std.specs.declared.cmp.Ordering.TheVariants.{Less}
-use Rattle.std.specs.BTreeMap.{is_at}
+use Rattle.std.specs.BTreeMap.{IsFromIterResult, is_at}
 use Rattle.std.specs.BTreeSet.{BTreeSet, union}
 use Rattle.std.specs.Cmp.{Equal-is, eq_by_cmp_equiv}
 use Rattle.std.specs.List.{AllByRecursion, list_any}
 use Rattle.std.specs.List.Sorted.{IsStrictlySortedBy}
-use Rattle.std.specs.Map.{lookup}
+use Rattle.std.specs.Map.{keys_of, lookup}
 use Rattle.std.specs.Option.{unwrap_or}
-use Rattle.std.specs.Ordering.{is_eq}
+use Rattle.std.specs.Ordering.{eq_by_cmp, is_eq}
 use Rattle.std.specs.Set.{sorted_merge}
 use Rattle.dv_value.specs.Tree.{Field}
 use Rattle.dv_order.specs.Key.{KeyTree, key_order}
@@ -91,6 +92,11 @@ set-none f false old own taken like e none = e
 pub set-some : (f : Positioned → Positioned) (b : Bool) (old own taken new : Positioned) → (b ≡ true → old ≡ own) → taken ≡ cond b [] old → new ≡ cond b (f own) taken → new ≡ cond b (f old) old
 set-some f true old own taken new like e put = put ∙ sym (ap f (like refl))
 set-some f false old own taken new like e put = put ∙ e
+
+-- a tree that is built of entries in their order has the same under each key
+pub under-packed : (old new : Index) → IsStrictlySortedBy key_order (keys_of old.under.entries) → IsFromIterResult key_order old.under.entries new.under → (k : KeyTree) → under k new ≡ under k old
+under-packed old new sorted made k =
+    ap (λ o. unwrap_or o []) (made.0 k ∙ update_all_none (eq_by_cmp_equiv key_order_total) (eq_by_cmp key_order) (λ x y. refl) old.under.entries k (IsDistinct-from_sorted key_order (keys_of old.under.entries) sorted))
 
 -- ---- a change
 

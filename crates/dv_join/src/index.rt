@@ -1,7 +1,10 @@
 //! Rows by their keys.
 
 ghost use Rattle.std.specs.Prelude.{◌≡◌, [], cond, IfOk, OnOk};
+ghost use Rattle.std.specs.BTreeMap.{IsFromIterResult};
 ghost use Rattle.std.specs.BTreeSet.{IsUnion, contains, union};
+ghost use Rattle.std.specs.List.Sorted.{IsStrictlySortedBy};
+ghost use Rattle.std.specs.Map.{keys_of};
 ghost use Rattle.std.specs.Ordering.{is_eq};
 ghost use Rattle.dv_join.specs.Inner.Indexed.{AreRowsUnder, AreValuesUnder, ExchangedIn, TakenOutOf, row_set, under};
 ghost use Rattle.dv_order.specs.Key.{KeyTree, key_order};
@@ -103,6 +106,16 @@ impl Index {
         }
     }
 
+    /// Stores the rows in as few nodes of a tree as hold them: keys that came in ascending order left each node half empty. Fails
+    /// where memory is wanting.
+    pub(crate) fn pack(&mut self) -> Result<(), NoMemory>
+        ensures { OnOk result ((k : KeyTree) → under k self.new ≡ under k self.old) }
+    {
+        let under = replace(&mut self.under, BTreeMap::new(self.alloc));
+        self.under = built_anew(self.alloc, under)?;
+        Ok(())
+    }
+
     /// The rows that have any of the keys or of the others. Fails where memory is wanting.
     pub(crate) fn rows_under(
         &self,
@@ -137,6 +150,17 @@ impl Index {
             None => Ok(List::new(self.alloc)),
         }
     }
+}
+
+/// The rows by keys in a tree that is built of all of them at once. Fails where memory is wanting.
+fn built_anew(
+    alloc: Global,
+    under: BTreeMap<Key, Ordered<Document>>,
+) -> Result<BTreeMap<Key, Ordered<Document>>, NoMemory>
+    ensures ordered { IsStrictlySortedBy key_order (keys_of under.entries) }
+    ensures made { IfOk result (IsFromIterResult key_order under.entries) }
+{
+    under.into_iter().collect(alloc)
 }
 
 /// The rows with the one at the position set, or without it.

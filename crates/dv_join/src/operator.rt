@@ -211,4 +211,10 @@ impl Operator for LookupOperator {
             Input::Named(_) => self.take(input, taken, ticks, out),
         }
     }
+
+    /// Its two sides stand in trees that are built of all their keys.
+    fn pack(&mut self) -> Result<(), NoMemory> {
+        self.left_by.pack()?;
+        self.foreign_by.pack()
+    }
 }

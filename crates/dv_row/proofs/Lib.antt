@@ -1,3 +1,4 @@
+pub mod Alike
 pub mod Compared
 pub mod ComputedFields
 pub mod Conflicting

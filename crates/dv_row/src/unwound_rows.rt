@@ -1,10 +1,15 @@
 //! The rows of an `$unwind`, one by one.
 
-ghost use Rattle.std.specs.Prelude.{◌≡◌, ◌<◌, Some, IfOk, length, slice_get};
-ghost use Rattle.dv_row.specs.Inner.UnwoundRows.{rows_of_origin};
+ghost use Rattle.std.specs.Prelude.{◌≡◌, ◌<◌, Some, IfOk, length, map, slice_get};
+ghost use Rattle.std.specs.List.{zip};
+ghost use Rattle.dv_order.specs.Same as defined;
+ghost use Rattle.dv_value.specs.View.{tree};
+ghost use Rattle.dv_row.specs.Inner.UnwoundRows.{AreCommon, rows_of_origin};
 
 use crate::way::Way;
+use dv_order::is_same;
 use dv_value::{Document, NoMemory, Value};
+use std::alloc::Global;
 use std::marker::Model;
 
 /// What rows of an `$unwind` are made of.
@@ -77,4 +82,28 @@ impl<'a> UnwoundRows<'a> {
             }
         }
     }
+
+    /// For the places that both have, whether the rows there are known to be the same, which is found without making them: where
+    /// both are made of the elements of arrays, the rows that these stand in differ in nothing else, and the elements are the same.
+    /// A row at a place that isn't among them may be the same too. Fails with `NoMemory` when memory runs out.
+    pub fn common(&self, alloc: Global, other: &UnwoundRows<'_>) -> Result<Vec<bool>, NoMemory>
+        ensures { IfOk result (λ common. AreCommon self.now other.now common.items) }
+    {
+        match (&self.origin, &other.origin) {
+            (Origin::Elements(way, elements), Origin::Elements(other_way, others))
+                if way.is_like(other_way) => { same_elements(alloc, elements, others) }
+            _ => Ok(Vec::new(alloc)),
+        }
+    }
+}
+
+/// For each place that both have, whether the elements there are the same. Fails where memory is wanting.
+fn same_elements(alloc: Global, elements: &[Value], others: &[Value]) -> Result<Vec<bool>, NoMemory>
+    ensures { IfOk result (λ same. same.items ≡ map (λ p. defined.is_same (tree p.0) (tree p.1)) (zip elements.now others.now)) }
+{
+    elements
+        .iter()
+        .zip(others)
+        .map(|(element, other)| is_same(element, other))
+        .collect(alloc)
 }

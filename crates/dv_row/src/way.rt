@@ -1,15 +1,16 @@
 //! The way of a path into a row, through documents.
 
-ghost use Rattle.std.specs.Prelude.{◌≡◌, None, Some, IsSome, IfOk, MatchOption};
+ghost use Rattle.std.specs.Prelude.{◌≡◌, None, Some, IsSome, IsTrue, IfOk, MatchOption};
 ghost use Rattle.std.specs.Option.{option_map};
 ghost use Rattle.dv_candidates.specs.Candidates.{Candidate};
-ghost use Rattle.dv_value.specs.Names.{value_under};
-ghost use Rattle.dv_value.specs.Tree.{document as document_tree, fields_of};
+ghost use Rattle.dv_value.specs.Names.{value_under, with_value_under};
+ghost use Rattle.dv_value.specs.Tree.{Tree, document as document_tree, fields_of};
 ghost use Rattle.dv_value.specs.View.{tree};
-ghost use Rattle.dv_row.specs.Inner.Crossings.{EndsWays, set_inward, set_on_way};
+ghost use Rattle.dv_row.specs.Inner.Crossings.{AreLike, EndsWays, field_but, fields_but, set_inward, set_on_way};
 ghost use Rattle.dv_row.specs.Unwinding.{reached, set_through, set_under};
 
 use dv_candidates::{Component, Path, behind};
+use dv_order::is_same;
 use dv_value::{Document, NoMemory, Value};
 use std::alloc::Global;
 
@@ -77,6 +78,14 @@ impl<'a> Crossing<'a> {
         };
         Ok(set)
     }
+
+    /// Whether the component is the same as the other one's, and the documents differ in nothing but the value under its name.
+    fn is_like(&self, other: &Crossing<'_>) -> bool
+        ensures { IsTrue result → AreLike self.now other.now }
+    {
+        let name = self.component.as_str();
+        name == other.component.as_str() && same_but_under(name, &self.document, &other.document)
+    }
 }
 
 impl<'a> Way<'a> {
@@ -113,6 +122,15 @@ impl<'a> Way<'a> {
         let outermost = set_inside(self.inner.as_slice(), value)?;
         self.outermost.with(outermost)
     }
+
+    /// Whether the components are the same as the other way's, and the rows differ in nothing but the values that the ways lead
+    /// to. Takes no memory.
+    pub(crate) fn is_like(&self, other: &Way<'_>) -> bool
+        ensures { IsTrue result → (v : Tree) → set_on_way self.now (Some v) ≡ set_on_way other.now (Some v) }
+    {
+        self.outermost.is_like(&other.outermost)
+            && are_like(self.inner.as_slice(), other.inner.as_slice())
+    }
 }
 
 /// What stands in place of the outermost one of the documents, each in the one before it, where the value is set in the last.
@@ -124,4 +142,43 @@ fn set_inside(inner: &[Crossing<'_>], value: Option<Value>) -> Result<Option<Val
         value = Some(Value::Doc(inner[place].with(value)?));
     }
     Ok(value)
+}
+
+/// Whether there are as many documents as others, and each is like the one at its place.
+fn are_like(inner: &[Crossing<'_>], others: &[Crossing<'_>]) -> bool
+    ensures { IsTrue result → (v : Tree) → set_inward inner.now (Some v) ≡ set_inward others.now (Some v) }
+{
+    if inner.len() != others.len() {
+        return false;
+    }
+    'places: for place in 0..inner.len() {
+        if !inner[place].is_like(&others[place]) {
+            return false;
+        }
+    }
+    true
+}
+
+/// Whether two documents have the same fields, but for the value under the name.
+fn same_but_under(name: &str, document: &Document, other: &Document) -> bool
+    ensures { IsTrue result → (v : Tree) → with_value_under name.now v document.now ≡ with_value_under name.now v other.now }
+{
+    document.len() == other.len() && same_fields_but(name, document, other)
+}
+
+/// Whether the fields that both documents have a place for are the same, but for the value under the name.
+fn same_fields_but(name: &str, document: &Document, other: &Document) -> bool
+    ensures { result ≡ fields_but name.now document.now other.now }
+{
+    document
+        .iter()
+        .zip(other.iter())
+        .all(|(field, other)| same_field_but(name, field, other))
+}
+
+/// Whether two fields have the same name, and the same value where that isn't the given name.
+fn same_field_but(name: &str, field: (&str, &Value), other: (&str, &Value)) -> bool
+    ensures { result ≡ field_but name.now (field.entry.0.now, tree field.entry.1.now) (other.entry.0.now, tree other.entry.1.now) }
+{
+    field.0 == other.0 && (field.0 == name || is_same(field.1, other.1))
 }

@@ -101,6 +101,14 @@ impl Operator for StageOperator {
         }
     }
 
+    fn pack(&mut self) -> Result<(), NoMemory> {
+        match self {
+            StageOperator::Lookup(stage) => stage.pack(),
+            // The others leave what they keep as it is.
+            _ => Ok(()),
+        }
+    }
+
     fn fill(&mut self, all: Vec<Taken>) -> Result<Vec<Taken>, NoMemory> {
         match self {
             StageOperator::Match(stage) => stage.fill(all),

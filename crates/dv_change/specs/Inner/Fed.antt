@@ -35,9 +35,14 @@ OperatorFills makes holds old new all made = (others : List Positioned) (changes
 abbrev pub OperatorTakes : {O : Type 0} → (O → List Positioned → Positioned → Positioned) → (O → List Positioned → Positioned → Type 0) → O → O → List Taken → List Taken → List Taken → ℕ → ℕ → Type 0
 OperatorTakes makes holds old new all before now first after = (others : List Positioned) (left : Positioned) (changes : List Change) → holds old others left → AllByRecursion IsExactChange changes → all ≡ told_along left changes → IsFed (makes old others) (holds new others) left changes before now first after
 
--- the same where the rows that it has made are those that are kept
-abbrev pub OperatorTakesBeside : {O : Type 0} → (O → List Positioned → Positioned → Positioned) → (O → List Positioned → Positioned → Type 0) → Positioned → O → O → List Taken → List Taken → List Taken → ℕ → ℕ → Type 0
-OperatorTakesBeside makes holds made old new all before now first after = (others : List Positioned) (left : Positioned) (changes : List Change) → holds old others left → AllByRecursion IsExactChange changes → all ≡ told_along left changes → made ≡ makes old others left → IsFed (makes old others) (holds new others) left changes before now first after
+-- the rows that are kept, where they are, are these
+abbrev pub AreKept : Option Positioned → Positioned → Type 0
+AreKept None rows = ⊤
+AreKept (Some kept) rows = kept ≡ rows
+
+-- the same of one change, where the rows that it has made are those that are kept, if any are
+abbrev pub OperatorTakesOne : {O : Type 0} → (O → List Positioned → Positioned → Positioned) → (O → List Positioned → Positioned → Type 0) → Option Positioned → O → O → Taken → List Taken → List Taken → ℕ → ℕ → Type 0
+OperatorTakesOne makes holds made old new taken before now first after = (others : List Positioned) (left : Positioned) (changes : List Change) → holds old others left → AllByRecursion IsExactChange changes → taken ∷ [] ≡ told_along left changes → AreKept made (makes old others left) → IsFed (makes old others) (holds new others) left changes before now first after
 
 -- it is about to take in some, and so far all is as it should be
 pub record IsUnderway (makes : Positioned → Positioned) (holds : Positioned → Type 0) (items : List Taken) (left : Positioned) (changes : List Change) (before now : List Taken) (first after : ℕ) : Type 0 where
@@ -65,11 +70,6 @@ pub record ComesIn (input : Input) (taken : Taken) (change : Change) (forms : Li
   pub there : HasAny input forms
   pub told : taken ≡ with_old (rows_in input forms rows) change
   pub exact : IsExactChange change
-
--- the rows that are kept, where they are, are these
-abbrev pub AreKept : Option Positioned → Positioned → Type 0
-AreKept None rows = ⊤
-AreKept (Some kept) rows = kept ≡ rows
 
 -- of operators: what they make of the lists that they look into and of rows, and which of these they have taken in
 module _ {O : Type 0} (makes : O → List Positioned → Positioned → Positioned) (holds : O → List Positioned → Positioned → Type 0) where
@@ -112,6 +112,10 @@ module _ {O : Type 0} (makes : O → List Positioned → Positioned → Position
   -- whatever lists they hold, with no rows, they are filled by the changes that they are told
   abbrev pub ChainFills : List O → List O → List Taken → List Taken → Type 0
   ChainFills old new all made = (forms : List Form) (changes : List Change) → AreHeld old forms [] → AllByRecursion IsExactChange changes → all ≡ told_along [] changes → IsFilled (through_forms forms) (AreHeld new forms) changes made
+
+  -- whatever they hold, they hold afterwards
+  abbrev pub ChainStays : List O → List O → Type 0
+  ChainStays old new = (forms : List Form) (rows : Positioned) → AreHeld old forms rows → AreHeld new forms rows
 
   -- they are about to take in the rest of their first rows, and so far what they told leads from nothing to what they make
   pub record AreFilling (operators : List O) (forms : List Form) (items : List Taken) (changes : List Change) (made : List Taken) : Type 0 where

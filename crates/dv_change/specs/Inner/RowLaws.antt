@@ -157,7 +157,8 @@ module _ {V : Type 0} where
   own : (e : PosTree × V) (es : List (PosTree × V)) → found_at e.0 (e ∷ es) ≡ Some e.1
   own e es = lookup_head (is_at (pos_order e.0)) e es (ap is_eq (tied_itself pos_order_total e.0))
 
-  below : (p : PosTree) (e : PosTree × V) (es : List (PosTree × V)) → IsPositioned (e ∷ es) → pos_order p e.0 ≡ Less → found_at p (e ∷ es) ≡ None
+  -- below the first, nothing stands
+  pub below : (p : PosTree) (e : PosTree × V) (es : List (PosTree × V)) → IsPositioned (e ∷ es) → pos_order p e.0 ≡ Less → found_at p (e ∷ es) ≡ None
   below p e es are h = lookup-none (is_at (pos_order p)) (e ∷ es) (none_below_head pos_order_total p e es are.ascending h)
 
   -- behind the first, nothing stands at its position

@@ -1,5 +1,5 @@
 -- Changes that tell what stood at their positions.
-use Rattle.std.specs.Prelude.{◌≡◌, ◌+◌, ℕ, zero, suc, List, [], ◌∷◌, ◌++◌, Option, None, Some, length, map}
+use Rattle.std.specs.Prelude.{◌≡◌, ◌+◌, Bool, is_none, ℕ, zero, suc, List, [], ◌∷◌, ◌++◌, Option, None, Some, length, map}
 use Rattle.std.specs.List.{AllByRecursion, filter}
 use Rattle.dv_value.specs.Tree.{Field}
 use Rattle.dv_change.specs.declared.change.Change.{Change}
@@ -8,6 +8,7 @@ use Rattle.dv_change.specs.declared.input.Input.{Input}
 use Rattle.dv_change.specs.declared.input.Input.TheVariants.{Left, Named}
 use Rattle.dv_change.specs.declared.taking.Taken.{Taken}
 use Rattle.dv_change.specs.Changes.{Positioned, at, with_change}
+use Rattle.dv_change.specs.Difference.{stands_as}
 use Rattle.dv_change.specs.Inner.Changes.{IsExactChange, IsPositioned, position_changed, row_in}
 use Rattle.dv_change.specs.Inner.DiffLaws.{row_differs, went}
 use Rattle.dv_change.specs.Inputs.{HasInput, left_after, others_after}
@@ -51,6 +52,11 @@ puts_told old new = map (put_told old) (filter (row_differs old) new)
 abbrev pub diff_told : Positioned → Positioned → List Taken
 diff_told old new = gones_told old new ++ puts_told old new
 
+-- whether there is no row now where there was none, or the same one
+abbrev pub is_kept : Option (List Field) → Option (List Field) → Bool
+is_kept old None = is_none old
+is_kept old (Some row) = stands_as old row
+
 -- the list of an input
 abbrev pub list_at : ℕ → List Positioned → Positioned
 list_at i [] = []
@@ -66,6 +72,10 @@ pub record ComesTo (input : Input) (taken : Taken) (change : Change) (others : L
   pub there : HasInput input others
   pub told : taken ≡ with_old (input_rows input others left) change
   pub exact : IsExactChange change
+
+-- whatever an operator held, it holds afterwards
+abbrev pub StaysTaken : (List Positioned → Positioned → Type 0) → (List Positioned → Positioned → Type 0) → Type 0
+StaysTaken holds holds_then = (others : List Positioned) (left : Positioned) → holds others left → holds_then others left
 
 -- of an operator that holds lists and rows, and is told of a change of an input
 module _ (holds : List Positioned → Positioned → Type 0) (input : Input) (taken : Taken) where

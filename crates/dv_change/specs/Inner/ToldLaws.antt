@@ -1,5 +1,5 @@
 -- Changes told one after the other, each with what stood at its position.
-use Rattle.std.specs.Prelude.{◌≡◌, suc, Bool, true, false, cond, List, [], ◌∷◌, ◌++◌, length, map, Option, Some, None, is_none, is_some, refl}
+use Rattle.std.specs.Prelude.{◌≡◌, suc, Bool, true, false, not, cond, List, [], ◌∷◌, ◌++◌, length, map, Option, Some, None, is_none, is_some, refl}
 use Rattle.std.proofs.Common.{ap, sym, ◌∙◌, inl, inr}
 use Rattle.std.specs.declared.cmp.Ordering.TheVariants.{Less}
 use Rattle.std.specs.Ordering.{is_eq}
@@ -12,14 +12,14 @@ use Rattle.dv_value.specs.Tree.{Field}
 use Rattle.dv_change.specs.declared.change.Change.{Change}
 use Rattle.dv_change.specs.declared.change.Change.TheVariants.{Put, Gone}
 use Rattle.dv_change.specs.Changes.{Positioned, at, with_change, with_changes}
-use Rattle.dv_change.specs.Inner.Changes.{IsPositioned}
-use Rattle.dv_change.specs.Difference.{diff}
+use Rattle.dv_change.specs.Inner.Changes.{IsPositioned, alone}
+use Rattle.dv_change.specs.Difference.{diff, stands_as}
 use Rattle.dv_change.specs.Inner.DiffLaws.{IsPartAt, at-all_go, at-went, comes-alike, goes-alike, positioned-filter, row_differs, went}
 use Rattle.dv_change.specs.Inner.Ordered.{gone, put}
 use Rattle.dv_change.specs.Inner.PositionLaws.{pos_order_total}
 use Rattle.dv_change.specs.Positions.{IsExact, PosTree, pos_order}
 use Rattle.dv_change.specs.Inner.RowLaws.{at-gone, at-put, at_back, positioned-gone, positioned-tail}
-use Rattle.dv_change.specs.Inner.Told.{changes_told, diff_told, gone_told, put_told, told_along, with_old}
+use Rattle.dv_change.specs.Inner.Told.{changes_told, diff_told, gone_told, is_kept, put_told, told_along, with_old}
 
 -- the changes alone
 pub changes-told : (rows : Positioned) (changes : List Change) → changes_told (told_along rows changes) ≡ changes
@@ -133,3 +133,24 @@ module _ (old new before after : Positioned) where
       let there = filter (row_differs before) after in
       (λ i. map gone_told (goes i) ++ map (put_told old) (comes i))
       ∙ ap (λ ts. map gone_told (filter (went after) before) ++ ts) (parts-old parts there (positioned-filter (row_differs before) after a).exact (all-kept (λ e. at e.0 after ≡ Some e.1) (row_differs before) after (all-own after a)))
+
+-- ---- one position
+
+puts-at : (rows : Positioned) (e : PosTree × List Field) (b : Bool) → map (put_told rows) (cond (not b) (e ∷ []) []) ≡ cond b [] (put_told rows e ∷ [])
+puts-at rows e true = refl
+puts-at rows e false = refl
+
+-- where at most one row stood at a position, and at most one stands there now
+told-at : (p : PosTree) (old new : Option (List Field)) → diff_told (alone p old) (alone p new) ≡ cond (is_kept old new) [] (record { pos = p; old = old; new = new } ∷ [])
+told-at p None None = refl
+told-at p (Some o) None = refl
+told-at p None (Some n) = refl
+told-at p (Some o) (Some n) =
+    let self = ap is_eq (tied_itself pos_order_total p) in
+    rw self (puts-at (alone p (Some o)) (p, n) (stands_as (Some o) n) ∙ ap (λ b. cond (stands_as (Some o) n) [] (record { pos = p; old = cond b (Some o) None; new = Some n } ∷ [])) self)
+
+pub told-kept : (p : PosTree) (old new : Option (List Field)) → is_kept old new ≡ true → [] ≡ diff_told (alone p old) (alone p new)
+told-kept p old new kept = sym (told-at p old new ∙ ap (λ b. cond b [] (record { pos = p; old = old; new = new } ∷ [])) kept)
+
+pub told-changed : (p : PosTree) (old new : Option (List Field)) → is_kept old new ≡ false → record { pos = p; old = old; new = new } ∷ [] ≡ diff_told (alone p old) (alone p new)
+told-changed p old new differs = sym (told-at p old new ∙ ap (λ b. cond b [] (record { pos = p; old = old; new = new } ∷ [])) differs)

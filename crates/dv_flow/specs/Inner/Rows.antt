@@ -1,22 +1,58 @@
 -- A stage that makes its rows of each row by itself: what it has taken in.
-use Rattle.std.specs.Prelude.{◌≡◌, List, [], Option, map}
+use Rattle.std.specs.Prelude.{◌≡◌, ◌+◌, ◌++◌, ℕ, List, [], Option, Some, length, map}
 use Rattle.dv_value.specs.Tree.{Field}
+use Rattle.dv_change.specs.declared.input.Input.{Input}
+use Rattle.dv_change.specs.declared.taking.Taken.{Taken}
 use Rattle.dv_change.specs.Changes.{Positioned, at}
 use Rattle.dv_change.specs.Inner.Changes.{IsPositioned, alone}
+use Rattle.dv_change.specs.Inner.Fed.{AreKept}
+use Rattle.dv_change.specs.Inner.Told.{WhateverIsHeld, diff_told, told_along}
 use Rattle.dv_change.specs.Inner.Turning.{Turning}
 use Rattle.dv_change.specs.Positions.{PosTree}
+use Rattle.dv_change.specs.Raised.{raised}
+use Rattle.dv_change.specs.Work.{owed_by}
 use Rattle.dv_flow.specs.declared.by_row.RowOperator.{RowOperator}
+use Rattle.dv_flow.specs.declared.by_row.RowsApart.{RowsApart}
 use Rattle.dv_flow.specs.declared.row_turn.RowTurn.{RowTurn}
 
--- whatever rows it made the kept ones of, where this one was at a position: these are what it made of that one
-abbrev pub AreMadeOf : (Positioned → Positioned) → Positioned → PosTree → Option (List Field) → Positioned → Type 0
-AreMadeOf makes made pos row rows = (left : Positioned) → IsPositioned left → made ≡ makes left → at pos left ≡ row → rows ≡ makes (alone pos row)
+-- two lists that differ as others do
+abbrev pub AreApart : Positioned → Positioned → RowsApart → Type 0
+AreApart old new rows = diff_told rows.old rows.new ≡ diff_told old new
+
+module _ (makes : Positioned → Positioned) where
+  -- whatever rows it made the kept ones of, where any are kept and this one was at a position
+  abbrev WhateverIsKept : Option Positioned → PosTree → Option (List Field) → Type 0 → Type 0
+  WhateverIsKept kept pos row P = (left : Positioned) → IsPositioned left → AreKept kept (makes left) → at pos left ≡ row → P
+
+  -- these are what it made of that one
+  abbrev pub WereMadeOf : Option Positioned → PosTree → Option (List Field) → Positioned → Type 0
+  WereMadeOf kept pos row rows = WhateverIsKept kept pos row (rows ≡ makes (alone pos row))
+
+  abbrev pub AreMadeOf : Positioned → PosTree → Option (List Field) → Positioned → Type 0
+  AreMadeOf kept pos row rows = WereMadeOf (Some kept) pos row rows
+
+  -- these lists differ as what it made of that one and what it makes of the one that is there now
+  abbrev pub TellsApart : Option Positioned → Taken → RowsApart → Type 0
+  TellsApart kept taken rows = WhateverIsKept kept taken.pos taken.old (AreApart (makes (alone taken.pos taken.old)) (makes (alone taken.pos taken.new)) rows)
 
 module _ {S : Type 0} where
   -- the operator keeps no row: it may have taken in any at exact positions, in their order, and no list
   pub record HoldsRows (o : RowOperator S) (others : List Positioned) (left : Positioned) : Type 0 where
     pub positioned : IsPositioned left
     pub none : others ≡ []
+
+  -- what it makes; it looks into no list
+  abbrev pub row_makes : (S → Positioned → Positioned) → RowOperator S → List Positioned → Positioned → Positioned
+  row_makes makes o others rows = makes o.stage rows
+
+  module _ (makes : S → Positioned → Positioned) (o : RowOperator S) (input : Input) (taken : Taken) (kept : Option Positioned) where
+    -- what it returns are the changes of its rows, where those that it has made may be kept
+    abbrev pub ReturnsKept : List Taken → List Taken → Type 0
+    ReturnsKept before now = WhateverIsHeld (HoldsRows o) input taken (λ others left change. AreKept kept (makes o.stage left) → now ≡ before ++ told_along (makes o.stage left) (owed_by input change (row_makes makes o) others left))
+
+    -- its count rises by 1 for the change and 1 for each that it returns
+    abbrev pub CountsKept : ℕ → ℕ → Type 0
+    CountsKept before now = WhateverIsHeld (HoldsRows o) input taken (λ others left change. AreKept kept (makes o.stage left) → now ≡ raised before (1 + length (owed_by input change (row_makes makes o) others left)))
 
   -- the stage of a turn
   abbrev pub rows_stage : RowTurn S → S

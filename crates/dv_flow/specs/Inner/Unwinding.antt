@@ -1,5 +1,5 @@
 -- The rows of each row's elements, by positions.
-use Rattle.std.specs.Prelude.{◌≡◌, ℕ, suc, Bool, true, false, List, [], ◌∷◌, ◌++◌, length, None, refl}
+use Rattle.std.specs.Prelude.{◌≡◌, ℕ, suc, Bool, true, false, List, [], ◌∷◌, ◌++◌, length, None, refl, slice_index_or, if◌then◌else◌}
 use Rattle.std.proofs.Common.{ap, append-nil, sym, ◌∙◌}
 use Rattle.std.specs.declared.cmp.Ordering.TheVariants.{Equal}
 use Rattle.std.specs.Cmp.{Equal-is}
@@ -26,7 +26,12 @@ but_last (a ∷ b ∷ p) = a ∷ but_last (b ∷ p)
 abbrev rows_of : Unwind → PosTree × List Field → Positioned
 rows_of u e = rows_numbered 0 e.0 (unwound u e.1)
 
-behind-exact : (p : PosTree) (i : ℕ) → IsExact p → IsExact (p ++ At i ∷ [])
+-- rows at positions that continue `pos` by numbers, counted from i, but for those whose numbers are marked
+abbrev pub rows_unmarked : List Bool → ℕ → PosTree → List (List Field) → Positioned
+rows_unmarked marked i pos [] = []
+rows_unmarked marked i pos (d ∷ ds) = if slice_index_or marked i false then rows_unmarked marked (suc i) pos ds else (pos ++ At i ∷ [], d) ∷ rows_unmarked marked (suc i) pos ds
+
+pub behind-exact : (p : PosTree) (i : ℕ) → IsExact p → IsExact (p ++ At i ∷ [])
 behind-exact [] i x = (tt, tt)
 behind-exact (a ∷ p) i x = (x.0, behind-exact p i x.1)
 
@@ -34,7 +39,7 @@ behind-length : (p : PosTree) (i : ℕ) → length (p ++ At i ∷ []) ≡ suc (l
 behind-length [] i = refl
 behind-length (a ∷ p) i = ap suc (behind-length p i)
 
-numbered-exact : (i : ℕ) (p : PosTree) (ds : List (List Field)) → IsExact p → AllByRecursion IsExact (keys_of (rows_numbered i p ds))
+pub numbered-exact : (i : ℕ) (p : PosTree) (ds : List (List Field)) → IsExact p → AllByRecursion IsExact (keys_of (rows_numbered i p ds))
 numbered-exact i p [] x = tt
 numbered-exact i p (d ∷ ds) x = (behind-exact p i x, numbered-exact (suc i) p ds x)
 

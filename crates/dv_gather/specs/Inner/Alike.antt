@@ -1,6 +1,6 @@
 -- Documents whose first names are those of a row.
 use Rattle.std.specs.Prelude.{◌≡◌, ℕ, List, [], ◌∷◌, Some, length, map, slice_get, ⊤}
-use Rattle.dv_value.specs.Tree.{Tree, Field}
+use Rattle.dv_value.specs.Tree.{Tree}
 use Rattle.dv_row.specs.Row.{Row}
 
 -- the names of the row are the first ones of the document

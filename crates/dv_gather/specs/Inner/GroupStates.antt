@@ -1,5 +1,5 @@
 -- What groups hold, each a key and the states of its accumulators, and what a row that is added changes in it: words of bodies.
-use Rattle.std.specs.Prelude.{◌≡◌, ℕ, suc, List, [], ◌∷◌, map, Some, None, codes}
+use Rattle.std.specs.Prelude.{ℕ, suc, List, [], ◌∷◌, map, Some, None, codes}
 use Rattle.std.specs.Option.{unwrap_or}
 use Rattle.std.specs.Map.{lookup}
 use Rattle.std.specs.BTreeMap.{insert_entry, is_at}
@@ -77,9 +77,9 @@ abbrev pub row_of_values : List Accumulation → List Tree → Row
 row_of_values fields [] = []
 row_of_values fields (k ∷ vs) = with_named fields vs ((codes "_id", k) ∷ [])
 
--- whether this is the row of some values
-abbrev pub IsRowOf : List Accumulation → Row → Type 0
-IsRowOf fields d = (vs : List Tree) × (d ≡ row_of_values fields vs)
+-- the names of the row of a group, where none is left out
+abbrev pub row_names : List Accumulation → List (List ℕ)
+row_names fields = codes "_id" ∷ map (λ a. a.name) fields
 
 abbrev pub key_or_null : List Tree → Tree
 key_or_null [] = null

@@ -1,11 +1,11 @@
 -- What a group holds for one accumulator, over its rows, and how it changes as a row is added or removed: words of bodies.
 use Rattle.std.specs.Prelude.{ℕ, zero, suc, ◌+◌, ◌-◌, ℤ, pos, ◌+ℤ◌, ◌-ℤ◌, nat_eq, cond, List, [], ◌∷◌, Option, None, Some}
 use Rattle.std.specs.Map.{values_of}
-use Rattle.dv_value.specs.Tree.{Field, Tree, array, elements_of, null}
+use Rattle.dv_value.specs.Tree.{Tree, array, elements_of, null}
 use Rattle.dv_order.specs.Order.{canon}
 use Rattle.dv_order.specs.Key.{value}
 use Rattle.dv_candidates.specs.Candidates.{or_null}
-use Rattle.dv_row.specs.Expressions.{value_of, with_field_behind}
+use Rattle.dv_row.specs.Expressions.{value_of}
 use Rattle.dv_row.specs.Row.{Row}
 use Rattle.dv_change.specs.declared.position.Part.{Part}
 use Rattle.dv_change.specs.declared.position.Part.TheVariants.{Up, Down}
@@ -145,6 +145,11 @@ abbrev pub states_after_from : RowChange → PosTree → Row → ℕ → List Ac
 states_after_from change p d i [] ts = ts
 states_after_from change p d i (a ∷ fields) ts = states_after_from change p d (suc i) fields (states_after_at change p d i a ts)
 
+-- of a row, where there is one
+abbrev pub states_after_some : RowChange → PosTree → Option Row → List Accumulation → List AccumulatorState → List AccumulatorState
+states_after_some change p None fields ts = ts
+states_after_some change p (Some d) fields ts = states_after_from change p d 0 fields ts
+
 -- ---- values of states
 
 -- what the accumulator returns for the values
@@ -153,8 +158,8 @@ state_value a (sum_state n int64s) = spelled (nat_eq int64s 0) n
 state_value a (extreme_state rows) = value_of_first a rows
 state_value a (array_state vs) = array (elements_of (values_in vs))
 
--- fields, and behind them the values of the states
-abbrev pub with_state_values : List Accumulation → List AccumulatorState → List Field → List Field
-with_state_values [] ts fs = fs
-with_state_values (a ∷ fields) [] fs = fs
-with_state_values (a ∷ fields) (t ∷ ts) fs = with_state_values fields ts (with_field_behind a.name (Some (state_value a t)) fs)
+-- the values of the states of fields
+abbrev pub state_values : List Accumulation → List AccumulatorState → List Tree
+state_values [] ts = []
+state_values (a ∷ fields) [] = []
+state_values (a ∷ fields) (t ∷ ts) = state_value a t ∷ state_values fields ts

@@ -11,7 +11,7 @@ use Rattle.dv_row.specs.Row.{Row}
 use Rattle.dv_change.specs.declared.position.Part.TheVariants.{Up}
 use Rattle.dv_change.specs.declared.taking.Taken.{Taken}
 use Rattle.dv_change.specs.Changes.{Positioned, forget}
-use Rattle.dv_change.specs.Inner.Changes.{IsPositioned}
+use Rattle.dv_change.specs.Inner.Changes.{IsPositioned, alone}
 use Rattle.dv_change.specs.Inner.Ordered.{gone, put}
 use Rattle.dv_change.specs.Inner.Told.{diff_told}
 use Rattle.dv_change.specs.Positions.{PosTree}
@@ -19,6 +19,7 @@ use Rattle.dv_gather.specs.Grouping.{Grouping, key_in, row_shown}
 use Rattle.dv_group.specs.declared.live_group.LiveGroup.{LiveGroup}
 use Rattle.dv_group.specs.declared.transition.Transition.{Transition}
 use Rattle.dv_group.specs.declared.transition.Transitions.{Transitions}
+use Rattle.dv_group.specs.declared.transition.Transitions.TheVariants.{One, Several}
 use Rattle.dv_group.specs.declared.transition.RowsWanted.{RowsWanted}
 use Rattle.dv_group.specs.declared.transition.RowsWanted.TheVariants.{Unwanted, Wanted}
 use Rattle.dv_group.specs.Inner.SumBounds.{IsGroupState}
@@ -138,6 +139,10 @@ abbrev pub IsShownIfWanted : RowsWanted → Grouping → Positioned → Option R
 IsShownIfWanted Unwanted g rows row = row ≡ None
 IsShownIfWanted (Wanted lender) g rows row = row ≡ row_shown g (forget rows)
 
+-- what is shown by one wish is shown by the other one, too
+abbrev pub ShowAlike : RowsWanted → RowsWanted → Type 0
+ShowAlike wish other = (g : Grouping) (rows : Positioned) (row : Option Row) → IsShownIfWanted other g rows row → IsShownIfWanted wish g rows row
+
 -- the rows of a group before a change of its rows, and after it
 abbrev pub IsTransition : RowsWanted → Grouping → Positioned → Positioned → Transition → Type 0
 IsTransition wish g was now transition = IsShownIfWanted wish g was transition.before × IsShownIfWanted wish g now transition.after
@@ -152,10 +157,19 @@ abbrev pub with_row : Option KeyTree → Option Row → Positioned → Positione
 with_row None row rows = rows
 with_row (Some k) row rows = put_some (Up k ∷ []) row rows
 
+-- the rows before a change, and after it
+abbrev pub rows_before : Transitions → Positioned
+rows_before (One place transition) = alone place transition.before
+rows_before (Several before after) = before
+
+abbrev pub rows_after : Transitions → Positioned
+rows_after (One place transition) = alone place transition.after
+rows_after (Several before after) = after
+
 -- the rows of the groups of two keys before a change and after it, where they are wanted
 abbrev pub AreTransitions : RowsWanted → Grouping → (KeyTree → Positioned) → (KeyTree → Positioned) → Option KeyTree → Option KeyTree → Transitions → Type 0
 AreTransitions Unwanted g was now key other transitions = ⊤
-AreTransitions (Wanted lender) g was now key other transitions = (transitions.before ≡ shown_of g was key other) × (transitions.after ≡ shown_of g now key other)
+AreTransitions (Wanted lender) g was now key other transitions = (rows_before transitions ≡ shown_of g was key other) × (rows_after transitions ≡ shown_of g now key other)
 
 -- the same of groups before a change and after it: for a key, for two keys, and for those of a change that is told
 abbrev pub IsTransitionOfKey : RowsWanted → Grouping → LiveGroups → LiveGroups → Option KeyTree → Transition → Type 0

@@ -1,5 +1,5 @@
 -- The rows of an $unwind by what they are made of.
-use Rattle.std.specs.Prelude.{ℕ, true, false, List, [], ◌∷◌, map, Some, None}
+use Rattle.std.specs.Prelude.{◌≡◌, ℕ, Bool, true, false, List, [], ◌∷◌, map, Some, None, slice_get, slice_index_or}
 use Rattle.dv_value.specs.View.{tree}
 use Rattle.dv_row.specs.Inner.Crossings.{set_on_way}
 use Rattle.dv_row.specs.declared.unwound_rows.Origin.{Origin}
@@ -20,3 +20,7 @@ rows_of_origin Nothing = []
 rows_of_origin (Itself row) = row.now ∷ []
 rows_of_origin (Emptied way) = set_on_way way None ∷ []
 rows_of_origin (Elements way elements) = map (λ v. set_on_way way (Some (tree v))) elements.now
+
+-- where it is marked, a row is the same as the one at its place among others
+abbrev pub AreCommon : List Row → List Row → List Bool → Type 0
+AreCommon rows others marks = (i : ℕ) → slice_index_or marks i false ≡ true → slice_get rows i ≡ slice_get others i

@@ -1,5 +1,5 @@
 -- Each change takes them one row further.
-use Rattle.std.proofs.Common.{rules, ◌≡◌, ◌∙◌, ◌++◌, ◌∷◌, [], List, ap, subst, sym}
+use Rattle.std.proofs.Common.{rules, ◌≡◌, ◌∙◌, ◌∷◌, [], List, subst, sym}
 use Rattle.std.specs.Vec.Iter.{into_iter_items}
 use Rattle.dv_change.specs.declared.taking.Taken.{Taken}
 use Rattle.dv_change.specs.Inner.Fed.{AreFilling}
@@ -23,11 +23,10 @@ changes-preserved g c =
     let o = g.O.Operator in
     let laws = g.met.O.Operator in
     record {
-      sound = c.in_ok-take_all.ensures.sound;
+      sound = c.in_ok-take_one.ensures.sound;
       filling = λ forms changes held exact are.
           let rest : into_iter_items c.changes.taken-iterator ≡ c.in-Some.taken ∷ into_iter_items c.next.new.self = search rules in
-          let only : c.push.new.self.items ≡ c.in-Some.taken ∷ [] = c.in_ok-push.ensures.items ∙ ap (λ some. some ++ c.in-Some.taken ∷ []) c.in_ok-one.ensures.items in
-          filling-next o.makes o.holds laws.positioned laws.ordered forms changes c.changes.operators c.take_all.new.operators c.in-Some.taken (into_iter_items c.next.new.self) c.push.new.self.items c.changes.made.items c.take_all.new.out.items c.changes.ticks c.take_all.new.ticks only c.in_ok-take_all.ensures.passed
+          filling-next o.makes o.holds laws.positioned laws.ordered forms changes c.changes.operators c.take_one.new.operators c.in-Some.taken (into_iter_items c.next.new.self) c.changes.made.items c.take_one.new.out.items c.changes.ticks c.take_one.new.ticks c.in_ok-take_one.ensures.passed
           (subst (λ (items : List Taken). AreFilling o.makes o.holds c.changes.operators forms items changes c.changes.made.items) rest (c.changes.invariant.filling forms changes held exact are));
     }
 

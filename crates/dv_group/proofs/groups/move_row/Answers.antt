@@ -2,7 +2,7 @@
 use Rattle.std.proofs.Common.{rules, ◌≡◌, ◌∙◌, ap, cond, false, true}
 use Rattle.dv_change.specs.Inner.Ordered.{gone}
 use Rattle.dv_change.specs.Positions.{PosTree}
-use Rattle.dv_group.specs.Inner.Members.{are_one, group_members, is_key, with_row}
+use Rattle.dv_group.specs.Inner.Members.{are_one, group_members, is_key}
 use Rattle.dv_group.proofs.Transitions.{one-shown, two-shown}
 use Rattle.dv_group.proofs.Under.{stays-one}
 use Rattle.dv_group.proofs.groups.move_row.Goals as goal
@@ -15,20 +15,12 @@ returns-then-are_one-clause-rows c =
 pub returns-then-are_one-clause-shown : goal.returns-then-are_one-clause-shown
 returns-then-are_one-clause-shown c =
     let one : are_one c.args.key.now c.args.other.now ≡ true = search rules in
-    let transition = c.in_ok-transition.transition in
-    one-shown c.args.group.now c.args.wish c.args.groups.now.entries c.set_in.new.groups.entries c.args.key.now c.args.other.now transition c.in_ok-one.one one c.in_ok-transition.ensures.shown
-    (c.in_ok-one.ensures.before ∙ ap (with_row c.args.key.now transition.before) c.none-empty.ensures.before)
-    (c.in_ok-one.ensures.after ∙ ap (with_row c.args.key.now transition.after) c.none-empty.ensures.after)
+    one-shown c.args.group.now c.args.wish c.args.groups.now.entries c.set_in.new.groups.entries c.args.key.now c.args.other.now c.in_ok-transition.transition c.in_ok-one.one one c.in_ok-transition.ensures.shown c.in_ok-one.ensures.before c.in_ok-one.ensures.after
 
 pub returns-clause-shown : goal.returns-clause-shown
 returns-clause-shown c =
     let apart : are_one c.args.key.now c.args.other.now ≡ false = search rules in
-    let goes = c.in_ok-left.left in
-    let comes = c.in_ok-come.come in
     let es = c.args.groups.now.entries in
     two-shown c.args.group.now es c.set_in-2.new.groups.entries c.set_in-3.new.groups.entries c.args.pos c.args.key.now c.args.other.now c.args.new apart
     (λ k. c.in_ok-left.ensures.rows k ∙ ap (λ (pos : PosTree). cond (is_key k c.args.key.now) (gone pos (group_members k es)) (group_members k es)) c.in_ok-place.ensures)
-    c.in_ok-come.ensures.rows c.args.wish goes comes c.in_ok-first.first c.in_ok-both.both c.in_ok-left.ensures.shown c.in_ok-come.ensures.shown
-    (c.in_ok-first.ensures.before ∙ ap (with_row c.args.key.now goes.before) c.none-empty.ensures.before)
-    (c.in_ok-first.ensures.after ∙ ap (with_row c.args.key.now goes.after) c.none-empty.ensures.after)
-    c.in_ok-both.ensures.before c.in_ok-both.ensures.after
+    c.in_ok-come.ensures.rows c.args.wish c.in_ok-left.left c.in_ok-come.come c.in_ok-both.both c.in_ok-left.ensures.shown c.in_ok-come.ensures.shown c.in_ok-both.ensures.before c.in_ok-both.ensures.after

@@ -10,4 +10,4 @@ pub returns-clause-rows : goal.returns-clause-rows
 returns-clause-rows c = ap (λ (b : GroupState). b.members) c.settle.ensures.state ∙ c.in_ok-set.ensures.rows
 
 pub returns-clause-shown : goal.returns-clause-shown
-returns-clause-shown c = (c.in_ok-before.ensures, c.in_ok-after.ensures.shown)
+returns-clause-shown c = (c.in_ok-before.ensures, c.beside.ensures c.args.group.now c.settle.new.self.state.members c.in_ok-after.after c.in_ok-after.ensures.shown)
