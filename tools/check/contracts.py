@@ -12,6 +12,8 @@ BLOCK = re.compile(r"^(?P<pub>pub )?(?P<kind>impl|trait)\b(?P<head>[^{]*)\{", re
 FUNCTION = re.compile(r"^(?P<indent> *)(?P<pub>pub(?:\([^)]*\))? )?(?:const )?fn (?P<name>\w+)", re.M)
 CLAUSE = re.compile(r"\b(?:requires|ensures)(?: \w+)?\s*$")
 TYPE = re.compile(r"^(?P<pub>pub )?(?:struct|enum) (?P<name>\w+)", re.M)
+DECLARED = re.compile(r"^pub (?:struct|enum|trait|(?:const )?fn|const|type) (\w+)", re.M)
+PASSED_ON = re.compile(r"^pub use (dv_\w+)::(?:\{([^}]*)\}|(\w+));", re.M)
 MEMBER = re.compile(r"^ +ghost (?P<name>\w+)\s*[=:]\s*", re.M)
 # Ghost members of an implementation that are proofs, or invariants; the others say what something means.
 SERVES_PROOFS = {"coded", "even", "empty", "exact", "from_gives", "invariant", "is_clone", "laws", "matches_eq", "matches_partial_cmp",
@@ -76,9 +78,9 @@ class Source:
 
 
 class Crate:
-    """The contracts of a crate."""
+    """The contracts of a crate: of all that its root passes on, or of these names alone."""
 
-    def __init__(self, root, name):
+    def __init__(self, root, name, names=None):
         self.name, self.folder = name, pathlib.Path(root, "crates", name, "src")
         self.sources = {}
         top = next(it for it in (self.folder / "lib.rt", self.folder / "main.rt") if it.is_file())
@@ -86,10 +88,11 @@ class Crate:
             module = "" if path == top else "::".join(path.relative_to(self.folder).with_suffix("").parts)
             if "tests" not in module.split("::"):
                 self.sources[module] = Source(path, module)
-        self.exported = self._exported()
+        exported = self._exported()
+        self.exported = exported if names is None else {(module, name) for module, name in exported if name in names}
 
     def _exported(self):
-        """(module, name) of what the root passes on; a name `*` is all of a public module."""
+        """(module, name) of what the root passes on, with all that a public module has."""
         found, text = set(), self.sources[""].text
         for path, names in re.findall(r"^pub use ([\w:]+?)::(?:\{([^}]*)\}|(?=\w+;))", text, re.M):
             for name in names.split(","):
@@ -97,12 +100,21 @@ class Crate:
         for path in re.findall(r"^pub use ([\w:]+);", text, re.M):
             head, _, name = path.removeprefix("crate::").rpartition("::")
             found.add((head, name))
-        found.update((module, "*") for module in re.findall(r"^pub mod (\w+);", text, re.M))
-        found.update(("", name) for name in re.findall(r"^pub (?:struct|enum|trait|fn|const|type) (\w+)", text, re.M))
+        public = {"", *re.findall(r"^pub mod (\w+);", text, re.M)}
+        for module, source in self.sources.items():
+            if module.split("::")[0] in public:
+                found.update((module, name) for name in DECLARED.findall(source.text))
+        return found
+
+    def passed_on(self):
+        """The names of other crates that the root passes on: {crate: names}."""
+        found = {}
+        for crate, names, name in PASSED_ON.findall(self.sources[""].text):
+            found.setdefault(crate, set()).update(one.strip() for one in (names or name).split(","))
         return found
 
     def is_exported(self, module, name):
-        return (module, name) in self.exported or any((module.split("::")[0], "*") == it for it in self.exported)
+        return (module, name) in self.exported
 
     def is_type_exported(self, name):
         return any(it == name for _, it in self.exported)

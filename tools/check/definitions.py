@@ -150,7 +150,7 @@ class Definitions:
                     kind = match["kind"]
                     behind = self._with_clauses(behind, end, indent)
                     is_type = "record" in kind or "data" in kind
-                    names = [match["name"], *(self._members(at + 1, behind, indent + "  ") if is_type else [])]
+                    names = [match["name"], *(self._members(at + 1, behind, indent + "  ") if "data" in kind else [])]
                     what = "lemma" if kind in ("pub", "") else "type" if is_type else "definition"
                     yield Item(what, names, [match["name"]], above, self.lines[above:behind])
             above = at = behind
@@ -218,7 +218,7 @@ class Everything:
         module = Module(crate, name)
         return self.passed_on.get(module, module)
 
-    def imports(self, text, crate=None):
+    def imports(self, text):
         """What the words of a text stand for: {word: (module, name)}, and {qualifier: module}."""
         words, modules = {}, {}
         for path, names, alias in use_lines(text):

@@ -26,7 +26,6 @@ LONG, TOO_LONG = 160, 220  # characters of a clause
 SHARED = 120  # characters from which on equal lemmas are counted
 CLAUSE = re.compile(r"\b(?:requires|ensures)(?: \w+)? *\{")
 TYPE = re.compile(r"^(?:pub(?:\([^)]*\))? )?(?:struct|enum|trait) (\w+)", re.M)
-PASSED_ON = re.compile(r"^pub use (dv_\w+)::(?:\{([^}]*)\}|(\w+));", re.M)
 LAW = re.compile(r"^ *(?:pub(?:\([^)]*\))? )?fn (\w+)(?:<[^>]*>)?\((?:(?!mut )[^()])*\)\s*(?:requires|ensures)", re.M)
 DROPPED = re.compile(r"^ *let _ = [\w.]+\.len\(\);", re.M)
 BY_PLACE = re.compile(r"for place in [\w.]+\.\.\w+\.len\(\) \{\s*(?:let|if let|match)[^;{]*\.(?:entry|field)\(place\)")
@@ -73,7 +72,7 @@ class Sources:
             if path.name == "lib.rt":
                 others = "\n".join(other for file, other in self.texts.items() if crate_of(file) != crate_of(path))
                 taken = set(re.findall(r"\w+", " ".join(re.findall(r"\b%s::(\{[^}]*\}|\w+)" % crate_of(path), others))))
-                for match in PASSED_ON.finditer(text):
+                for match in contracts.PASSED_ON.finditer(text):
                     names = re.findall(r"\w+", match[2] or match[3])
                     found += ["%s %s" % (at(path, text, match.start()), name) for name in names if name not in taken]
         return found

@@ -17,7 +17,7 @@ import sys
 from collections import defaultdict
 
 import contracts
-from definitions import Everything, Module, ROOT, below, use_lines, words_of
+from definitions import Everything, ROOT, below, use_lines, words_of
 
 GIVEN = pathlib.Path(__file__).resolve().with_name("trust.txt")
 
@@ -30,7 +30,6 @@ class Given:
         self.program = [words[1] for words in lines if words[0] == "program"]
         self.doors = self.program + [words[1] for words in lines if words[0] == "door"]
         self.examples = {words[1] for words in lines if words[0] == "examples"}
-        self.forced = {(Module(*words[1:3]), Module(*words[3:5])) for words in lines if words[0] == "forced"}
 
 
 class Trust:
@@ -56,10 +55,8 @@ class Trust:
 
     def _believed(self, doors):
         left = []
-        for name in self.all.crates:
-            if name in doors:
-                for clause in contracts.Crate(self.all.root, name).clauses():
-                    left += [(pair, clause) for pair in self.all.named(words_of(clause.text), clause.imports)]
+        for clause in self._clauses(doors):
+            left += [(pair, clause) for pair in self.all.named(words_of(clause.text), clause.imports)]
         while left:
             pair, cause = left.pop(0)
             is_example = pair[0].name.split(".")[-1] in self.given.examples
@@ -67,6 +64,14 @@ class Trust:
                 self.causes[pair] = cause
                 left += [(other, pair) for other in self.all.needs(pair)]
         return {id(self.all.owner[pair]) for pair in self.causes}
+
+    def _clauses(self, doors):
+        """The clauses of these crates, and of what they pass on of others."""
+        left = [(name, None) for name in self.all.crates if name in doors]
+        while left:
+            crate = contracts.Crate(self.all.root, *left.pop(0))
+            yield from crate.clauses()
+            left += crate.passed_on().items()
 
     def why(self, name):
         """For each definition of a name that has to be believed, what names it, up to a contract."""
@@ -103,11 +108,9 @@ def faults(trust):
             yield "%s has nothing that must be believed" % shown(module)
         if not file.is_inner:
             for target in sorted(imported(everything, file)):
-                if (module, target) not in trust.given.forced:
-                    yield "%s imports %s" % (shown(module), shown(target))
-    text = page(trust).read_text()
-    if text.startswith(WRITTEN) and text != definitions(trust):
-        yield "docs/DEFINITIONS.md is not what --definitions writes"
+                yield "%s imports %s" % (shown(module), shown(target))
+    if page(trust).read_text() != definitions(trust):
+        yield "docs/DEFINITIONS.md is not what --definitions writes: run tools/check/trust.py --definitions"
 
 
 def shown(module):
@@ -130,7 +133,8 @@ WRITTEN = "<!-- tools/check/trust.py --definitions writes this page -->"
 BEGINNING = """# Definitions
 
 This page lists what a user of the program has to believe, and a user of the libraries %s: the definitions that their contracts and
-laws are written in, by crate and file, in reading order, each with the comment above it. Each file names the part of the public
+laws, and those of what they pass on from other libraries, are written in, by crate and file, in reading order, each with the comment
+above it. Each file names the part of the public
 standard that it restates. Lemmas, which are proved, and definitions that serve only proofs are not listed. Most of them are in
 folders `Inner`.
 

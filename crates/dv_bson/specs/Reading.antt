@@ -24,8 +24,8 @@ abbrev pub Gives : {X Y : Type 0} → (X → Y) → Result X ReadError → Resul
 Gives view (Ok x) read = read ≡ Ok (view x)
 Gives view (Err e) read = Fails e read
 
--- The int32 at the start, as a count; none if there are fewer than four bytes. A negative number gives 0, which is refused in the same
--- way wherever a count is read.
+-- The int32 at the start, as a count; none if there are fewer than four bytes. A negative number gives 0, which is too small for a string
+-- and for a document. The count of a binary, which may be 0, is read apart.
 unfoldable pub count_at : List ℕ → Option ℕ
 count_at bytes =
     if nat_lt (length bytes) 4 then None

@@ -360,7 +360,7 @@ fn outermost_of(
 pub fn read_document(alloc: Global, bytes: &[u8]) -> Result<(Document, usize), BsonFault>
     // What is read is spelled so, and fits.
     ensures found { IfOk result (λ read. (read.1 ≤ length bytes.now) × Spells read.0 (take read.1 bytes.now) × Fits read.0) }
-    // What is spelled at the front and fits is read, unless memory is wanting.
+    // What is spelled at the front and fits is read, unless memory runs out.
     ensures only { EachSpelled bytes.now (λ d spelled. MatchResult result (λ read. (read.0 ≡ d) × (read.1 ≡ length spelled)) (λ e. e ≡ BsonFault.NoMemory)) }
     // Which document, or which fault it is.
     ensures exact { IfOk result (λ read. document_at bytes.now ≡ Ok (read.0, read.1)) }
@@ -379,7 +379,7 @@ pub fn read_document_like(
 ) -> Result<(Document, usize), BsonFault>
     // What is read is spelled so, and fits.
     ensures found { IfOk result (λ read. (read.1 ≤ length bytes.now) × Spells read.0 (take read.1 bytes.now) × Fits read.0) }
-    // What is spelled at the front and fits is read, unless memory is wanting.
+    // What is spelled at the front and fits is read, unless memory runs out.
     ensures only { EachSpelled bytes.now (λ d spelled. MatchResult result (λ read. (read.0 ≡ d) × (read.1 ≡ length spelled)) (λ e. e ≡ BsonFault.NoMemory)) }
     // Which document, or which fault it is.
     ensures exact { IfOk result (λ read. document_at bytes.now ≡ Ok (read.0, read.1)) }

@@ -175,7 +175,7 @@ fn outermost_len(alloc: Global, bytes: &[u8]) -> Result<usize, ReadError>
 pub fn check_document(alloc: Global, bytes: &[u8]) -> Result<usize, BsonFault>
     // What passes is the spelling of a document, which fits.
     ensures found { IfOk result (λ len. (d : Entries Field) × (len ≤ length bytes.now) × Spells d (take len bytes.now) × Fits d) }
-    // What is spelled at the front and fits passes, unless memory is wanting.
+    // What is spelled at the front and fits passes, unless memory runs out.
     ensures only { EachSpelled bytes.now (λ d spelled. MatchResult result (λ len. len ≡ length spelled) (λ e. e ≡ BsonFault.NoMemory)) }
     // How long the document is that would be read, or which fault it is.
     ensures exact { IfOk result (λ len. (d : Entries Field) × (document_at bytes.now ≡ Ok (d, len))) }

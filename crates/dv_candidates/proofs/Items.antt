@@ -1,8 +1,8 @@
 -- Items that a loop or a call reads, as what is seen of them.
-use Rattle.std.proofs.Common.{◌≡◌, ℕ, zero, suc, ◌≤◌, ◌<◌, List, [], ◌∷◌, length, map, get_or, Option, Some, refl, sym, ap, arith, Bool, true, false, if◌then◌else◌}
+use Rattle.std.proofs.Common.{◌≡◌, ℕ, zero, suc, ◌≤◌, ◌<◌, List, [], ◌∷◌, length, map, get_or, Option, Some, refl, ap, arith, Bool, true, false, if◌then◌else◌}
 use Rattle.std.specs.Str.{bytes_eq}
 use Rattle.dv_value.specs.declared.value.Value.{Value}
-use Rattle.dv_value.specs.Tree.{Tree, document, Field, fields_of, elements_of}
+use Rattle.dv_value.specs.Tree.{Tree, Field, fields_of, elements_of}
 use Rattle.dv_value.specs.Inner.Tree.{weight, fields_weight, elements_weight}
 use Rattle.dv_value.specs.Names.{value_under}
 use Rattle.dv_value.specs.View.{tree}
@@ -35,6 +35,3 @@ no_document v none h = h
 
 pub a_document : (v : Value) (d : List Field) → v ≡ Value.Doc d → IsDocument (tree v)
 a_document v d e = rw e tt
-
-pub document_tree : (v : Value) (d : List Field) → v ≡ Value.Doc d → document (fields_of d) ≡ tree v
-document_tree v d e = ap tree (sym e)

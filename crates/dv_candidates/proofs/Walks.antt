@@ -58,9 +58,6 @@ module _ {names : List (List ℕ)} {s part : Places} {test : List ℕ → Bool} 
   pub behind-within : IsWithin (drop 1 names) part
   behind-within = record { within = λ place h. one_less names place (part-before.before place h) }
 
-pub before-within : (names : List (List ℕ)) (s : Places) → IsBefore names s → IsWithin names s
-before-within names s b = record { within = λ place h. omega (arith, b.before place h) }
-
 -- the end itself
 module _ {names : List (List ℕ)} {s part : Places} (is : IsPart names s part (λ _. true)) (within : IsWithin names s) where
   apart_from_end : (place : ℕ) → has s place ≡ true → (place ≡ length names) ⊎ (has part place ≡ true)

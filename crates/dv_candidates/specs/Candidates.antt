@@ -14,7 +14,7 @@ abbrev pub or_null : Candidate → Tree
 or_null None = null
 or_null (Some v) = v
 
--- what a value has under a name: the value there or Missing if it is a document, otherwise no candidate
+-- what a document has under a name: the value there, or Missing; no candidate for any other value
 abbrev pub entered : List ℕ → Tree → List Candidate
 entered name (document fs) = value_under name (list_of_fields fs) ∷ []
 entered name v = []

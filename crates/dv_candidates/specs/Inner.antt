@@ -1,7 +1,5 @@
 -- Definitions and lemmas that need not be believed: invariants, codings, and words of bodies and proofs.
 pub mod Fold
-pub mod Fault
 pub mod Places
 pub mod Onward
-pub mod Components
 pub mod Examples

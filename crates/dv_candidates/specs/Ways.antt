@@ -1,4 +1,4 @@
--- Paths that lead only through documents.
+-- Paths that enter no array.
 use Rattle.std.specs.Prelude.{ℕ, List, [], ◌∷◌, Some, ⊤}
 use Rattle.dv_value.specs.Tree.{document, array, list_of_fields}
 use Rattle.dv_value.specs.Names.{value_under}

@@ -30,7 +30,7 @@ impl Model for Component {
 }
 
 impl Component {
-    /// The component with this name. Fails where memory is wanting.
+    /// The component with this name. Fails when memory runs out.
     pub(crate) fn of(alloc: Global, name: &str) -> Result<Self, NoMemory>
         requires { is_component name.now ≡ true }
         ensures { IfOk result (λ component. component ≡ name.now) }

@@ -22,7 +22,7 @@ pub enum PathFault {
 }
 
 impl PathFault {
-    ghost use Rattle.dv_candidates.specs.Inner.Fault.{path_fault_number};
+    ghost use Rattle.dv_candidates.specs.Fault.{path_fault_number};
 
     /// The fault's number, from 1 in the order in which the faults are declared.
     pub fn number(&self) -> u8
@@ -39,7 +39,7 @@ impl PathFault {
 
 impl fmt::Display for PathFault {
     ghost use Rattle.std.specs.Prelude.{Some};
-    ghost use Rattle.dv_candidates.specs.Inner.Fault.{path_fault_text};
+    ghost use Rattle.dv_candidates.specs.Fault.{path_fault_text};
 
     ghost output = { λ f. Some (path_fault_text f) };
 

@@ -28,7 +28,7 @@ pub struct Path {
 
 impl Model for Path {
     ghost use Rattle.std.specs.Prelude.{◌≢◌, List, [], ℕ};
-    ghost use Rattle.dv_candidates.specs.Inner.Components.{names_of};
+    ghost use Rattle.dv_candidates.specs.Components.{names_of};
 
     ghost Value = { List (List ℕ) };
 
@@ -102,7 +102,7 @@ fn cut(alloc: Global, text: &str) -> Result<Path, PathFault>
     })
 }
 
-/// Copies of the components, in order. Fails where memory is wanting.
+/// Copies of the components, in order. Fails when memory runs out.
 fn copies_of(components: &Vec<Component>) -> Result<Vec<Component>, NoMemory>
     ensures { IfOk result (λ copies. copies.items ≡ components.now.items) }
 {

@@ -4,7 +4,7 @@ ghost use Rattle.std.specs.Prelude.{◌≡◌, ℕ, suc, ◌<◌, ◌==◌, ◌|
 ghost use Rattle.std.specs.Int.{bit_at};
 ghost use Rattle.std.specs.Option.{option_map};
 ghost use Rattle.std.specs.Str.{bytes_eq};
-ghost use Rattle.dv_candidates.specs.Inner.Fold.{Answers};
+ghost use Rattle.dv_candidates.specs.Answering.{Answers};
 ghost use Rattle.dv_candidates.specs.Path.{index_of};
 ghost use Rattle.dv_candidates.specs.Inner.Places.{AreThose, HaveName, IsBefore, follows, has, picks};
 

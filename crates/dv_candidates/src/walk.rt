@@ -17,7 +17,9 @@ use crate::places::Places;
 use crate::sole::sole_candidate;
 use dv_value::{Document, List, Value};
 
-/// Folds the candidates of a path: `f` takes the value from one to the next.
+/// Folds the candidates of the path as a set: `f` takes the value so far and a candidate, and returns the next value. The order of
+/// the candidates is not said, and one may be taken more or less often than it is listed. Stops at the first error of `f`, and
+/// returns it.
 pub fn fold_whole<T, E, F>(document: &Document, path: &Path, seed: T, f: F) -> Result<T, E>
 where
     F: Fn(T, Candidate<'_>) -> Result<T, E>,

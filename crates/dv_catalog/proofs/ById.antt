@@ -17,7 +17,7 @@ use Rattle.dv_order.specs.Inner.KeyLaws.{key_order_total}
 use Rattle.dv_candidates.specs.Candidates.{candidates, whole}
 use Rattle.dv_path.specs.declared.direction.Direction.{Direction}
 use Rattle.dv_path.specs.declared.direction.Direction.TheVariants.{Ascending, Descending}
-use Rattle.dv_path.specs.SortKey.{earliest, keys_of, sort_key, stands_first}
+use Rattle.dv_path.specs.SortKey.{earliest, sort_keys_of, sort_key, stands_first}
 use Rattle.dv_path.specs.SortSpec.{Part}
 use Rattle.dv_coll.specs.Collection.{HasId, IsAscending, IsNoArray, id_key}
 use Rattle.dv_index.specs.Inner.InDirection.{in_direction}
@@ -28,7 +28,7 @@ abbrev Rows : Type 0
 Rows = List (List Field)
 
 -- ---- the key by which `_id` sorts a document
-only-key : (direction : Direction) (v : Tree) → IsNoArray v → earliest direction (flat_map keys_of (Some v ∷ [])) ≡ value (canon v)
+only-key : (direction : Direction) (v : Tree) → IsNoArray v → earliest direction (flat_map sort_keys_of (Some v ∷ [])) ≡ value (canon v)
 only-key direction (array vs) h = absurd h
 only-key direction v h = refl
 
@@ -36,7 +36,7 @@ sort-key-id : (direction : Direction) (d : List Field) → HasId d → sort_key 
 unfolding sort_key whole
 sort-key-id direction [] h = absurd h
 sort-key-id direction (f ∷ fs) h =
-    ap (λ b. earliest direction (flat_map keys_of (flat_map (candidates []) (cond b (Some f.1) (value_under (codes "_id") (list_of_fields (fields_of fs))) ∷ [])))) ((bytes_eq-Decides (codes "_id") f.0).1 (sym h.0)) ∙ only-key direction f.1 h.1
+    ap (λ b. earliest direction (flat_map sort_keys_of (flat_map (candidates []) (cond b (Some f.1) (value_under (codes "_id") (list_of_fields (fields_of fs))) ∷ [])))) ((bytes_eq-Decides (codes "_id") f.0).1 (sym h.0)) ∙ only-key direction f.1 h.1
 
 -- ---- the first path tells any two documents apart
 abbrev Comes : List Field → List Field → Type 0

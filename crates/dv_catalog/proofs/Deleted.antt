@@ -19,10 +19,6 @@ use Rattle.dv_catalog.proofs.Breaking.{gone_breaks_nothing}
 use Rattle.dv_catalog.proofs.Keys.{all_there, own_key, AreThere, AreBefore, before_matching}
 use Rattle.dv_catalog.proofs.Stopping.{first_placed, take_shorter}
 
-none_chosen : (first : Bool) → all_or_first first [] ≡ []
-none_chosen false = refl
-none_chosen true = refl
-
 all_gone : (ds : List (List Field)) → map gone (map id_key ds) ≡ map (λ d. gone (id_key d)) ds
 all_gone [] = refl
 all_gone (d ∷ ds) = ap (λ (rest : List Change). gone (id_key d) ∷ rest) (all_gone ds)

@@ -27,8 +27,8 @@ use Rattle.dv_catalog.specs.Inner.EffectLaws.{done_changes}
 use Rattle.dv_catalog.specs.Inner.EffectView.{AreAble}
 use Rattle.dv_catalog.specs.Effects.{all_or_first, changed_by, delete_chosen, put_new, update_chosen, without as all_going}
 use Rattle.dv_catalog.specs.Inner.Parts.{IsCut, IsRefused, StandBy, changes_made}
-use Rattle.dv_catalog.specs.Marks.{AreMarkedBy, AreMarkedByDrop, AreMarkedSo, AreMarkedWhere, IsMarkedBy, Mark, Marked, Marks, all_gone, live, mark_counted, marks_without, stale}
-use Rattle.dv_catalog.specs.State.{AreOrdered, Collection, Namespaces, State, documents_of, is_collection, lists_of}
+use Rattle.dv_catalog.specs.Marks.{AreMarkedBy, AreMarkedByDrop, AreMarkedSo, AreMarkedWhere, IsMarkedBy, Mark, Marked, Marks, live, mark_counted, marks_without, stale}
+use Rattle.dv_catalog.specs.State.{AreOrdered, Collection, Namespaces, State, is_collection, lists_of}
 use Rattle.dv_catalog.specs.Told.{told}
 use Rattle.dv_catalog.specs.Inner.Told.{AreTold}
 use Rattle.dv_catalog.proofs.Breaking.{idle_done}
@@ -137,11 +137,6 @@ less_one false v vs rest is = ap (λ (marks : List Mark). mark_of v.mark ∷ mar
 pub marks_less : (name : List ℕ) (vs : Views) → marks_of (views_without name vs) ≡ marks_without name (map view_form vs) (marks_of vs)
 marks_less name [] = refl
 marks_less name (v ∷ vs) = less_one (is_view_named name v) v (views_without name vs) (marks_without name (map view_form vs) (marks_of vs)) (marks_less name vs)
-
--- behind a drop of a collection, and of a view
-pub collection_dropped : (name : List ℕ) (state : State) (before after : Marks) → is_collection name state.namespaces ≡ true
-    → AreMarkedBy name (all_gone (documents_of name state.namespaces)) (lists_of state.namespaces) state.views before after → AreMarkedByDrop name state before after
-collection_dropped name state before after there are = subst (λ (b : Bool). AreMarkedWhere b name state before after) (sym there) are
 
 pub marked_dropped : (name : List ℕ) (state : State) (before after : Marks) → is_collection name state.namespaces ≡ false → after ≡ marks_without name state.views before → AreMarkedByDrop name state before after
 marked_dropped name state before after none is = subst (λ (b : Bool). AreMarkedWhere b name state before after) (sym none) is

@@ -123,7 +123,7 @@ module _ (names : List (List ℕ)) where
     pub live_needed : AskedIsNeeded → AreLive (needed (map view_form vs) names) vs → AreLive names vs
     live_needed law all = fewer_live names (needed (map view_form vs) names) (law (map view_form vs) names) vs all
 
-    -- where memory is wanting before
+    -- when memory runs out before
     pub reads_nothing : {B E : Type 0} (result : Result B E) → IsErr result → Reads names (marked_of namespaces vs) result (marked_of namespaces vs)
     reads_nothing (Ok x) is = absurd cc
     reads_nothing (Err e) is = (refl, unread_marks (needed (map view_form vs) names) (map view_form vs) (marks_of vs))

@@ -115,9 +115,6 @@ module _ (names : List (List ℕ)) (lists : Lists) where
       by_side name (inl is) = listed.right name is
       by_side name (inr is) = absurd cc
 
-pub none_yet : (names : List (List ℕ)) (lists : Lists) → AreListed names lists [] names
-none_yet names lists = record { right = λ name is. absurd cc; all = λ name among. inr among }
-
 -- ---- lists in order
 
 abbrev pub AreInOrder : List Source → Type 0

@@ -23,10 +23,6 @@ use Rattle.dv_catalog.specs.Scan.{matching}
 use Rattle.dv_catalog.specs.Effects.{after, changed_by, changes, differs, update_chosen}
 use Rattle.dv_catalog.specs.Inner.EffectLaws.{KeepsId, IsGoodAfter, chosen_good, matching_good, all_changed_good, after_id}
 
-none_chosen : (first : Bool) → all_or_first first [] ≡ []
-none_chosen false = refl
-none_chosen true = refl
-
 updates_of : form.Update → List (List Field) → Result Effect Refusal
 updates_of update ds = changed_by update ds >>= λ changed. Ok (record { matched = length ds; changes = map put changed })
 

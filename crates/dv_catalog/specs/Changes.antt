@@ -65,6 +65,6 @@ breaks indexes (change ∷ changes) documents = clashes_by indexes change docume
 abbrev pub unless_it_breaks : Collection → Effect → Result Effect Refusal
 unless_it_breaks c effect = if breaks c.indexes effect.changes c.documents then Err DuplicateKey else Ok effect
 
--- the effect of a statement on a collection: it is refused for its documents first, then if one of its changes breaks a unique index
+-- the effect of a statement on a collection: it is refused by its own rules first, then if one of its changes breaks a unique index
 abbrev pub done_to : Collection → Statement → Result Effect Refusal
 done_to c statement = statement c.documents >>= unless_it_breaks c

@@ -103,7 +103,7 @@ is_there namespace state = is_collection namespace state.namespaces || is_view n
 abbrev pub without_view : List ℕ → List ViewForm → List ViewForm
 without_view namespace views = filter (λ v. not (has_name namespace v)) views
 
--- the rows of a namespace: a collection's documents, or the rows of a view's pipeline over the current rows of its sources; none if the
+-- the rows of a namespace: a collection's documents, or the rows of a view's pipeline over the current rows of what it reads; none if the
 -- namespace doesn't exist
 abbrev pub rows_of : List ℕ → State → List (List Field)
 rows_of namespace state = rows_over state.views (lists_of state.namespaces) namespace

@@ -4,7 +4,6 @@ use Rattle.dv_change.specs.declared.change.Change as flow
 use Rattle.dv_change.specs.declared.change.Change.TheVariants.{Put, Gone}
 use Rattle.dv_change.specs.declared.position.Part.TheVariants.{Up}
 use Rattle.dv_coll.specs.Collection.{id_key}
-use Rattle.dv_views.specs.Views as views
 use Rattle.dv_catalog.specs.Changes.{Change, put, gone}
 
 -- a change of a document as a change at its position, which is the key of its `_id`

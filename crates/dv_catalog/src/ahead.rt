@@ -21,13 +21,13 @@ use std::alloc::Global;
 /// How often documents are looked at, the last time more than there can be.
 const TRIES: usize = 22;
 /// How many times as many as before are looked at, at least.
-const MORE: usize = 8;
+const LEAST_GROWTH: usize = 8;
 
 /// The first `most` documents that match the filter, in the order of the sort, where an index on the sort's first path finds
 /// them. Of the documents that the index has first those that match are put in order; they are the first ones if there are
-/// enough, and the last is ahead of all that weren't looked at. Else more are looked at: as many as do if matching ones come
-/// at the same rate, and 8 times as many at least. `None` where the index serves for no more: that few match costs no more
-/// than a constant times going through all documents. Fails where memory is wanting.
+/// enough, and the last is ahead of all that weren't looked at. Else more are looked at: as many as do if matching ones come at
+/// the same rate, and 8 times as many at least. `None` where the index serves for no more: that few match costs no more than a
+/// constant times going through all documents. Fails when memory runs out.
 pub(crate) fn first_by_index(
     alloc: Global,
     collection: &IndexedCollection,
@@ -54,7 +54,7 @@ pub(crate) fn first_by_index(
             return Ok(Some(first));
         }
         let times = most / ahead.documents.len().saturating_add(1);
-        least = least.saturating_mul(times.max(MORE));
+        least = least.saturating_mul(times.max(LEAST_GROWTH));
     }
     Ok(None)
 }
@@ -70,7 +70,7 @@ fn ties_of(sort: &SortSpec) -> Ties
 }
 
 /// The first `most` of the documents in the order of the sort, unless there are fewer or the last one isn't ahead of the bar:
-/// they are those of any rows in the order of their `_id`s that have the same ones ahead of the bar. Fails where memory is wanting.
+/// they are those of any rows in the order of their `_id`s that have the same ones ahead of the bar. Fails when memory runs out.
 fn first_of(
     alloc: Global,
     ahead: &Ahead<'_>,

@@ -7,14 +7,11 @@ ghost use Rattle.dv_value.specs.Tree.{Field};
 ghost use Rattle.dv_value.specs.View.{tree};
 ghost use Rattle.dv_match.specs.Match.{matches};
 ghost use Rattle.dv_coll.specs.Collection.{HasId, id_key};
-ghost use Rattle.dv_keyed.specs.Index.{id_form};
-ghost use Rattle.dv_keyed.specs.Inner.Index.{BeginsWithId};
 ghost use Rattle.dv_keyed.specs.Inner.View.{plan_seen};
 ghost use Rattle.dv_catalog.specs.Inner.Asked.{is_asked};
 ghost use Rattle.dv_catalog.specs.Inner.Equalities.{equals_in};
 
-use dv_candidates::Path;
-use dv_index::{Bounds, Index, Indexes, Plan, Planner, laws};
+use dv_index::{Bounds, Indexes, Plan, Planner, laws};
 use dv_keyed::{Interval, keys_of_each};
 use dv_match::Filter;
 use dv_order::Key;
@@ -26,24 +23,24 @@ use std::slice::from_ref;
 
 /// The keys that a filter asks of `_id`s.
 #[derive(Drop)]
-pub(crate) enum Asked {
+pub(crate) enum WantedIds {
     /// Those between two ends.
     Between(Interval),
     /// These alone.
     Among(Vec<Key>),
 }
 
-/// What keys the `_id`s of all rows have that match the filter: any where some `_id` is an array. Fails where memory is wanting.
+/// What keys the `_id`s of all rows have that match the filter: any where some `_id` is an array. Fails when memory runs out.
 pub(crate) fn asked_of_rows(
     alloc: Global,
     rows: &RowsById<'_>,
     filter: &Filter,
-) -> Result<Asked, NoMemory>
+) -> Result<WantedIds, NoMemory>
     ensures { IfOk result (λ asked. AllByRecursion (λ d. matches filter.now d ≡ true → is_asked asked (id_key d) ≡ true) rows.now) }
 {
     if rows.has_array_id()? {
         // By an element of its array a row may match that stands elsewhere.
-        return Ok(Asked::Between(Interval {
+        return Ok(WantedIds::Between(Interval {
             low: Bound::Unbounded,
             high: Bound::Unbounded,
         }));
@@ -52,7 +49,7 @@ pub(crate) fn asked_of_rows(
 }
 
 /// What keys the `_id`s of all documents have that match the filter.
-fn asked_of_ids(alloc: Global, filter: &Filter) -> Result<Asked, NoMemory>
+fn asked_of_ids(alloc: Global, filter: &Filter) -> Result<WantedIds, NoMemory>
     ensures { IfOk result (λ asked. (d : List Field) → HasId d → matches filter.now d ≡ true → is_asked asked (id_key d) ≡ true) }
 {
     laws::what_matches_is_in_the_bounds();
@@ -61,8 +58,8 @@ fn asked_of_ids(alloc: Global, filter: &Filter) -> Result<Asked, NoMemory>
     let indexes = Indexes::new(alloc)?;
     let plan = Planner::choose(filter, indexes.as_slice());
     match values_asked(plan) {
-        Some(values) => Ok(Asked::Among(keys_of_each(alloc, values)?)),
-        None => Ok(Asked::Between(Interval::of(alloc, id_path(indexes.as_slice()), filter)?)),
+        Some(values) => Ok(WantedIds::Among(keys_of_each(alloc, values)?)),
+        None => Ok(WantedIds::Between(Interval::of(alloc, indexes.id_path(), filter)?)),
     }
 }
 
@@ -81,15 +78,4 @@ fn values_asked(plan: Plan<'_>) -> Option<&[Value]>
         } => Some(choices.values().as_slice()),
         _ => None,
     }
-}
-
-/// The path of the first index, which is `_id`.
-fn id_path(indexes: &[Index]) -> &Path
-    requires { BeginsWithId indexes.now }
-    ensures { result.now ≡ id_form.path }
-{
-    let Some((by_id, _others)) = indexes.split_first() else {
-        unreachable!()
-    };
-    by_id.path()
 }

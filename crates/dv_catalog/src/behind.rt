@@ -23,7 +23,7 @@ use std::alloc::Global;
 /// with. To put all documents in order by their values then costs more.
 const MANY_TIMES: usize = 8;
 
-/// The rows that come out of stages of a pipeline over `source` where these rows go in. Fails where memory is wanting.
+/// The rows that come out of stages of a pipeline over `source` where these rows go in. Fails when memory runs out.
 #[cycle(behind)]
 pub(crate) fn rows_behind(
     alloc: Global,
@@ -94,8 +94,8 @@ fn first_lookup(stages: &[Stage]) -> usize
     place
 }
 
-/// The rows with the documents that they are joined with, which are looked for among those that some of them are. Fails where
-/// memory is wanting.
+/// The rows with the documents that they are joined with, which are looked for among those that some of them are. Fails when
+/// memory runs out.
 fn joined(
     alloc: Global,
     within: Searched<'_>,

@@ -17,8 +17,7 @@ use dv_views::RowsById;
 use std::alloc::Global;
 
 /// The first documents that match the filter, in the order of a sort whose first path is `_id`: `most` of them, or all. No two
-/// have equal `_id`s, so further paths are no matter. `None` where the first path is another one. Fails where memory is
-/// wanting.
+/// have equal `_id`s, so further paths are no matter. `None` where the first path is another one. Fails when memory runs out.
 pub(crate) fn first_by_id(
     alloc: Global,
     collection: &IndexedCollection,

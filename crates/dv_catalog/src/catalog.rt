@@ -135,8 +135,8 @@ impl Catalog {
         self.carry_out(namespace, effect)
     }
 
-    /// Makes the changes of an effect, one after the other, tells the views of them, and answers what the statement is
-    /// counted for. Where memory is wanting, the first so many, not all of them, are made, and the views are told of these.
+    /// Makes the changes of an effect, one after the other, tells the views of them, and returns what the statement is counted
+    /// for. If memory runs out, the first so many, not all of them, are made, and the views are told of these.
     fn carry_out(&mut self, namespace: &str, effect: Effect) -> Result<Counted, Stopped>
         requires collection { is_view namespace.now self.old.state.views ≡ false }
         requires ordered { AreOrdered (documents_of namespace.now self.old.state.namespaces) }
@@ -158,8 +158,8 @@ impl Catalog {
         Ok(Counted { matched, changed })
     }
 
-    /// Makes changes, one after the other, until memory is wanting, tells the views of those that were made, and answers how
-    /// many these are. Fails where memory is wanting before the first; then nothing is changed.
+    /// Makes changes, one after the other, until memory runs out, tells the views of those that were made, and returns how many
+    /// these are. Fails when memory runs out before the first; then nothing is changed.
     fn make(&mut self, namespace: &str, changes: Changes) -> Result<usize, NoMemory>
         requires collection { is_view namespace.now self.old.state.views ≡ false }
         requires ordered { AreOrdered (documents_of namespace.now self.old.state.namespaces) }

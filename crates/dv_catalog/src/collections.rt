@@ -102,8 +102,7 @@ impl Collections {
         }
     }
 
-    /// Puts a document into a new collection of a namespace that has none. Refused where memory is wanting; then
-    /// nothing is changed.
+    /// Puts a document into a new collection of a namespace that has none. Refused when memory runs out; then nothing is changed.
     fn insert_first(&mut self, namespace: &str, document: Document) -> Result<(), Stopped>
         requires identified { HasId document }
         requires fresh { finite.get self.old namespace.now ≡ None }
@@ -116,8 +115,8 @@ impl Collections {
         Ok(())
     }
 
-    /// Makes these changes of the documents of a namespace, one after the other, until memory is wanting, and answers how
-    /// many were made.
+    /// Makes these changes of the documents of a namespace, one after the other, until memory runs out, and returns how many were
+    /// made.
     pub(crate) fn make(&mut self, namespace: &str, changes: Changes) -> usize
         requires placed { ArePlaced (documents_of namespace.now self.old) (changes_seen changes) }
         requires standing { StandsFor (documents_of namespace.now self.old) changes }
@@ -131,8 +130,7 @@ impl Collections {
         }
     }
 
-    /// Makes the collection of a namespace that has none, without documents. Fails where memory is wanting; then nothing
-    /// is changed.
+    /// Makes the collection of a namespace that has none, without documents. Fails when memory runs out; then nothing is changed.
     pub(crate) fn make_empty(&mut self, namespace: &str) -> Result<(), NoMemory>
         requires { finite.get self.old namespace.now ≡ None }
         ensures ok { OnOk result (self.new ≡ with_documents namespace.now [] self.old) }
@@ -179,9 +177,9 @@ impl Collections {
         Ok(counts)
     }
 
-    /// Drops the index of a name of the collection of a namespace, or with `*` all but that on `_id`, and answers how many
-    /// there were. Refused with `NamespaceNotFound` where the collection isn't there, with `BadValue` for the index on `_id`,
-    /// and with `IndexNotFound` where there is none of the name; then nothing is changed.
+    /// Drops the index of a name of the collection of a namespace, or with `*` all but that on `_id`, and returns how many there
+    /// were. Refused with `NamespaceNotFound` where the collection isn't there, with `BadValue` for the index on `_id`, and with
+    /// `IndexNotFound` where there is none of the name; then nothing is changed.
     pub(crate) fn drop_indexes(&mut self, namespace: &str, name: &str) -> Result<usize, Refusal>
         ensures made { Leaves (indexes_dropped_in namespace.now name.now self.old) self.old result self.new }
         ensures count { IfOk result (λ count. count ≡ length (indexes_of namespace.now self.old)) }

@@ -8,7 +8,7 @@ pub struct Counted {
 }
 
 /// What a statement is counted for that does nothing.
-pub const NOTHING: Counted = Counted {
+pub(crate) const NOTHING: Counted = Counted {
     matched: 0,
     changed: 0,
 };

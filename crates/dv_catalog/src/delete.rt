@@ -20,7 +20,7 @@ use dv_order::Key;
 use dv_value::{Document, NoMemory};
 use std::alloc::Global;
 
-/// What a deletion does to a collection. Fails where memory is wanting.
+/// What a deletion does to a collection. Fails when memory runs out.
 pub(crate) fn deleted(
     alloc: Global,
     collection: &IndexedCollection,
@@ -42,8 +42,8 @@ pub(crate) fn deleted(
     })
 }
 
-/// The keys of the first documents that a deletion is for, one of several documents: `most` of them, but never all. Fails where
-/// memory is wanting.
+/// The keys of the first documents that a deletion is for, one of several documents: `most` of them, but never all. Fails when
+/// memory runs out.
 pub(crate) fn first_keys(
     alloc: Global,
     collection: &IndexedCollection,
@@ -64,7 +64,7 @@ pub(crate) fn first_keys(
     keys_of(alloc, &documents)
 }
 
-/// The keys of the documents' `_id`s. Fails where memory is wanting.
+/// The keys of the documents' `_id`s. Fails when memory runs out.
 fn keys_of(alloc: Global, documents: &[&Document]) -> Result<Vec<Key>, NoMemory>
     requires { AllByRecursion HasId (rows_referred documents.now) }
     ensures { IfOk result (λ keys. keys.items ≡ map id_key (rows_referred documents.now)) }
@@ -76,7 +76,7 @@ fn keys_of(alloc: Global, documents: &[&Document]) -> Result<Vec<Key>, NoMemory>
     Ok(keys)
 }
 
-/// Takes out the documents under the keys, until memory is wanting, and answers how many were taken out.
+/// Takes out the documents under the keys, until memory runs out, and returns how many were taken out.
 pub(crate) fn remove_each(collection: &mut IndexedCollection, keys: &[Key]) -> usize
     ensures count { result ≤ length keys.now }
     ensures made { collection.new ≡ with_documents (with_changes collection.old.documents (take result (map gone keys.now))) collection.old }

@@ -39,8 +39,7 @@ pub(crate) struct Updated {
 }
 
 impl Updated {
-    /// The document that comes in its place; where one field alone is changed, that under the name. Fails where memory is
-    /// wanting.
+    /// The document that comes in its place; where one field alone is changed, that under the name. Fails when memory runs out.
     pub(crate) fn after(&self, name: &str) -> Result<Document, NoMemory>
         requires whole { has_zero name.now ≡ false }
         ensures { IfOk result (λ after. after ≡ after_of name.now self.now) }
@@ -68,8 +67,8 @@ impl Changes {
         }
     }
 
-    /// Whether one of the changes, made one after the other, would put a key of a unique index under two `_id`s. Fails where
-    /// memory is wanting.
+    /// Whether one of the changes, made one after the other, would put a key of a unique index under two `_id`s. Fails when
+    /// memory runs out.
     pub(crate) fn clash_in(
         &self,
         alloc: Global,
@@ -86,7 +85,7 @@ impl Changes {
         }
     }
 
-    /// Makes the changes in a collection, one after the other, until memory is wanting, and answers how many were made.
+    /// Makes the changes in a collection, one after the other, until memory runs out, and returns how many were made.
     pub(crate) fn make_in(self, collection: &mut IndexedCollection) -> usize
         requires placed { ArePlaced collection.old.documents (changes_seen self) }
         requires standing { StandsFor collection.old.documents self }

@@ -42,8 +42,7 @@ pub(crate) fn explained_view(rows: ViewRows<'_>) -> Explained
     }
 }
 
-/// How documents are found in the collection of a namespace, by looking at none where it isn't there. Fails where memory is
-/// wanting.
+/// How documents are found in the collection of a namespace, by looking at none where it isn't there. Fails when memory runs out.
 pub(crate) fn explained_in(
     alloc: Global,
     collections: &Collections,
@@ -61,7 +60,7 @@ pub(crate) fn explained_in(
     }
 }
 
-/// How documents of a collection are found. Fails where memory is wanting.
+/// How documents of a collection are found. Fails when memory runs out.
 fn explained_of(
     alloc: Global,
     collection: &IndexedCollection,

@@ -25,7 +25,7 @@ use std::alloc::Global;
 
 /// The first stages of a pipeline, which are a find: a `$match`, a `$sort` and a `$limit`, as far as they follow each other so.
 #[derive(Drop)]
-struct Front<'a> {
+struct LeadingFind<'a> {
     filter: Option<&'a Filter>,
     sort: Option<&'a SortSpec>,
     /// How many rows the `$limit` leaves. Where there is none, how many the stages behind need, where they don't need all.
@@ -34,7 +34,7 @@ struct Front<'a> {
     later: &'a [Stage],
 }
 
-impl<'a> Front<'a> {
+impl<'a> LeadingFind<'a> {
     /// That of these stages.
     fn of(stages: &'a [Stage]) -> Self
         ensures { IsFront (passed (option_map (λ f. f.now) result.filter) (option_map (λ s. s.now) result.sort) result.most) result.later.now stages.now }
@@ -42,7 +42,7 @@ impl<'a> Front<'a> {
         let (filter, stages) = first_match(stages);
         let (sort, stages) = first_sort(stages);
         let (most, later) = first_limit(stages);
-        Front {
+        LeadingFind {
             filter,
             sort,
             most,
@@ -109,7 +109,7 @@ fn filter_or<'a>(filter: Option<&'a Filter>, everything: &'a Filter) -> &'a Filt
 }
 
 /// The rows of stages over what stands under their source. What stages in front find is found as a find's rows are, by the
-/// indexes of a collection. Fails where memory is wanting.
+/// indexes of a collection. Fails when memory runs out.
 pub(crate) fn rows_of_stages(
     alloc: Global,
     collections: &Collections,
@@ -121,7 +121,7 @@ pub(crate) fn rows_of_stages(
     ensures { let kept = lists_kept collections.now registry.now in IfOk result (λ rows. rows.items ≡ through stages.now source.now kept (kept source.now)) }
 {
     let everything = Filter::of(Vec::new(alloc));
-    let front = Front::of(stages);
+    let front = LeadingFind::of(stages);
     let filter = filter_or(front.filter, &everything);
     let within = searched_in(collections, registry, source);
     match front.sort {

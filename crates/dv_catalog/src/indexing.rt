@@ -13,7 +13,7 @@ ghost use Rattle.dv_catalog.specs.Inner.ComingParts.{joined};
 ghost use Rattle.dv_catalog.specs.Inner.IndexParts.{collection_so};
 ghost use Rattle.dv_catalog.specs.Inner.Parts.{Leaves};
 
-use crate::pending_indexes::{Coming, text_of};
+use crate::pending_indexes::{PendingIndexes, text_of};
 use dv_candidates::Path;
 use dv_command::Refusal;
 use dv_index::{Index, IndexedCollection, NewIndex, same_path};
@@ -64,7 +64,7 @@ fn fresh_among(
     ensures { UnlessWanting (λ fresh. map form_of there.now ++ map form_of_new fresh.items)
         (making.with_entries (map form_of_new entries.items) (map form_of there.now)) result }
 {
-    let mut coming = Coming::new(alloc);
+    let mut coming = PendingIndexes::new(alloc);
     'entries: for entry in entries {
         if is_made(&entry, there, &coming) {
             continue;
@@ -79,7 +79,7 @@ fn fresh_among(
 }
 
 /// Whether nothing is to be made for an entry: it is on `_id`, or its index is there, or comes.
-fn is_made(entry: &NewIndex, there: &[Index], coming: &Coming) -> bool
+fn is_made(entry: &NewIndex, there: &[Index], coming: &PendingIndexes) -> bool
     ensures { result ≡ making.is_made (form_of_new entry.now) (map form_of there.now ++ coming.now) }
 {
     if is_id(&entry.path) {
@@ -99,7 +99,7 @@ fn is_there(entry: &NewIndex, there: &[Index]) -> bool
 }
 
 /// Whether the name or the path of an entry is there, or comes.
-fn is_half_made(entry: &NewIndex, path: &str, there: &[Index], coming: &Coming) -> bool
+fn is_half_made(entry: &NewIndex, path: &str, there: &[Index], coming: &PendingIndexes) -> bool
     requires { path.now ≡ joined (form_of_new entry.now).path }
     ensures { result ≡ list_any (making.is_alike (form_of_new entry.now)) (map form_of there.now ++ coming.now) }
 {
@@ -144,7 +144,7 @@ pub(crate) fn is_id(path: &Path) -> bool
     }
 }
 
-/// Drops the index of a name, or with `*` all but that on `_id`, and answers how many there were. Refused with `BadValue` for
+/// Drops the index of a name, or with `*` all but that on `_id`, and returns how many there were. Refused with `BadValue` for
 /// that on `_id`, and with `IndexNotFound` where there is none of the name; then nothing is changed.
 pub(crate) fn drop_named(collection: &mut IndexedCollection, name: &str) -> Result<usize, Refusal>
     ensures made { Leaves (collection_so collection.old (making.without_named name.now collection.old.indexes)) collection.old result collection.new }

@@ -6,7 +6,6 @@ ghost use Rattle.std.specs.List.Sorted.{IsStrictlySortedBy};
 ghost use Rattle.std.specs.Ordering.{is_eq};
 ghost use Rattle.std.specs.Range.Bound.{IsForward};
 ghost use Rattle.dv_order.specs.Key.{key_order};
-ghost use Rattle.dv_match.specs.Match.{matches};
 ghost use Rattle.dv_coll.specs.Collection.{id_key};
 ghost use Rattle.dv_keyed.specs.Inner.Interval.{is_between};
 ghost use Rattle.dv_keyed.specs.Inner.Keys.{has_key};
@@ -15,10 +14,10 @@ ghost use Rattle.dv_pipe.specs.Sources.{rows_referred};
 ghost use Rattle.dv_sort.specs.Sorting.{front};
 ghost use Rattle.dv_catalog.specs.Scan.{matching};
 
-use crate::asked::{Asked, asked_of_rows};
+use crate::asked::{WantedIds, asked_of_rows};
 use crate::rows::FoundRows;
 use crate::standing::first_matching;
-use dv_index::laws;
+use dv_index::{all_matching, laws};
 use dv_keyed::{Interval, in_order, lent};
 use dv_match::Filter;
 use dv_order::Key;
@@ -28,9 +27,9 @@ use dv_views::RowsById;
 use std::alloc::Global;
 use std::ops::Bound;
 
-/// The first rows that match the filter, in a direction of their `_id`s: `most` of them, or all. Those are looked at whose
-/// `_id`s are equal to values that the filter asks for, or are in all ranges that it sets, up to the last of these; all of them
-/// where some `_id` is an array. Fails where memory is wanting.
+/// The first rows that match the filter, in a direction of their `_id`s: `most` of them, or all. Those are looked at whose `_id`s
+/// are equal to values that the filter asks for, or are in all ranges that it sets, up to the last of these; all of them where
+/// some `_id` is an array. Fails when memory runs out.
 pub(crate) fn first_by_key<'a>(
     alloc: Global,
     rows: &RowsById<'a>,
@@ -41,11 +40,11 @@ pub(crate) fn first_by_key<'a>(
     ensures { IfOk result (λ found. rows_referred found.items ≡ front most (in_direction direction (matching filter.now rows.now))) }
 {
     match asked_of_rows(alloc, rows, filter)? {
-        Asked::Between(ends) => {
+        WantedIds::Between(ends) => {
             let candidates = rows_between(rows, ends, direction)?;
             first_matching(alloc, candidates, filter, most)
         }
-        Asked::Among(keys) => {
+        WantedIds::Among(keys) => {
             let candidates = rows_among(alloc, rows, &keys, direction)?;
             Ok(first_of(candidates, filter, most))
         }
@@ -154,12 +153,4 @@ fn first_of<'a>(rows: Vec<&'a Document>, filter: &Filter, most: Option<usize>) -
         found.truncate(most);
     }
     found
-}
-
-/// Those of the rows that match the filter.
-fn all_matching<'a>(mut rows: Vec<&'a Document>, filter: &Filter) -> Vec<&'a Document>
-    ensures { result.items ≡ kept (λ d. matches filter.now d.now) rows.entry.items }
-{
-    rows.retain(|row| filter.matches(row));
-    rows
 }

@@ -18,14 +18,14 @@ use std::marker::Model;
 /// Indexes in the order in which they are to be made. One is found by its name, and by the text of its path, in time
 /// logarithmic in their number; only where one has the name or the path of another are all of them looked at.
 #[derive(Debug, Drop)]
-pub(crate) struct Coming {
+pub(crate) struct PendingIndexes {
     alloc: Global,
     indexes: Vec<NewIndex>,
     names: BTreeMap<String, usize>,
     paths: BTreeSet<String>,
 }
 
-impl Model for Coming {
+impl Model for PendingIndexes {
     ghost use Rattle.std.specs.Prelude.{List, map};
     ghost use Rattle.std.specs.Coded.{coded_list};
     ghost use Rattle.dv_keyed.specs.Index.{IndexForm};
@@ -42,12 +42,12 @@ impl Model for Coming {
     ghost invariant = { λ c. AreFound c.names c.paths (map form_of_new c.indexes.items) };
 }
 
-impl Coming {
+impl PendingIndexes {
     /// None.
     pub(crate) fn new(alloc: Global) -> Self
         ensures { result ≡ [] }
     {
-        Coming {
+        PendingIndexes {
             alloc,
             indexes: Vec::new(alloc),
             names: BTreeMap::new(alloc),
@@ -77,7 +77,7 @@ impl Coming {
         is_half_among(index, &self.indexes)
     }
 
-    /// One more. Fails where memory is wanting.
+    /// One more. Fails when memory runs out.
     pub(crate) fn add(&mut self, index: NewIndex, path: String) -> Result<(), NoMemory>
         requires { string_bytes path ≡ joined (form_of_new index).path }
         ensures { OnOk result (self.new ≡ self.old ++ form_of_new index ∷ []) }
@@ -93,7 +93,7 @@ impl Coming {
     pub(crate) fn into_inner(self) -> Vec<NewIndex>
         ensures { map form_of_new result.items ≡ self }
     {
-        let Coming { indexes, .. } = self;
+        let PendingIndexes { indexes, .. } = self;
         indexes
     }
 }
@@ -124,7 +124,7 @@ fn is_half_among(index: &NewIndex, others: &[NewIndex]) -> bool
         .any(|there| is_alike(index, there.name.as_str(), &there.path))
 }
 
-/// The components of a path, each behind a dot. Fails where memory is wanting.
+/// The components of a path, each behind a dot. Fails when memory runs out.
 pub(crate) fn text_of(alloc: Global, path: &Path) -> Result<String, NoMemory>
     ensures { IfOk result (λ text. string_bytes text ≡ joined path.now) }
 {

@@ -15,8 +15,8 @@ use dv_value::{NoMemory, Str};
 use dv_views::{ToldRegistry, ViewState, names_read};
 use std::alloc::Global;
 
-/// Makes stale views anew that what stands under the namespace needs. Fails where memory is wanting; then some of them may
-/// be made anew.
+/// Makes stale views anew that what stands under the namespace needs. Fails when memory runs out; then some of them may be made
+/// anew.
 pub(crate) fn refresh_under(
     alloc: Global,
     collections: &Collections,
@@ -35,8 +35,8 @@ pub(crate) fn refresh_under(
     refresh_needed(alloc, collections, registry, names)
 }
 
-/// Makes stale views anew that what a pipeline over `source` reads needs. Fails where memory is wanting; then some of them
-/// may be made anew.
+/// Makes stale views anew that what a pipeline over `source` reads needs. Fails when memory runs out; then some of them may be
+/// made anew.
 pub(crate) fn refresh_read(
     alloc: Global,
     collections: &Collections,
@@ -55,8 +55,7 @@ pub(crate) fn refresh_read(
     refresh_needed(alloc, collections, registry, names)
 }
 
-/// Makes stale views anew that what stands under the names needs. Fails where memory is wanting; then some of them may be
-/// made anew.
+/// Makes stale views anew that what stands under the names needs. Fails when memory runs out; then some of them may be made anew.
 fn refresh_needed(
     alloc: Global,
     collections: &Collections,

@@ -19,7 +19,7 @@ use dv_sort::{Sorter, laws};
 use dv_value::{Document, NoMemory};
 use std::alloc::Global;
 
-/// The rows that a find is for, in its order. Fails where memory is wanting.
+/// The rows that a find is for, in its order. Fails when memory runs out.
 pub(crate) fn scan(
     alloc: Global,
     within: Searched<'_>,
@@ -32,7 +32,7 @@ pub(crate) fn scan(
     Ok(window(found, find.skip, find.limit))
 }
 
-/// The first rows that match a find's filter, in its order: `most` of them, or all. Fails where memory is wanting.
+/// The first rows that match a find's filter, in its order: `most` of them, or all. Fails when memory runs out.
 fn in_order(
     alloc: Global,
     within: Searched<'_>,
@@ -49,7 +49,7 @@ fn in_order(
     copies(alloc, &first)
 }
 
-/// The first rows that match the filter, in the order of the sort: `most` of them, or all. Fails where memory is wanting.
+/// The first rows that match the filter, in the order of the sort: `most` of them, or all. Fails when memory runs out.
 pub(crate) fn in_sort(
     alloc: Global,
     within: Searched<'_>,
@@ -66,7 +66,7 @@ pub(crate) fn in_sort(
     sorted(alloc, &all, sort, most)
 }
 
-/// The same where the order of `_id`s or an index finds them. Fails where memory is wanting.
+/// The same where the order of `_id`s or an index finds them. Fails when memory runs out.
 fn by_index(
     alloc: Global,
     within: &Searched<'_>,
@@ -112,7 +112,7 @@ fn most_of(skip: u64, limit: u64) -> Option<usize>
     skip.checked_add(limit).map(|most| most as usize)
 }
 
-/// The rows, which are shared. Fails where memory is wanting.
+/// The rows, which are shared. Fails when memory runs out.
 pub(crate) fn copies(alloc: Global, rows: &[&Document]) -> Result<Vec<Document>, NoMemory>
     ensures { IfOk result (λ copies. copies.items ≡ rows_referred rows.now) }
 {
@@ -123,7 +123,7 @@ pub(crate) fn copies(alloc: Global, rows: &[&Document]) -> Result<Vec<Document>,
     Ok(copies)
 }
 
-/// The first rows in the order of the sort: `most` of them, or all. Fails where memory is wanting.
+/// The first rows in the order of the sort: `most` of them, or all. Fails when memory runs out.
 pub(crate) fn sorted(
     alloc: Global,
     rows: &[&Document],

@@ -9,8 +9,8 @@ use dv_index::IndexedCollection;
 use dv_match::Filter;
 use dv_value::{Document, NoMemory};
 
-/// The documents that match the filter, in the order of their `_id`s: all of them, or the first alone. Fails where memory is
-/// wanting.
+/// The documents that match the filter, in the order of their `_id`s: all of them, or the first alone. Fails when memory runs
+/// out.
 pub(crate) fn chosen<'c>(
     collection: &'c IndexedCollection,
     filter: &Filter,

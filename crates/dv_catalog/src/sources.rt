@@ -16,8 +16,8 @@ use dv_value::{Document, NoMemory, Str};
 use dv_views::ToldRegistry;
 use std::alloc::Global;
 
-/// Under each of the names, the documents of the collection that stands there: none where a view does, or nothing. Fails
-/// where memory is wanting.
+/// Under each of the names, the documents of the collection that stands there: none where a view does, or nothing. Fails when
+/// memory runs out.
 pub(crate) fn documents_under<'a>(
     alloc: Global,
     collections: &'a Collections,
@@ -34,8 +34,8 @@ pub(crate) fn documents_under<'a>(
     Ok(sources)
 }
 
-/// Under each of the names, the rows that stand there: those of a view that isn't stale, or else a collection's documents.
-/// Fails where memory is wanting.
+/// Under each of the names, the rows that stand there: those of a view that isn't stale, or else a collection's documents. Fails
+/// when memory runs out.
 pub(crate) fn rows_under<'a>(
     alloc: Global,
     collections: &'a Collections,
@@ -66,7 +66,7 @@ fn rows_in<'a>(
     }
 }
 
-/// Adds the rows under a name, unless rows are there, since several views may read the same. Fails where memory is wanting.
+/// Adds the rows under a name, unless rows are there, since several views may read the same. Fails when memory runs out.
 fn add_rows<'a>(
     alloc: Global,
     sources: &mut Sources<'a>,
@@ -82,7 +82,7 @@ fn add_rows<'a>(
     sources.add(name, rows)
 }
 
-/// References to the rows. Fails where memory is wanting.
+/// References to the rows. Fails when memory runs out.
 fn references<'a>(alloc: Global, rows: FoundRows<'a>) -> Result<Vec<&'a Document>, NoMemory>
     ensures { IfOk result (λ references. rows_referred references.items ≡ rows.entry) }
 {

@@ -66,8 +66,8 @@ fn by_id<'a>(
     Some(standing.by_id())
 }
 
-/// The first rows that match the filter, in their order: `most` of them, or all. Of a collection they are found by its
-/// indexes, and of a view whose rows stand by their `_id`s by these. Fails where memory is wanting.
+/// The first rows that match the filter, in their order: `most` of them, or all. Of a collection they are found by its indexes,
+/// and of a view whose rows stand by their `_id`s by these. Fails when memory runs out.
 pub(crate) fn first_found<'a>(
     alloc: Global,
     within: Searched<'a>,
@@ -86,7 +86,7 @@ pub(crate) fn first_found<'a>(
     }
 }
 
-/// The first rows that match the filter, in their order: `most` of them, or all. Fails where memory is wanting.
+/// The first rows that match the filter, in their order: `most` of them, or all. Fails when memory runs out.
 pub(crate) fn first_matching<'a>(
     alloc: Global,
     rows: FoundRows<'a>,

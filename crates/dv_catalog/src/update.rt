@@ -28,9 +28,9 @@ use dv_update::{Outcome, Update, UpdateFault};
 use dv_value::{Document, Name, NoMemory};
 use std::alloc::Global;
 
-/// What an updating does to a collection: where its documents are wanted whole, each as a whole document. Refused as the first
-/// of them is, then with `DuplicateKey` where one of the changes, made one after the other, would put a key of a unique index
-/// under two `_id`s, and where memory is wanting.
+/// What an updating does to a collection: where its documents are wanted whole, each as a whole document. Refused as the first of
+/// them is, then with `DuplicateKey` where one of the changes, made one after the other, would put a key of a unique index under
+/// two `_id`s, and when memory runs out.
 pub(crate) fn updated_in(
     alloc: Global,
     collection: &IndexedCollection,
@@ -51,8 +51,8 @@ pub(crate) fn updated_in(
     Ok(effect)
 }
 
-/// What an updating does to the documents of a collection: where they are wanted whole, each as a whole document. Refused as
-/// the first of them is, and where memory is wanting.
+/// What an updating does to the documents of a collection: where they are wanted whole, each as a whole document. Refused as the
+/// first of them is, and when memory runs out.
 fn updated(
     alloc: Global,
     collection: &IndexedCollection,
@@ -78,7 +78,7 @@ fn updated(
     })
 }
 
-/// The sole name of an update. Fails where memory is wanting.
+/// The sole name of an update. Fails when memory runs out.
 fn name_of(alloc: Global, update: &Update) -> Result<Name, NoMemory>
     ensures name { IfOk result (λ name. name ≡ outcomes.sole_name (seen.update update.now)) }
     ensures no_id { IfOk result (λ name. bytes_eq name (codes "_id") ≡ false) }
@@ -87,8 +87,8 @@ fn name_of(alloc: Global, update: &Update) -> Result<Name, NoMemory>
     Name::of(alloc, update.sole_name())
 }
 
-/// What an update makes of the documents, in order, without those that stay as they are spelled. Refused as the first is,
-/// and where memory is wanting.
+/// What an update makes of the documents, in order, without those that stay as they are spelled. Refused as the first is, and
+/// when memory runs out.
 fn changed_by(
     alloc: Global,
     update: &Update,
@@ -108,7 +108,7 @@ fn changed_by(
 }
 
 /// Adds a document to those that are changed, unless it stays as it is spelled. A whole one lies beside the names of the one
-/// before, if it has the same. Fails where memory is wanting.
+/// before, if it has the same. Fails when memory runs out.
 fn add_changed(
     changed: &mut Vec<Updated>,
     document: &Document,
@@ -147,8 +147,8 @@ fn outcome_of(
     }
 }
 
-/// Whether one of the documents that come, put one after the other, has a key of a unique index under another `_id` than the
-/// one that it stands under. Fails where memory is wanting.
+/// Whether one of the documents that come, put one after the other, has a key of a unique index under another `_id` than the one
+/// that it stands under. Fails when memory runs out.
 pub(crate) fn updates_clash(
     alloc: Global,
     collection: &IndexedCollection,
@@ -166,7 +166,7 @@ pub(crate) fn updates_clash(
     collection.replacing_clashes(&pairs)
 }
 
-/// The documents that come in the places of those that are updated. Fails where memory is wanting.
+/// The documents that come in the places of those that are updated. Fails when memory runs out.
 fn afters_of(alloc: Global, updates: &Updates) -> Result<Vec<Document>, NoMemory>
     requires whole { has_zero updates.now.name ≡ false }
     ensures { IfOk result (λ afters. afters.items ≡ new_documents updates.now.name updates.now.each.items) }
@@ -178,7 +178,7 @@ fn afters_of(alloc: Global, updates: &Updates) -> Result<Vec<Document>, NoMemory
     Ok(afters)
 }
 
-/// Each document that is updated with the one that comes in its place. Fails where memory is wanting.
+/// Each document that is updated with the one that comes in its place. Fails when memory runs out.
 fn replacings<'d>(
     alloc: Global,
     each: &'d [Updated],
@@ -196,8 +196,8 @@ fn replacings<'d>(
     Ok(pairs)
 }
 
-/// Puts what documents become in their places, where they are, until memory is wanting, and answers how many were put. Where
-/// one field alone is changed, it is that under the name.
+/// Puts what documents become in their places, where they are, until memory runs out, and returns how many were put. Where one
+/// field alone is changed, it is that under the name.
 pub(crate) fn put_each(collection: &mut IndexedCollection, name: &str, each: Vec<Updated>) -> usize
     requires placed { ArePlaced collection.old.documents (update_changes name.now each.items) }
     requires standing { AreUpdatesOf collection.old.documents name.now each.items }
@@ -216,8 +216,8 @@ pub(crate) fn put_each(collection: &mut IndexedCollection, name: &str, each: Vec
     count
 }
 
-/// Puts what a document becomes in its place: a field alone is changed in place, where nothing else shares the fields. Fails
-/// where memory is wanting; then nothing is changed.
+/// Puts what a document becomes in its place: a field alone is changed in place, where nothing else shares the fields. Fails when
+/// memory runs out; then nothing is changed.
 fn put_one(
     collection: &mut IndexedCollection,
     name: &str,

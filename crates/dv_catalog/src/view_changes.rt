@@ -21,7 +21,7 @@ use dv_value::{Document, NoMemory};
 use dv_views::{ToldRegistry, document_gone, document_put};
 use std::alloc::Global;
 
-/// The changes as they are told to views: nothing, where no view reads the namespace. Fails where memory is wanting.
+/// The changes as they are told to views: nothing, where no view reads the namespace. Fails when memory runs out.
 pub(crate) fn told(
     alloc: Global,
     views: &ToldRegistry,
@@ -86,8 +86,8 @@ fn found_in<'a>(collection: Option<&'a IndexedCollection>, key: &Key) -> Option<
     }
 }
 
-/// That a document is put where none is, as it is told to views: nothing, where no view reads the namespace. Fails where memory
-/// is wanting.
+/// That a document is put where none is, as it is told to views: nothing, where no view reads the namespace. Fails when memory
+/// runs out.
 pub(crate) fn one_told(
     alloc: Global,
     views: &ToldRegistry,

@@ -9,7 +9,7 @@ use Rattle.dv_change.specs.Inner.DiffLaws.{exact-both, with_changes-both}
 use Rattle.dv_change.specs.Inner.Fed.{AreFilling, AreHeld, ChainTakes, IsFilled}
 use Rattle.dv_change.specs.Inner.Told.{told_along, with_old}
 use Rattle.dv_change.specs.Inner.ToldLaws.{told-both}
-use Rattle.dv_change.specs.Work.{Form, handed, pass, through_forms}
+use Rattle.dv_change.specs.Work.{Transform, handed, pass, through_forms}
 use Rattle.dv_change.proofs.Linking.{exact-handed}
 use Rattle.dv_change.proofs.Passing.{nothing_through}
 
@@ -17,7 +17,7 @@ module _ {O : Type 0} (makes : O → List Positioned → Positioned → Position
     (positioned : (o : O) (others : List Positioned) (left : Positioned) → holds o others left → IsPositioned left × AllByRecursion (λ rows. IsPositioned rows) others)
     (ordered : (o : O) (others : List Positioned) (rows : Positioned) → IsPositioned rows → IsPositioned (makes o others rows)) where
   -- what the last operator tells of exact changes is exact
-  exact-pass : (operators : List O) (forms : List Form) (rows : Positioned) (changes : List Change) → AreHeld makes holds operators forms rows → AllByRecursion IsExactChange changes → AllByRecursion IsExactChange (pass forms rows changes)
+  exact-pass : (operators : List O) (forms : List Transform) (rows : Positioned) (changes : List Change) → AreHeld makes holds operators forms rows → AllByRecursion IsExactChange changes → AllByRecursion IsExactChange (pass forms rows changes)
   exact-pass [] [] rows changes held exact = exact
   exact-pass [] (form ∷ forms) rows changes held exact = absurd held
   exact-pass (o ∷ operators) [] rows changes held exact = absurd held
@@ -26,7 +26,7 @@ module _ {O : Type 0} (makes : O → List Positioned → Positioned → Position
       let keeps : (r : Positioned) → IsPositioned r → IsPositioned (f r) = subst (λ (k : List Positioned → Positioned → Positioned). (r : Positioned) → IsPositioned r → IsPositioned (k form.named r)) held.0 (ordered o form.named) in
       exact-pass operators forms (f rows) (handed f rows changes) held.2 (exact-handed f keeps rows changes (positioned o form.named rows held.1).0 exact)
 
-  module _ (forms : List Form) (changes : List Change) where
+  module _ (forms : List Transform) (changes : List Change) where
     pub filling-first : ((o : O) (others : List Positioned) → makes o others [] ≡ []) → (operators : List O) (items made : List Taken) → AreHeld makes holds operators forms [] → AllByRecursion IsExactChange changes → items ≡ told_along [] changes → made ≡ []
         → AreFilling makes holds operators forms items changes made
     filling-first empty operators items made held exact are none = record {

@@ -9,7 +9,7 @@ use Rattle.dv_change.specs.Inner.Fed.{rows_in, rows_named}
 use Rattle.dv_change.specs.Inner.Told.{input_rows, list_at}
 use Rattle.dv_change.specs.Inner.Work.{HasAny, lists_of, named_in}
 use Rattle.dv_change.specs.Inputs.{HasInput}
-use Rattle.dv_change.specs.Work.{Form}
+use Rattle.dv_change.specs.Work.{Transform}
 
 less-none : (i : ℕ) → i - 0 ≡ i
 less-none i = omega arith
@@ -19,11 +19,11 @@ less-both i n = omega arith
 
 -- ---- how many there are
 
-counted : (forms : List Form) → named_in forms ≡ length (lists_of forms)
+counted : (forms : List Transform) → named_in forms ≡ length (lists_of forms)
 counted [] = refl
 counted (form ∷ forms) = ap (λ n. length form.named + n) (counted forms) ∙ sym (length-append form.named (lists_of forms))
 
-pub there-counted : (input : Input) (forms : List Form) (lists : List Positioned) → lists_of forms ≡ lists → HasInput input lists → HasAny input forms
+pub there-counted : (input : Input) (forms : List Transform) (lists : List Positioned) → lists_of forms ≡ lists → HasInput input lists → HasAny input forms
 there-counted Left forms lists are has = tt
 there-counted (Named i) forms lists are has =
     let count = counted forms in
@@ -42,7 +42,7 @@ at-back i [] ys far = ap (λ n. list_at n ys) (less-none i)
 at-back zero (x ∷ xs) ys far = absurd (omega (arith, far))
 at-back (suc i) (x ∷ xs) ys far = ap (λ n. list_at n ys) (less-both i (length xs)) ∙ at-back i xs ys (omega (arith, far))
 
-named-at : (i : ℕ) (forms : List Form) → rows_named i forms ≡ list_at i (lists_of forms)
+named-at : (i : ℕ) (forms : List Transform) → rows_named i forms ≡ list_at i (lists_of forms)
 named-at i [] = refl
 named-at i (form ∷ forms) = by (nat_lt i (length form.named)) refl (named-at (i - length form.named) forms)
   where
@@ -51,6 +51,6 @@ named-at i (form ∷ forms) = by (nat_lt i (length form.named)) refl (named-at (
     by true is rest = at-front i form.named (lists_of forms) (ltb-true i (length form.named) is)
     by false is rest = rest ∙ at-back i form.named (lists_of forms) (ltb-false i (length form.named) is)
 
-pub rows-at : (input : Input) (forms : List Form) (lists : List Positioned) (rows : Positioned) → lists_of forms ≡ lists → input_rows input lists rows ≡ rows_in input forms rows
+pub rows-at : (input : Input) (forms : List Transform) (lists : List Positioned) (rows : Positioned) → lists_of forms ≡ lists → input_rows input lists rows ≡ rows_in input forms rows
 rows-at Left forms lists rows are = refl
 rows-at (Named i) forms lists rows are = ap (list_at i) (sym are) ∙ sym (named-at i forms)

@@ -14,7 +14,7 @@ use Rattle.dv_change.specs.Inputs.{input_changed_at, left_after, others_after}
 use Rattle.dv_change.specs.Raised.{raised}
 use Rattle.dv_change.specs.Inner.Turning.{KeepsPositions, Turning}
 use Rattle.dv_change.specs.Inner.RowLaws.{positioned-none}
-use Rattle.dv_change.specs.Work.{Form, handed, owed, pass, pass_in, pass_named, stage_rows, through_forms, work, work_named}
+use Rattle.dv_change.specs.Work.{Transform, handed, owed, pass, pass_in, pass_named, stage_rows, through_forms, work, work_named}
 use Rattle.dv_change.specs.Inner.Work.{forms_after, forms_named}
 
 pub raised-twice : (n a b : ℕ) → raised (raised n a) b ≡ raised n (a + b)
@@ -165,4 +165,4 @@ module _ {T : Type 0} (turning : Turning T) where
         → forms_of turning us ≡ forms_after input change (forms_of turning ts)
         → with_changes (through_forms (forms_of turning ts) (first_left turning ts)) (pass_in input change (forms_of turning ts) (first_left turning ts))
         ≡ through_forms (forms_of turning us) (left_after input change (first_left turning ts))
-    leads-after ts us input change exact l forms = leads ts input change exact l ∙ ap (λ (fs : List Form). through_forms fs (left_after input change (first_left turning ts))) (sym forms)
+    leads-after ts us input change exact l forms = leads ts input change exact l ∙ ap (λ (fs : List Transform). through_forms fs (left_after input change (first_left turning ts))) (sym forms)

@@ -18,7 +18,7 @@ use Rattle.dv_change.specs.Inner.ToldRows.{HaveMade, TakesTold}
 use Rattle.dv_change.specs.Inner.Work.{lists_of}
 use Rattle.dv_change.specs.Inputs.{HasInput, left_after}
 use Rattle.dv_change.specs.Positions.{IsExact}
-use Rattle.dv_change.specs.Work.{Form, pass_in, through_forms}
+use Rattle.dv_change.specs.Work.{Transform, pass_in, through_forms}
 use Rattle.dv_change.proofs.Flat.{rows-at, there-counted}
 use Rattle.dv_change.proofs.Passing.{fresh-held, nothing_through}
 
@@ -27,7 +27,7 @@ exact-change (Put pos row) exact = exact
 exact-change (Gone pos) exact = exact
 
 -- a change that is told of one of the lists of stages is told of the stages
-comes-in : (input : Input) (taken : Taken) (change : Change) (forms : List Form) (left : Positioned) → IsExact taken.pos → HasInput input (lists_of forms) → taken ≡ with_old (input_rows input (lists_of forms) left) change → ComesIn input taken change forms left
+comes-in : (input : Input) (taken : Taken) (change : Change) (forms : List Transform) (left : Positioned) → IsExact taken.pos → HasInput input (lists_of forms) → taken ≡ with_old (input_rows input (lists_of forms) left) change → ComesIn input taken change forms left
 comes-in input taken change forms left exact has told = record {
   there = there-counted input forms (lists_of forms) refl has;
   told = told ∙ ap (λ (rows : Positioned). with_old rows change) (rows-at input forms (lists_of forms) left refl);
@@ -62,7 +62,7 @@ module _ {O : Type 0} (makes : O → List Positioned → Positioned → Position
   module _ (positioned : (o : O) (others : List Positioned) (left : Positioned) → holds o others left → IsPositioned left × AllByRecursion (λ rows. IsPositioned rows) others)
       (ordered : (o : O) (others : List Positioned) (rows : Positioned) → IsPositioned rows → IsPositioned (makes o others rows)) (empty : (o : O) (others : List Positioned) → makes o others [] ≡ []) where
     -- where no row came yet
-    pub made_first : (operators fresh : List O) (outs : Positioned) (forms : List Form) → operators ≡ fresh → outs ≡ [] → AreFresh makes holds fresh forms → HaveMade makes holds operators outs forms []
+    pub made_first : (operators fresh : List O) (outs : Positioned) (forms : List Transform) → operators ≡ fresh → outs ≡ [] → AreFresh makes holds fresh forms → HaveMade makes holds operators outs forms []
     made_first operators fresh outs forms same none are =
         let held = fresh-held makes holds positioned ordered empty fresh forms are in
         record {
@@ -72,7 +72,7 @@ module _ {O : Type 0} (makes : O → List Positioned → Positioned → Position
         }
 
     -- behind the first rows, whose outcome was carried out
-    pub made_filled : (all made : List Taken) (old new : List O) (outs now : Positioned) → ChainFills makes holds old new all made → now ≡ with_changes outs (changes_told made) → (forms : List Form) (changes : List Change) → HaveMade makes holds old outs forms []
+    pub made_filled : (all made : List Taken) (old new : List O) (outs now : Positioned) → ChainFills makes holds old new all made → now ≡ with_changes outs (changes_told made) → (forms : List Transform) (changes : List Change) → HaveMade makes holds old outs forms []
         → AllByRecursion IsExactChange changes → all ≡ told_along [] changes → HaveMade makes holds new now forms (with_changes [] changes)
     made_filled all made old new outs now fills rows forms changes first exact told =
         let filled = fills forms changes first.held exact told in

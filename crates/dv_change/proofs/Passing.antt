@@ -14,7 +14,7 @@ use Rattle.dv_change.specs.Inner.Fed.{AreFresh, AreHeld, AreKept, ChainFills, Ch
 use Rattle.dv_change.specs.Inner.Told.{ComesTo, StaysTaken, list_at, told_along, with_old}
 use Rattle.dv_change.specs.Inputs.{input_changed_at}
 use Rattle.dv_change.specs.Raised.{raised}
-use Rattle.dv_change.specs.Work.{Form, handed, owed_by, stage_rows, through_forms, work}
+use Rattle.dv_change.specs.Work.{Transform, handed, owed_by, stage_rows, through_forms, work}
 use Rattle.dv_change.proofs.Linking.{apply-handed, exact-handed, raised-twice}
 
 plus-none : (n : ℕ) → n ≡ n + 0
@@ -40,8 +40,8 @@ module _ {O : Type 0} (makes : O → List Positioned → Positioned → Position
     (ordered : (o : O) (others : List Positioned) (rows : Positioned) → IsPositioned rows → IsPositioned (makes o others rows)) where
   module _ (kept : Option Positioned) (o after : O) (behind behind_after : List O) (items told before now : List Taken) (first mid last : ℕ) (same : makes after ≡ makes o)
       (fed : (others : List Positioned) (left : Positioned) (changes : List Change) → holds o others left → AllByRecursion IsExactChange changes → items ≡ told_along left changes → IsFed (makes o others) (holds after others) left changes [] told first mid)
-      (passed : (forms : List Form) (rows : Positioned) (changes : List Change) → AreHeld makes holds behind forms rows → AllByRecursion IsExactChange changes → told ≡ told_along rows changes → AreKept kept (through_forms forms rows) → IsPassed makes holds behind_after forms rows changes before now mid last) where
-    more : (forms : List Form) (rows : Positioned) (changes : List Change) → AreHeld makes holds (o ∷ behind) forms rows → AllByRecursion IsExactChange changes → items ≡ told_along rows changes → AreKept kept (through_forms forms rows)
+      (passed : (forms : List Transform) (rows : Positioned) (changes : List Change) → AreHeld makes holds behind forms rows → AllByRecursion IsExactChange changes → told ≡ told_along rows changes → AreKept kept (through_forms forms rows) → IsPassed makes holds behind_after forms rows changes before now mid last) where
+    more : (forms : List Transform) (rows : Positioned) (changes : List Change) → AreHeld makes holds (o ∷ behind) forms rows → AllByRecursion IsExactChange changes → items ≡ told_along rows changes → AreKept kept (through_forms forms rows)
         → IsPassed makes holds (after ∷ behind_after) forms rows changes before now first last
     more [] rows changes held exact are is = absurd held
     more (form ∷ forms) rows changes held exact are is =
@@ -58,14 +58,14 @@ module _ {O : Type 0} (makes : O → List Positioned → Positioned → Position
           leads = rest.leads ∙ ap (through_forms forms) leads;
         }
 
-    pub passed-more : (operators : List O) → operators ≡ o ∷ behind → (forms : List Form) (rows : Positioned) (changes : List Change) → AreHeld makes holds operators forms rows → AllByRecursion IsExactChange changes → items ≡ told_along rows changes → AreKept kept (through_forms forms rows)
+    pub passed-more : (operators : List O) → operators ≡ o ∷ behind → (forms : List Transform) (rows : Positioned) (changes : List Change) → AreHeld makes holds operators forms rows → AllByRecursion IsExactChange changes → items ≡ told_along rows changes → AreKept kept (through_forms forms rows)
         → IsPassed makes holds (after ∷ behind_after) forms rows changes before now first last
     passed-more operators is forms rows changes held exact are same_rows = more forms rows changes (subst (λ (os : List O). AreHeld makes holds os forms rows) is held) exact are same_rows
 
   -- the last operator, told of changes by itself
   module _ (kept : Option Positioned) (o after : O) (items before now : List Taken) (first last : ℕ) (same : makes after ≡ makes o)
       (fed : (others : List Positioned) (left : Positioned) (changes : List Change) → holds o others left → AllByRecursion IsExactChange changes → items ≡ told_along left changes → AreKept kept (makes o others left) → IsFed (makes o others) (holds after others) left changes before now first last) where
-    alone : (forms : List Form) (rows : Positioned) (changes : List Change) → AreHeld makes holds (o ∷ []) forms rows → AllByRecursion IsExactChange changes → items ≡ told_along rows changes → AreKept kept (through_forms forms rows)
+    alone : (forms : List Transform) (rows : Positioned) (changes : List Change) → AreHeld makes holds (o ∷ []) forms rows → AllByRecursion IsExactChange changes → items ≡ told_along rows changes → AreKept kept (through_forms forms rows)
         → IsPassed makes holds (after ∷ []) forms rows changes before now first last
     alone [] rows changes held exact are is = absurd held
     alone (form ∷ []) rows changes held exact are is =
@@ -81,7 +81,7 @@ module _ {O : Type 0} (makes : O → List Positioned → Positioned → Position
         }
     alone (form ∷ other ∷ forms) rows changes held exact are is = absurd held.2
 
-    pub passed-alone : (operators : List O) → operators ≡ o ∷ [] → (forms : List Form) (rows : Positioned) (changes : List Change) → AreHeld makes holds operators forms rows → AllByRecursion IsExactChange changes → items ≡ told_along rows changes → AreKept kept (through_forms forms rows)
+    pub passed-alone : (operators : List O) → operators ≡ o ∷ [] → (forms : List Transform) (rows : Positioned) (changes : List Change) → AreHeld makes holds operators forms rows → AllByRecursion IsExactChange changes → items ≡ told_along rows changes → AreKept kept (through_forms forms rows)
         → IsPassed makes holds (after ∷ []) forms rows changes before now first last
     passed-alone operators is forms rows changes held exact are same_rows = alone forms rows changes (subst (λ (os : List O). AreHeld makes holds os forms rows) is held) exact are same_rows
 
@@ -92,8 +92,8 @@ module _ {O : Type 0} (makes : O → List Positioned → Positioned → Position
         → ((others : List Positioned) (left : Positioned) (c : Change) → holds o others left → ComesTo (Named i) taken c others left → holds after (input_changed_at i c others) left)
         → ((others : List Positioned) (left : Positioned) (c : Change) → holds o others left → ComesTo (Named i) taken c others left → told ≡ told_along (makes o others left) (owed_by (Named i) c (makes o) others left))
         → ((others : List Positioned) (left : Positioned) (c : Change) → holds o others left → ComesTo (Named i) taken c others left → mid ≡ raised first (1 + length (owed_by (Named i) c (makes o) others left)))
-        → ((forms : List Form) (rows : Positioned) (changes : List Change) → AreHeld makes holds behind forms rows → AllByRecursion IsExactChange changes → told ≡ told_along rows changes → AreKept kept_rows (through_forms forms rows) → IsPassed makes holds behind_after forms rows changes before now mid last)
-        → (forms : List Form) (rows : Positioned) → AreHeld makes holds (o ∷ behind) forms rows → ComesIn (Named i) taken change forms rows → AreKept kept_rows (through_forms forms rows)
+        → ((forms : List Transform) (rows : Positioned) (changes : List Change) → AreHeld makes holds behind forms rows → AllByRecursion IsExactChange changes → told ≡ told_along rows changes → AreKept kept_rows (through_forms forms rows) → IsPassed makes holds behind_after forms rows changes before now mid last)
+        → (forms : List Transform) (rows : Positioned) → AreHeld makes holds (o ∷ behind) forms rows → ComesIn (Named i) taken change forms rows → AreKept kept_rows (through_forms forms rows)
         → IsPassedIn makes holds (Named i) change (after ∷ behind_after) forms rows before now first last
     named-here low keeps tells counts passed [] rows held comes is = absurd held
     named-here low keeps tells counts passed (form ∷ forms) rows held comes is =
@@ -124,10 +124,10 @@ module _ {O : Type 0} (makes : O → List Positioned → Positioned → Position
 
   module _ (empty : (o : O) (others : List Positioned) → makes o others [] ≡ []) where
     -- of no rows an operator makes none
-    pub nothing_made : (o : O) (form : Form) → makes o ≡ form.makes → stage_rows form [] ≡ []
+    pub nothing_made : (o : O) (form : Transform) → makes o ≡ form.makes → stage_rows form [] ≡ []
     nothing_made o form same = ap (λ (k : List Positioned → Positioned → Positioned). k form.named []) (sym same) ∙ empty o form.named
 
-    pub nothing_through : (operators : List O) (forms : List Form) → AreHeld makes holds operators forms [] → through_forms forms [] ≡ []
+    pub nothing_through : (operators : List O) (forms : List Transform) → AreHeld makes holds operators forms [] → through_forms forms [] ≡ []
     nothing_through [] [] held = refl
     nothing_through [] (form ∷ forms) held = absurd held
     nothing_through (o ∷ operators) [] held = absurd held
@@ -137,8 +137,8 @@ module _ {O : Type 0} (makes : O → List Positioned → Positioned → Position
 
     module _ (o after : O) (behind behind_after : List O) (items made last : List Taken) (same : makes after ≡ makes o)
         (filled : (others : List Positioned) (changes : List Change) → holds o others [] → AllByRecursion IsExactChange changes → items ≡ told_along [] changes → IsFilled (makes o others) (holds after others) changes made)
-        (rest : (forms : List Form) (changes : List Change) → AreHeld makes holds behind forms [] → AllByRecursion IsExactChange changes → made ≡ told_along [] changes → IsFilled (through_forms forms) (AreHeld makes holds behind_after forms) changes last) where
-      through : (forms : List Form) (changes : List Change) → AreHeld makes holds (o ∷ behind) forms [] → AllByRecursion IsExactChange changes → items ≡ told_along [] changes
+        (rest : (forms : List Transform) (changes : List Change) → AreHeld makes holds behind forms [] → AllByRecursion IsExactChange changes → made ≡ told_along [] changes → IsFilled (through_forms forms) (AreHeld makes holds behind_after forms) changes last) where
+      through : (forms : List Transform) (changes : List Change) → AreHeld makes holds (o ∷ behind) forms [] → AllByRecursion IsExactChange changes → items ≡ told_along [] changes
           → IsFilled (through_forms forms) (AreHeld makes holds (after ∷ behind_after) forms) changes last
       through [] changes held exact are = absurd held
       through (form ∷ forms) changes held exact are =
@@ -156,12 +156,12 @@ module _ {O : Type 0} (makes : O → List Positioned → Positioned → Position
             leads = all.leads ∙ ap (through_forms forms) leads;
           }
 
-      pub filled-through : (operators : List O) → operators ≡ o ∷ behind → (forms : List Form) (changes : List Change) → AreHeld makes holds operators forms [] → AllByRecursion IsExactChange changes → items ≡ told_along [] changes
+      pub filled-through : (operators : List O) → operators ≡ o ∷ behind → (forms : List Transform) (changes : List Change) → AreHeld makes holds operators forms [] → AllByRecursion IsExactChange changes → items ≡ told_along [] changes
           → IsFilled (through_forms forms) (AreHeld makes holds (after ∷ behind_after) forms) changes last
       filled-through operators is forms changes held exact are = through forms changes (subst (λ (os : List O). AreHeld makes holds os forms []) is held) exact are
 
     -- operators that have taken in no rows
-    pub fresh-held : (operators : List O) (forms : List Form) → AreFresh makes holds operators forms → AreHeld makes holds operators forms []
+    pub fresh-held : (operators : List O) (forms : List Transform) → AreFresh makes holds operators forms → AreHeld makes holds operators forms []
     fresh-held [] [] fresh = tt
     fresh-held [] (form ∷ forms) fresh = absurd fresh
     fresh-held (o ∷ operators) [] fresh = absurd fresh

@@ -35,7 +35,7 @@ pub fn hand_on(
     push_all(old, new, ticks, out)
 }
 
-/// The same, each change with the row that stood at its position.
+/// Returns the changes from the old rows to the new ones, as `hand_on`, each with the row that stood at its position.
 pub fn hand_over(
     old: &Ordered<Document>,
     new: &Ordered<Document>,
@@ -50,7 +50,7 @@ pub fn hand_over(
     push_all(old, new, ticks, out)
 }
 
-/// The same where at most one row stood at the position, and at most one stands there now.
+/// Returns them, as `hand_over`, where at most one row stood at the position, and at most one stands there now.
 pub fn hand_over_at(
     pos: &Pos,
     old: &Option<Document>,

@@ -50,8 +50,8 @@ pub trait Operator {
         ensures begins { OnErr result (BeginsWith out.new.items out.old.items) }
         ensures no_fewer { OnErr result (ticks.old ≤ ticks.new) };
 
-    /// The same, where the rows that it has made are kept: it may take from them what it made before the change, in place of making
-    /// that again.
+    /// Takes in a change, as `take`. `made` holds the rows that it has made: it may take from them what it made before the change,
+    /// in place of making that again.
     fn take_beside(
         &mut self,
         input: Input,

@@ -12,8 +12,8 @@ use dv_value::{Document, NoMemory};
 use std::alloc::Global;
 use std::collections::BTreeMap;
 
-/// The same rows, in as few nodes as hold them: rows that were inserted in ascending order leave each node half empty. Fails where
-/// memory is wanting.
+/// The same rows, in as few nodes as hold them: rows that were inserted in ascending order leave each node half empty. Fails when
+/// memory runs out.
 pub(crate) fn packed(
     alloc: Global,
     rows: BTreeMap<Pos, Document>,
@@ -26,7 +26,7 @@ pub(crate) fn packed(
     Ok(packed)
 }
 
-/// The rows in a tree that is built of all of them at once. Fails where memory is wanting.
+/// The rows in a tree that is built of all of them at once. Fails when memory runs out.
 fn built_anew(
     alloc: Global,
     rows: BTreeMap<Pos, Document>,

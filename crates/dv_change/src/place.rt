@@ -65,7 +65,7 @@ pub(crate) enum Place {
 }
 
 impl Place {
-    /// The place of these parts. Fails where memory is wanting.
+    /// The place of these parts. Fails when memory runs out.
     pub(crate) fn of(alloc: Global, parts: Vec<Part>) -> Result<Self, NoMemory>
         ensures parts { IfOk result (λ place. parts_of place ≡ parts.items) }
         ensures valid { IfOk result IsValid }
@@ -82,8 +82,8 @@ impl Place {
         })
     }
 
-    /// The place of one part, if that needs no list: an ascending text that isn't long, an ascending document, or a part that
-    /// is told by its code. Fails where memory is wanting.
+    /// The place of one part, if that needs no list: an ascending text that isn't long, an ascending document, or a part that is
+    /// told by its code. Fails when memory runs out.
     pub(crate) fn alone(alloc: Global, part: &Part) -> Result<Option<Self>, NoMemory>
         ensures parts { IfOk result (λ found. IfSome found (λ place. parts_of place ≡ part.now ∷ [])) }
         ensures valid { IfOk result (λ found. IfSome found IsValid) }
@@ -120,7 +120,7 @@ impl Place {
         }
     }
 
-    /// A copy that shares its memory. Fails where memory is wanting.
+    /// A copy that shares its memory. Fails when memory runs out.
     pub(crate) fn try_clone(&self) -> Result<Self, NoMemory>
         requires { IsValid self.now }
         ensures parts { IfOk result (λ copy. parts_of copy ≡ parts_of self.now) }
@@ -300,7 +300,7 @@ impl Place {
     }
 }
 
-/// The place of the parts, if it needs no list of them. Fails where memory is wanting.
+/// The place of the parts, if it needs no list of them. Fails when memory runs out.
 fn unlisted(alloc: Global, parts: &[Part]) -> Result<Option<Place>, NoMemory>
     ensures parts { IfOk result (λ found. IfSome found (λ place. parts_of place ≡ parts.now)) }
     ensures valid { IfOk result (λ found. IfSome found IsValid) }
@@ -357,7 +357,7 @@ fn two(part: &Part, next: &Part) -> Option<Place>
     })
 }
 
-/// The place of an ascending text, if that is of at most 40 bytes. Fails where memory is wanting.
+/// The place of an ascending text, if that is of at most 40 bytes. Fails when memory runs out.
 fn of_text(alloc: Global, text: &str) -> Result<Option<Place>, NoMemory>
     ensures parts { IfOk result (λ found. IfSome found (λ place. parts_of place ≡ Up (value (string text.now)) ∷ [])) }
     ensures valid { IfOk result (λ found. IfSome found IsValid) }

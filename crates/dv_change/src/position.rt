@@ -150,7 +150,7 @@ impl Pos {
         })
     }
 
-    /// The position of one part. Fails where memory is wanting, and takes none where the part is told by its code.
+    /// The position of one part. Fails with `NoMemory` when memory runs out, and takes none where the part is told by its code.
     pub fn of_part(alloc: Global, part: Part) -> Result<Self, NoMemory>
         ensures { IfOk result (λ pos. pos ≡ part ∷ []) }
     {
@@ -163,7 +163,8 @@ impl Pos {
         Pos::of(alloc, parts)
     }
 
-    /// The position with this part in front. Fails where memory is wanting, and takes none where both are told by codes.
+    /// The position with this part in front. Fails with `NoMemory` when memory runs out, and takes none where both are told by
+    /// codes.
     pub fn behind_part(&self, alloc: Global, part: Part) -> Result<Self, NoMemory>
         ensures { IfOk result (λ pos. pos ≡ part ∷ self.now) }
     {
@@ -225,7 +226,7 @@ impl Pos {
         Pos::of(alloc, all)
     }
 
-    /// Room for its parts and one more. Fails where memory is wanting.
+    /// Room for its parts and one more. Fails when memory runs out.
     fn room_for_more(&self, alloc: Global) -> Result<Vec<Part>, NoMemory>
         ensures { IfOk result (λ parts. parts.items ≡ []) }
     {
@@ -242,7 +243,7 @@ fn law_exact_parts(parts: &[Part])
     }
 }
 
-/// Puts copies of the parts behind the others. Fails where memory is wanting.
+/// Puts copies of the parts behind the others. Fails when memory runs out.
 fn push_all(all: &mut Vec<Part>, parts: &[Part]) -> Result<(), NoMemory>
     ensures { OnOk result (all.new.items ≡ all.old.items ++ parts.now) }
 {

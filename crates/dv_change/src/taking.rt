@@ -58,7 +58,7 @@ impl Taken {
     }
 
     /// The change.
-    pub fn into_change(self) -> Change
+    pub(crate) fn into_change(self) -> Change
         ensures { result ≡ change_told self }
     {
         let Taken { pos, new, .. } = self;

@@ -32,7 +32,7 @@ impl Ticks {
         Ticks { count: 0 }
     }
 
-    /// Counts some more.
+    /// Adds `by`; the count stays at its limit, 9,223,372,036,854,775,807.
     pub fn add(&mut self, by: u64)
         ensures { self.new ≡ raised self.old by }
     {

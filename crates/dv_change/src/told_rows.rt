@@ -9,7 +9,7 @@ ghost use Rattle.dv_change.specs.Inner.Changes.{IsPositioned};
 ghost use Rattle.dv_change.specs.Inner.Told.{changes_told};
 ghost use Rattle.dv_change.specs.Inner.ToldRows.{AreSound, FillsTold, HasMade, StartsToldRows, TakesTold};
 ghost use Rattle.dv_change.specs.Positions.{pos_order};
-ghost use Rattle.dv_change.specs.Work.{Form};
+ghost use Rattle.dv_change.specs.Work.{Transform};
 
 use crate::change::Change;
 use crate::input::Input;

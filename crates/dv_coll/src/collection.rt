@@ -183,8 +183,8 @@ impl Collection {
         self.documents.remove(key)
     }
 
-    /// Puts the document in its place, under the key of its `_id`. Refused with `Duplicate` exactly where a document
-    /// has an equal `_id`, and with `NoMemory` where memory is wanting to keep it.
+    /// Puts the document in its place, under the key of its `_id`. Refused with `Duplicate` exactly where a document has an equal
+    /// `_id`, and with `NoMemory` when memory runs out to keep it.
     #[tactic(auto, using(crate::proofs::Places::places))]
     fn insert_under(&mut self, key: Key, document: Document) -> Result<(), InsertFault>
         requires identified { HasId document }
@@ -203,8 +203,8 @@ impl Collection {
     }
 }
 
-/// Makes the change of the field under the name, in the document under the key, and answers whether there is one. Fails where
-/// memory is wanting; then nothing is changed.
+/// Makes the change of the field under the name, in the document under the key, and returns whether there is one. Fails when
+/// memory runs out; then nothing is changed.
 #[tactic(auto, using(crate::proofs::Changed::put_same))]
 fn change_in_document(
     documents: &mut BTreeMap<Key, Document>,
@@ -257,7 +257,7 @@ fn first_copy(documents: &BTreeMap<Key, Document>) -> Option<Document> {
     first.try_clone().ok()
 }
 
-/// Makes the change of the field under the name. Fails where memory is wanting; then nothing is changed.
+/// Makes the change of the field under the name. Fails when memory runs out; then nothing is changed.
 fn change_and_keep_size(
     document: &mut Document,
     name: &str,

@@ -2,16 +2,12 @@
 use Rattle.std.proofs.Common.{◌≡◌, ◌≢◌, List, [], ◌∷◌, length, ◌<◌, refl, arith, Err}
 use Rattle.dv_value.specs.Tree.{document, Field, fields_of}
 use Rattle.dv_refusal.specs.declared.refusal.Refusal.TheVariants.{FailedToParse}
-use Rattle.dv_command.specs.Fields.{check_empty, check_none, check_single}
+use Rattle.dv_command.specs.Fields.{check_empty, check_single}
 
 -- a document with fields isn't empty
 pub some_fields : (fs : List Field) → fs ≢ [] → check_empty (document (fields_of fs)) ≡ Err FailedToParse
 some_fields [] h = absurd (h refl)
 some_fields (f ∷ fs) h = refl
-
-pub some_field : (fs : List Field) → fs ≢ [] → check_none fs ≡ Err FailedToParse
-some_field [] h = absurd (h refl)
-some_field (f ∷ fs) h = refl
 
 -- with two fields at least there is one behind the first
 pub several_fields : (fs : List Field) → 1 < length fs → check_single fs ≡ Err FailedToParse

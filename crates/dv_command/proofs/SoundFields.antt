@@ -20,7 +20,8 @@ use Rattle.dv_command.specs.Namespaces.{database_in, namespace, dotted, is_datab
 use Rattle.dv_refusal.specs.Refusals.{refused_by, pipeline_refusal}
 use Rattle.dv_value.specs.Results.{◌>>=◌, each}
 use Rattle.dv_value.specs.Inner.TreeLaws.{fields_back, elements_back, under_valid}
-use Rattle.dv_command.specs.Sound.{AreSpellable, IsIndexName, IsSoundPipeline}
+use Rattle.dv_pipe.specs.Laws.{AreSpellable}
+use Rattle.dv_command.specs.Sound.{IsIndexName, IsSoundPipeline}
 use Rattle.dv_command.specs.Inner.Sound.{AreValidLists, AreIds, AreIndexes, IsNamespace, IsSoundViewAsked}
 use Rattle.dv_command.proofs.Lengths.{array_long}
 use Rattle.dv_refusal.specs.declared.refusal.Refusal.{Refusal}

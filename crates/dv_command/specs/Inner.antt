@@ -4,5 +4,4 @@ pub mod Sound
 pub mod DocumentsView
 pub mod RulesView
 pub mod View
-pub mod ListsView
 pub mod Rare

@@ -8,5 +8,6 @@ pub mod Forms
 pub mod Entries
 pub mod Asked
 pub mod Sound
+pub mod ListsView
 -- what only bodies and proofs need
 pub mod Inner

@@ -1,18 +1,13 @@
 -- What holds of a parsed command if the fields of its body and of the lists beside it are valid: its documents, names and pipelines are
 -- valid too.
 use Rattle.std.specs.Prelude.{◌≡◌, ◌≤◌, ℕ, List, length, Ok}
-use Rattle.std.specs.List.{AllByRecursion}
 use Rattle.std.specs.Str.{IsUtf8}
-use Rattle.dv_value.specs.Spelling.{AreFields, AreElements}
-use Rattle.dv_value.specs.Tree.{Tree, Field, fields_of, elements_of}
+use Rattle.dv_value.specs.Spelling.{AreElements}
+use Rattle.dv_value.specs.Tree.{Tree, elements_of}
 use Rattle.dv_update.specs.Parsing as updates
 use Rattle.dv_pipe.specs.StageParsing.{pipeline_of}
 use Rattle.dv_pipe.specs.declared.stage.Stage.{Stage}
 use Rattle.dv_command.specs.Entries.{longest_index_name}
-
--- each document is valid, so it has an encoding unless it is too long for one
-abbrev pub AreSpellable : List (List Field) → Type 0
-AreSpellable documents = AllByRecursion (λ d. AreFields (fields_of d)) documents
 
 -- the stages that a list of valid values is parsed to
 pub record IsSoundPipeline (asked : List Stage) : Type 0 where

@@ -37,7 +37,7 @@ pub struct Write<'a> {
     pub entries: Documents<'a>,
     /// Whether the first entry that is refused ends the command.
     pub ordered: bool,
-    // As many as a command may have.
+    /// As many as a command may have.
     pub ghost few: { length entries ≤ statement_limit },
 }
 

@@ -54,6 +54,7 @@ const DROP_INDEXES_RULES: [Rule; 3] = [
 /// The fields of what asks how a view stands.
 const VIEW_STATS_RULES: [Rule; 2] = [DATABASE, Rule("viewStats", FieldKind::Text)];
 
+/// What a `create` asks for. Refused as `parse` says.
 pub(crate) fn create_of<'a>(
     alloc: Global,
     body: &'a Document,
@@ -100,6 +101,7 @@ fn view_of(
     Ok(Some(ViewOn { source, pipeline }))
 }
 
+/// What a `drop` asks for. Refused as `parse` says.
 pub(crate) fn drop_of<'a>(
     alloc: Global,
     body: &'a Document,
@@ -113,6 +115,7 @@ pub(crate) fn drop_of<'a>(
     Ok(Asked::Drop(DropNamespace { namespace }))
 }
 
+/// What a `createIndexes` asks for. Refused as `parse` says.
 pub(crate) fn create_indexes_of<'a>(
     alloc: Global,
     body: &'a Document,
@@ -139,6 +142,7 @@ fn indexes_of(alloc: Global, entries: Documents<'_>) -> Result<Vec<IndexAsked>, 
     Ok(indexes)
 }
 
+/// What a `dropIndexes` asks for. Refused as `parse` says.
 pub(crate) fn drop_indexes_of<'a>(
     alloc: Global,
     body: &'a Document,
@@ -156,6 +160,7 @@ pub(crate) fn drop_indexes_of<'a>(
     }))
 }
 
+/// What a `viewStats` asks for. Refused as `parse` says.
 pub(crate) fn view_stats_of<'a>(
     alloc: Global,
     body: &'a Document,

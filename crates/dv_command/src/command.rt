@@ -5,7 +5,7 @@ ghost use Rattle.std.specs.List.{list_all};
 ghost use Rattle.std.specs.Option.{option_map};
 ghost use Rattle.std.specs.Str.{bytes_eq};
 ghost use Rattle.dv_command.specs.Lists as defined;
-ghost use Rattle.dv_command.specs.Inner.ListsView.{list_seen};
+ghost use Rattle.dv_command.specs.ListsView.{list_seen};
 
 use dv_value::{BsonFault, Document, Str};
 use std::alloc::Global;
@@ -47,22 +47,13 @@ impl Model for DocumentLists {
 
     ghost coded = { coded_list (coded× (coded_list coded_ℕ) (coded_list (coded_list (coded× (coded_list coded_ℕ) coded_tree)))) };
 
-    ghost use Rattle.dv_command.specs.Inner.ListsView.{list_seen};
+    ghost use Rattle.dv_command.specs.ListsView.{list_seen};
 
     ghost view = { λ l. map list_seen l.lists.items };
 }
 
 impl DocumentLists {
     ghost use Rattle.std.specs.Prelude.{◌↔◌, [], IsTrue};
-
-    /// No list.
-    pub fn new(alloc: Global) -> Self
-        ensures { result ≡ [] }
-    {
-        DocumentLists {
-            lists: Vec::new(alloc),
-        }
-    }
 
     /// These lists. Takes no memory.
     pub fn of(lists: Vec<DocumentList>) -> Self
@@ -79,7 +70,7 @@ impl DocumentLists {
     }
 
     /// Whether no list has another name.
-    pub fn are_only(&self, name: &str) -> bool
+    pub(crate) fn are_only(&self, name: &str) -> bool
         ensures { result ≡ list_all (λ list. bytes_eq name.now list.0) self.now }
     {
         are_only(self.lists.as_slice(), name)

@@ -8,14 +8,15 @@ ghost use Rattle.dv_refusal.specs.Refusals.{Returns, UnlessWanting};
 use crate::fields::value_near;
 use dv_path::has_dot;
 use dv_refusal::Refusal;
-use dv_value::{Document, Value, begins_with_dollar};
-use std::alloc::{AllocError, Global};
+use dv_value::{Document, NoMemory, Value, begins_with_dollar};
+use std::alloc::Global;
 
 /// How many bytes a namespace may have.
 const LONGEST_NAMESPACE: usize = 120;
 
-/// The database that a command names, in its field `$db`.
-pub fn database(body: &Document) -> Result<&str, Refusal>
+/// The database that a command names, in its field `$db`. Refused with `FailedToParse` if there is no such field, with `TypeMismatch`
+/// if it is no string, and with `BadValue` if it is empty or has a dot or a zero byte.
+pub(crate) fn database(body: &Document) -> Result<&str, Refusal>
     ensures { Returns (λ name. name.now) (names.database body.now) result }
 {
     // Drivers write it last.
@@ -54,8 +55,8 @@ pub fn namespace(alloc: Global, database: &str, collection: &str) -> Result<Stri
     }
 }
 
-/// The two names joined by a dot, which have so many bytes then. Fails where memory is wanting.
-fn dotted(alloc: Global, len: usize, database: &str, collection: &str) -> Result<String, AllocError>
+/// The two names joined by a dot, which have so many bytes then. Fails when memory runs out.
+fn dotted(alloc: Global, len: usize, database: &str, collection: &str) -> Result<String, NoMemory>
     ensures { IfOk result (λ text. string_bytes text ≡ names.dotted database.now collection.now) }
 {
     let mut text = String::with_capacity(alloc, len)?;

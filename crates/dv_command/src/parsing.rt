@@ -99,6 +99,7 @@ fn asked_alone<'a>(
     }
 }
 
+/// What a `hello` asks for. Refused as `parse` says.
 fn hello_of(body: &Document) -> Result<Asked<'_>, Refusal>
     ensures { UnlessWanting asked_seen (asking.hello_of body.now) result }
 {
@@ -106,6 +107,7 @@ fn hello_of(body: &Document) -> Result<Asked<'_>, Refusal>
     Ok(Asked::Hello)
 }
 
+/// What a `ping` asks for. Refused as `parse` says.
 fn ping_of(body: &Document) -> Result<Asked<'_>, Refusal>
     ensures { UnlessWanting asked_seen (asking.ping_of body.now) result }
 {

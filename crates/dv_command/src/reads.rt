@@ -70,6 +70,7 @@ const KILL_CURSORS_RULES: [Rule; 3] = [
 /// How many rows come in a first batch where none says so.
 const FIRST_BATCH_SIZE: u64 = 101;
 
+/// What a `find` asks for. Refused as `parse` says.
 pub(crate) fn find_of<'a>(
     alloc: Global,
     body: &'a Document,
@@ -136,6 +137,7 @@ fn is_rare(name: &str) -> bool
     }
 }
 
+/// What an `aggregate` asks for. Refused as `parse` says.
 pub(crate) fn aggregate_of<'a>(
     alloc: Global,
     body: &'a Document,
@@ -168,6 +170,7 @@ fn cursor_size(alloc: Global, body: &Document) -> Result<u64, Refusal>
     )
 }
 
+/// What a `getMore` asks for. Refused as `parse` says.
 pub(crate) fn get_more_of<'a>(
     alloc: Global,
     body: &'a Document,
@@ -187,6 +190,7 @@ pub(crate) fn get_more_of<'a>(
     }))
 }
 
+/// What a `killCursors` asks for. Refused as `parse` says.
 pub(crate) fn kill_cursors_of<'a>(
     alloc: Global,
     body: &'a Document,
@@ -201,6 +205,7 @@ pub(crate) fn kill_cursors_of<'a>(
     Ok(Asked::KillCursors(KillCursors { namespace, ids }))
 }
 
+/// What an `explain` asks for. Refused as `parse` says.
 pub(crate) fn explain_of<'a>(
     alloc: Global,
     body: &'a Document,

@@ -123,7 +123,7 @@ pub fn update_reply(
     reply_of(fields)
 }
 
-/// Adds the errors of statements, where there are any. Fails where memory is wanting.
+/// Adds the errors of statements, where there are any. Fails when memory runs out.
 #[tactic(auto, using(crate::proofs::Errors::no_errors, crate::proofs::Errors::some_errors))]
 fn add_errors(fields: &mut Document, errors: Vec<Value>) -> Result<(), NoMemory>
     requires { has_name (codes "writeErrors") fields.old ≡ false }
@@ -289,7 +289,7 @@ fn view_state(is_live: bool) -> &'static str
     if is_live { "live" } else { "stale" }
 }
 
-/// A text as a value. Fails where memory is wanting.
+/// A text as a value. Fails when memory runs out.
 fn text_value(alloc: Global, text: &str) -> Result<Value, NoMemory>
     ensures { IfOk result (λ value. tree value ≡ string text.now) }
 {

@@ -58,8 +58,7 @@ impl ReplyNames {
     }
 }
 
-/// The reply to an insert or a delete of one document, with its length kept for those who write it. `None` where memory is
-/// wanting.
+/// The reply to an insert or a delete of one document, with its length kept for those who write it. `None` when memory runs out.
 fn one_written(alloc: Global, names: &ReplyNames) -> Option<Document>
     ensures { ForSome result (λ reply. reply ≡ replies.write_reply 1 []) }
 {
@@ -77,7 +76,7 @@ fn one_updated(alloc: Global, names: &ReplyNames) -> Option<Document>
     Some(reply)
 }
 
-/// A document with null under each of the names, or under the first of them where memory is wanting.
+/// A document with null under each of the names, or under the first of them when memory runs out.
 fn nulls(alloc: Global, names: &[&str]) -> Document {
     let mut document = Document::new(alloc);
     for name in names {

@@ -24,7 +24,7 @@ use Rattle.dv_refusal.specs.declared.refusal.Refusal.{Refusal}
 use Rattle.dv_refusal.specs.declared.refusal.Refusal.TheVariants.{BadValue, DuplicateKey, OnView, WantOfMemory}
 use Rattle.dv_core.specs.Load.{IsLoaded, insert_alone, left_by, loaded, namespace_in}
 use Rattle.dv_core.specs.State.{State}
-use Rattle.dv_core.specs.Statements.{WriteCounts, nothing_written, with_result}
+use Rattle.dv_core.specs.Statements.{WriteSteps, nothing_written, with_result}
 use Rattle.dv_core.specs.Step.{Answer, answer_to, answered, carried_out, step, write_answer}
 use Rattle.dv_core.specs.Storable.{storable}
 use Rattle.dv_core.specs.Writes.{insert_one, write_by}
@@ -46,7 +46,7 @@ module _ (old : State) (namespace : List ℕ) (ordered : Bool) where
   abbrev alone_by : Bool → Result Effect Refusal → Result State Refusal
   alone_by b does = if b then Err OnView else (does >>= λ effect. Ok (left_by namespace old effect))
 
-  abbrev write : WriteCounts
+  abbrev write : WriteSteps
   write = write_by (record { kind = Insert; namespace = namespace; entries = []; ordered = ordered })
 
   abbrev answer_by : Bool → Result Effect Refusal → Answer

@@ -5,7 +5,7 @@ use Rattle.dv_value.specs.Spelling.{AreFields, spelling}
 use Rattle.dv_value.specs.Tree.{Field, fields_of}
 use Rattle.dv_command.specs.Asked.{Asked, asked_by, asked_under, command_name}
 use Rattle.dv_command.specs.Lists.{CommandLists}
-use Rattle.dv_command.specs.Sound.{AreSpellable}
+use Rattle.dv_pipe.specs.Laws.{AreSpellable}
 use Rattle.dv_command.specs.Inner.Sound.{AreValidLists, IsSoundRequest}
 use Rattle.dv_command.specs.declared.command.Command.{Command}
 use Rattle.dv_command.specs.declared.command.Command.TheVariants.{Sections, Invalid}

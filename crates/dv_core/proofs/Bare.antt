@@ -9,10 +9,10 @@ use Rattle.dv_refusal.specs.declared.refusal.Refusal.TheVariants.{WantOfMemory}
 use Rattle.dv_core.specs.declared.outcome.Outcome.{Outcome}
 use Rattle.dv_core.specs.declared.outcome.Outcome.TheVariants.{Reply, Wanting, NoReply}
 use Rattle.dv_core.specs.State.{State, standing}
-use Rattle.dv_core.specs.Statements.{WriteCounts, Written, IsCutWrite}
+use Rattle.dv_core.specs.Statements.{WriteSteps, Written, IsCutWrite}
 use Rattle.dv_core.specs.Step.{Answer, Cut, MemoryStep, Wants, WriteCut, answered, step, write_answer, asked_write}
 
-abbrev pub BareWriteCut : State → Option WriteCounts → Answer → Type 0
+abbrev pub BareWriteCut : State → Option WriteSteps → Answer → Type 0
 BareWriteCut old None answer = ⊥
 BareWriteCut old (Some write) answer =
     (is_view write.namespace old.catalog.views ≡ false) × ((left : Written) × IsCutWrite write old.catalog.namespaces left × (answer ≡ write_answer old write left))
@@ -29,7 +29,7 @@ BareStep old session command (Reply reply) new = step old session command ≡ re
 BareStep old session command (Wanting reply) new = BareWants old command (record { reply = reply; state = new })
 BareStep old session command NoReply new = (new ≡ (step old session command).state) ⊎ ((answer : Answer) × BareWants old command answer × (new ≡ answer.state))
 
-bare_write : (old : State) (write : Option WriteCounts) (answer : Answer) (marks : Marks) → WriteCut old write answer marks → BareWriteCut old write answer
+bare_write : (old : State) (write : Option WriteSteps) (answer : Answer) (marks : Marks) → WriteCut old write answer marks → BareWriteCut old write answer
 bare_write old None answer marks cut = cut
 bare_write old (Some write) answer marks (on, (left, is_cut, answers, marked)) = (on, (left, is_cut, answers))
 

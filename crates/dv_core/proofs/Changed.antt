@@ -15,7 +15,7 @@ use Rattle.dv_refusal.specs.declared.refusal.Refusal.{Refusal}
 use Rattle.dv_core.specs.declared.outcome.Outcome.{Outcome}
 use Rattle.dv_core.specs.declared.outcome.Outcome.TheVariants.{Reply, Wanting, NoReply}
 use Rattle.dv_catalog.specs.Changes.{Effect, Statement, done_to}
-use Rattle.dv_core.specs.Find.{are_too_large, replied, reply_to_find, reply_to_aggregate}
+use Rattle.dv_core.specs.Find.{has_too_large, replied, reply_to_find, reply_to_aggregate}
 use Rattle.dv_core.specs.Indexes.{form_asked, index_count}
 use Rattle.dv_core.specs.More.{next_batch, next_of, cursor_number, rows_asked}
 use Rattle.dv_cursor.specs.Batch.{batch}
@@ -25,19 +25,19 @@ use Rattle.dv_catalog.specs.State.{Namespaces, collection_of, is_view}
 use Rattle.dv_catalog.specs.State as stored
 use Rattle.dv_core.specs.State.{State}
 use Rattle.dv_catalog.specs.Views.{created, dropped}
-use Rattle.dv_core.specs.Statements.{WriteCounts, Written, nothing_written, carry_out, with_all, with_next, with_result, is_due, IsCutWrite}
-use Rattle.dv_core.specs.Step.{Answer, answered, read_answer, write_answer, on_catalog, on_cursors, answer_to, step, asked_write, makes, moves, Work, answer_of, telling, work_of}
+use Rattle.dv_core.specs.Statements.{WriteSteps, Written, nothing_written, carry_out, with_all, with_next, with_result, is_due, IsCutWrite}
+use Rattle.dv_core.specs.Step.{Answer, answered, read_answer, write_answer, on_catalog, on_cursors, answer_to, step, asked_write, makes, moves, Task, answer_of, telling, task_of}
 use Rattle.dv_core.specs.Writes.{reply_by, write_by}
 use Rattle.dv_core.proofs.Bare.{BareCut, BareStep, BareWants, BareWriteCut}
 
 -- what a write did, be it cut
-abbrev pub Did : WriteCounts → State → Written → Type 0
+abbrev pub Did : WriteSteps → State → Written → Type 0
 Did write old did = (did ≡ carry_out write old.catalog.namespaces) ⊎ IsCutWrite write old.catalog.namespaces did
 
 -- the answer of a write
 pub record Writes (old : State) (asked : Result Asked Refusal) (answer : Answer) : Type 0 where
   pub what : Asked
-  pub write : WriteCounts
+  pub write : WriteSteps
   pub did : Written
   pub asks : asked ≡ Ok what
   pub is_write : asked_write what ≡ Some write
@@ -66,7 +66,7 @@ pub record Makes (old : State) (asked : Result Asked Refusal) (answer : Answer) 
 abbrev pub MayWrite : State → Result Asked Refusal → Answer → Type 0
 MayWrite old asked answer = (answer.state ≡ old) ⊎ (Writes old asked answer ⊎ Makes old asked answer)
 
-carried_may : (old : State) (what : Asked) (write : WriteCounts) → asked_write what ≡ Some write → (b : Bool) → MayWrite old (Ok what) (answered old (if b then Err OnView else Ok (write_answer old write (carry_out write old.catalog.namespaces))))
+carried_may : (old : State) (what : Asked) (write : WriteSteps) → asked_write what ≡ Some write → (b : Bool) → MayWrite old (Ok what) (answered old (if b then Err OnView else Ok (write_answer old write (carry_out write old.catalog.namespaces))))
 carried_may old what write is true = inl refl
 carried_may old what write is false = inr (inl (record { what = what; write = write; did = carry_out write old.catalog.namespaces; asks = refl; is_write = is; did_so = inl refl; answers = refl }))
 
@@ -89,11 +89,11 @@ read_may old what (Ok reply) = inl refl
 read_may old what (Err refusal) = inl refl
 
 -- a reply is all
-abbrev OnlyTells : Work → Type 0
+abbrev OnlyTells : Task → Type 0
 OnlyTells (telling result) = Unit {0}
 OnlyTells work = ⊥
 
-telling_may : (old : State) (what : Asked) (work : Work) → OnlyTells work → MayWrite old (Ok what) (answered old (answer_of old work))
+telling_may : (old : State) (what : Asked) (work : Task) → OnlyTells work → MayWrite old (Ok what) (answered old (answer_of old work))
 telling_may old what (telling result) tells = read_may old what result
 telling_may old what work tells = absurd tells
 
@@ -114,7 +114,7 @@ replied_told namespace count rows id false done is =
     subst (λ (d : List Field × Cursors). told d.0 ≡ Some (int32 (pos 1))) same refl
 
 first_told : (namespace : List ℕ) (count : ℕ) (rows : List (List Field)) (keeps : Result (ℕ × Cursors) Refusal) → IsTold (keeps >>= replied namespace count rows)
-first_told namespace count rows (Ok id) = replied_told namespace count rows id (are_too_large rows)
+first_told namespace count rows (Ok id) = replied_told namespace count rows id (has_too_large rows)
 first_told namespace count rows (Err refusal) = λ done is. absurd cc
 
 next_told : (session : ℕ) (namespace : List ℕ) (id count : ℕ) (rows : Option (List (List Field))) (cursors : Cursors) → IsTold (next_of session namespace id count rows cursors)
@@ -147,9 +147,9 @@ step_may old session (Ok (drop_indexes d)) =
     let made = indexes_dropped d.namespace d.index old.catalog in
     let reply : stored.State → List Field = λ left. drop_indexes_reply (index_count d.namespace old.catalog) in
     catalog_may old (drop_indexes d) _ (told_of reply (λ left. refl) made) (λ done is. (made_of reply made done is, refl))
-step_may old session (Ok asked) = telling_may old asked (work_of old session asked) tt
+step_may old session (Ok asked) = telling_may old asked (task_of old session asked) tt
 
-write_cut_may : (old : State) (what : Asked) (write : Option WriteCounts) → asked_write what ≡ write → (answer : Answer) → BareWriteCut old write answer → MayWrite old (Ok what) answer
+write_cut_may : (old : State) (what : Asked) (write : Option WriteSteps) → asked_write what ≡ write → (answer : Answer) → BareWriteCut old write answer → MayWrite old (Ok what) answer
 write_cut_may old what None is answer cut = absurd cut
 write_cut_may old what (Some write) is answer (on, (left, is_cut, answers)) =
     inr (inl (record { what = what; write = write; did = left; asks = refl; is_write = is; did_so = inr is_cut; answers = answers }))
@@ -261,8 +261,8 @@ reply_told Update n changed errors = update_told errors (count n) (count changed
 reply_told Delete n changed errors = errors_told errors (count n)
 
 -- a write that is carried out says so
-pub write_told : (what : Asked) (write : WriteCounts) → asked_write what ≡ Some write → (n changed : ℕ) (errors : List Tree) → told (write.reply n changed errors) ≡ Some (int32 (pos 1))
-write_told (asking.write w) write is n changed errors = let same : write_by w ≡ write = cc in subst (λ (made : WriteCounts). told (made.reply n changed errors) ≡ Some (int32 (pos 1))) same (reply_told w.kind n changed errors)
+pub write_told : (what : Asked) (write : WriteSteps) → asked_write what ≡ Some write → (n changed : ℕ) (errors : List Tree) → told (write.reply n changed errors) ≡ Some (int32 (pos 1))
+write_told (asking.write w) write is n changed errors = let same : write_by w ≡ write = cc in subst (λ (made : WriteSteps). told (made.reply n changed errors) ≡ Some (int32 (pos 1))) same (reply_told w.kind n changed errors)
 write_told what write is n changed errors = absurd cc
 
 refused_may : (old : State) (asked : Result Asked Refusal) (answer : Answer) → MayWrite old asked answer → told answer.reply ≡ Some (int32 (pos 0)) → answer.state ≡ old
@@ -287,7 +287,7 @@ due_none : (ordered : Bool) (es : List Tree) → ordered ≡ true → is_due ord
 due_none ordered [] is due = refl
 due_none ordered (e ∷ es) is due = absurd cc
 
-module _ (write : WriteCounts) (ordered : write.ordered ≡ true) where
+module _ (write : WriteSteps) (ordered : write.ordered ≡ true) where
   one_result : (so_far : Written) (result : Result Effect Refusal) → so_far.errors ≡ [] → length (with_result write.namespace write.ordered so_far result).errors ≤ 1
   one_result so_far (Ok effect) none = rw none (omega arith)
   one_result so_far (Err refusal) none = rw none (omega arith)

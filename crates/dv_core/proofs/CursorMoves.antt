@@ -12,11 +12,11 @@ use Rattle.dv_value.specs.Results.{◌>>=◌}
 use Rattle.dv_cursor.specs.Batch.{batch, rows_behind}
 use Rattle.dv_cursor.specs.Cursors.{Cursor, Cursors, added, advanced, closed, cursor_behind, cursor_over, free_id, rows_to_come, cursor_rows, without_session}
 use Rattle.dv_cursor.specs.Inner.Runs.{is_cursor_place}
-use Rattle.dv_core.specs.Find.{are_too_large, kept, kept_under, replied}
+use Rattle.dv_core.specs.Find.{has_too_large, kept, kept_under, replied}
 use Rattle.dv_core.specs.More.{next_of, cursor_number, rows_asked, rows_wanted, without_cursor, without_cursors}
-use Rattle.dv_core.specs.Runs.{Move, carries, ends, wants, stands, state_after_move, is_cursor_number, batch_told, is_nil, is_last_batch, asked_rows, asked_last, rows_told, tells_last, all_told, is_told_out}
+use Rattle.dv_core.specs.Runs.{Move, carries, ends, wants, stands, state_after_move, is_cursor_number, next_rows, is_nil, is_last_batch, asked_rows, asked_last, rows_told, tells_last, all_told, is_told_out}
 use Rattle.dv_core.specs.State.{State}
-use Rattle.dv_core.specs.Step.{answered, answer_to, on_cursors, end_session, work_of}
+use Rattle.dv_core.specs.Step.{answered, answer_to, on_cursors, end_session, task_of}
 use Rattle.dv_core.proofs.Works.{work_cursors}
 
 abbrev pub Rows : Type 0
@@ -101,7 +101,7 @@ module _ (laws : CursorLaws) (session id : ℕ) where
     replied_moves namespace count rows false reply left moves = moves
 
     first_moves : (namespace : List ℕ) (count : ℕ) (rows : Rows) (keeps : Result (ℕ × Cursors) Refusal) → ((told : ℕ × Cursors) → keeps ≡ Ok told → Moves session id state.cursors told.1 [] false) → Leaves (keeps >>= replied namespace count rows) [] false
-    first_moves namespace count rows (Ok told) moves = replied_moves namespace count rows (are_too_large rows) _ told.1 (moves told refl)
+    first_moves namespace count rows (Ok told) moves = replied_moves namespace count rows (has_too_large rows) _ told.1 (moves told refl)
     first_moves namespace count rows (Err refusal) moves = unmoved session id state.cursors state.cursors refl
 
     -- ---- more of a cursor is asked
@@ -156,7 +156,7 @@ module _ (laws : CursorLaws) (session id : ℕ) where
 
     more_moves : (other : ℕ) (namespace : List ℕ) (asked : ℤ) (count : ℕ) (found : Option Rows) → rows_asked other namespace asked state.cursors ≡ found
         → Moves session id state.cursors (answered state (on_cursors state (next_of other namespace (cursor_number asked) count found state.cursors))).state.cursors
-        (if (other == session) && is_cursor_number id asked then batch_told count found else []) (((other == session) && is_cursor_number id asked) && is_last_batch count found)
+        (if (other == session) && is_cursor_number id asked then next_rows count found else []) (((other == session) && is_cursor_number id asked) && is_last_batch count found)
     more_moves other namespace asked count None is = nothing_moves ((other == session) && is_cursor_number id asked)
     more_moves other namespace (pos n) count (Some rows) is = found_moves other namespace n count rows is (is_cursor_place other n session id) refl
     more_moves other namespace (negsuc n) count (Some rows) is = absurd cc
@@ -206,7 +206,7 @@ module _ (laws : CursorLaws) (session id : ℕ) where
   command_moves state other (Ok (aggregate a)) new = first_moves state a.namespace a.batch_size _ (kept other a.namespace _ state.cursors) (kept_moves other a.namespace _ state.cursors new)
   command_moves state other (Ok (get_more g)) new = more_moves state other g.namespace g.id g.batch_size (rows_asked other g.namespace g.id state.cursors) refl
   command_moves state other (Ok (kill_cursors k)) new = gone_moves state.cursors _ (each_gone other k.namespace k.ids state.cursors)
-  command_moves state other (Ok asked) new = unmoved session id state.cursors _ (work_cursors state (work_of state other asked) tt)
+  command_moves state other (Ok asked) new = unmoved session id state.cursors _ (work_cursors state (task_of state other asked) tt)
 
   session_moves : (state : State) (other : ℕ) (b : Bool) → (session == other) ≡ b → Moves session id state.cursors (end_session other state).cursors [] false
   session_moves state other true is = record { does = inr (inl (record { gone = laws.ended_at session id other state.cursors ∙ rw is refl; none = refl; more = refl })); next = omega arith }

@@ -16,11 +16,11 @@ use Rattle.dv_cursor.specs.Cursors.{Cursors, added, free_id, rows_to_come}
 use Rattle.dv_cursor.specs.Inner.Runs.{is_cursor_place}
 use Rattle.dv_core.specs.declared.outcome.Outcome.{Outcome}
 use Rattle.dv_core.specs.declared.outcome.Outcome.TheVariants.{Reply, Wanting, NoReply}
-use Rattle.dv_core.specs.Find.{are_too_large, first_batch, kept, kept_under, kept_by_cursor, replied}
+use Rattle.dv_core.specs.Find.{has_too_large, first_batch, kept, kept_under, kept_by_cursor, replied}
 use Rattle.dv_core.specs.More.{id_behind, next_of, cursor_number, rows_asked, rows_wanted}
-use Rattle.dv_core.specs.Runs.{Move, carries, wants, state_after_move, state_behind_all, is_cursor_number, batch_told, is_nil, is_last_batch, asked_rows, asked_last, rows_told, tells_last, all_told, is_told_out, BatchesAreFront, IsToldOf, Shows}
+use Rattle.dv_core.specs.Runs.{Move, carries, wants, state_after_move, state_behind_all, is_cursor_number, next_rows, is_nil, is_last_batch, asked_rows, asked_last, rows_told, tells_last, all_told, is_told_out, BatchesAreFront, IsToldOf, Shows}
 use Rattle.dv_core.specs.State.{State, empty_store_state}
-use Rattle.dv_core.specs.Statements.{WriteCounts}
+use Rattle.dv_core.specs.Statements.{WriteSteps}
 use Rattle.dv_core.specs.Step.{Answer, answered, answer_to, on_cursors, step, asked_write}
 use Rattle.dv_core.proofs.Bare.{BareCut, BareStep, BareWants, BareWriteCut}
 use Rattle.dv_core.proofs.CursorMoves.{CursorLaws, Rows, ToldOf, at, each_moves, run}
@@ -80,7 +80,7 @@ module _ (laws : CursorLaws) where
     kept_is : (single : Bool) (state : State) → 0 < state.cursors.next → (over : Rows) → kept_by_cursor count single rows ≡ over → (reply : List Field) (left : Cursors)
         → (kept session namespace over state.cursors >>= replied namespace count rows) ≡ Ok (reply, left) → IsToldOf session namespace count single rows reply (record state { cursors = left })
     kept_is single state above [] none reply left is =
-        let made : (first_batch_reply namespace 0 (map document_of (batch count rows)), state.cursors) ≡ (reply, left) = told_made (are_too_large rows) _ _ is in
+        let made : (first_batch_reply namespace 0 (map document_of (batch count rows)), state.cursors) ≡ (reply, left) = told_made (has_too_large rows) _ _ is in
         record { id = 0; first = ap (λ (t : List Field × Cursors). t.0) (sym made); none = λ zero. none_kept single none; later = λ other. absurd (other refl) }
     kept_is single state above (row ∷ over) some reply left is = by_free (free_id state.cursors) refl is
       where
@@ -90,7 +90,7 @@ module _ (laws : CursorLaws) where
         by_free (Some i) free told =
             let same : state.cursors.next ≡ i = free_is _ state.cursors.next i free in
             let numbered : i ≢ 0 = λ zero. omega (arith, same, zero, above) in
-            let made : (first_batch_reply namespace i (map document_of (batch count rows)), added session namespace (row ∷ over) state.cursors) ≡ (reply, left) = told_made (are_too_large rows) _ _ told in
+            let made : (first_batch_reply namespace i (map document_of (batch count rows)), added session namespace (row ∷ over) state.cursors) ≡ (reply, left) = told_made (has_too_large rows) _ _ told in
             record {
               id = i;
               first = ap (λ (t : List Field × Cursors). t.0) (sym made);
@@ -131,7 +131,7 @@ module _ (laws : CursorLaws) where
 
   found_reply : (state : State) (session id count : ℕ) (namespace : List ℕ) (rows : Rows) (b : Bool) → b ≡ true → (found : Option Rows) → found ≡ Some rows
       → (answered state (on_cursors state (next_of session namespace id count found state.cursors))).reply
-      ≡ next_batch_reply namespace (if b && is_last_batch count found then 0 else id) (map document_of (if b then batch_told count found else []))
+      ≡ next_batch_reply namespace (if b && is_last_batch count found then 0 else id) (map document_of (if b then next_rows count found else []))
   found_reply state session id count namespace rows false own found is = absurd cc
   found_reply state session id count namespace rows true own None is = absurd cc
   found_reply state session id count namespace rows true own (Some others) is =
@@ -146,12 +146,12 @@ module _ (laws : CursorLaws) where
       ≡ next_batch_reply asked.namespace (if asked_last session id session r state then 0 else id) (map document_of (asked_rows session id session r state))) (sym asks)
       (subst (λ (z : ℤ). (answered state (on_cursors state (next_of session asked.namespace (cursor_number z) asked.batch_size (rows_asked session asked.namespace z state.cursors) state.cursors))).reply
       ≡ next_batch_reply asked.namespace (if ((session == session) && is_cursor_number id z) && is_last_batch asked.batch_size (rows_asked session asked.namespace z state.cursors) then 0 else id)
-      (map document_of (if (session == session) && is_cursor_number id z then batch_told asked.batch_size (rows_asked session asked.namespace z state.cursors) else []))) (sym number)
+      (map document_of (if (session == session) && is_cursor_number id z then next_rows asked.batch_size (rows_asked session asked.namespace z state.cursors) else []))) (sym number)
       (found_reply state session id asked.batch_size asked.namespace rows (is_cursor_place session id session id) (own_place session id) (rows_to_come session asked.namespace id state.cursors) there))
 
 -- ---- want of memory
 
-write_wants : (old : State) (write : Option WriteCounts) (answer : Answer) → BareWriteCut old write answer → (catalog : stored.State) × (answer.state ≡ state_after_move (wants catalog) old)
+write_wants : (old : State) (write : Option WriteSteps) (answer : Answer) → BareWriteCut old write answer → (catalog : stored.State) × (answer.state ≡ state_after_move (wants catalog) old)
 write_wants old None answer cut = absurd cut
 write_wants old (Some write) answer (on, (left, is_cut, answers)) = (record old.catalog { namespaces = left.namespaces }, ap (λ (a : Answer). a.state) answers)
 

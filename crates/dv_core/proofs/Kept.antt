@@ -17,7 +17,7 @@ use Rattle.dv_catalog.specs.Effects.{changed_by, delete_chosen, put_new, update_
 use Rattle.dv_catalog.specs.Scan.{matching}
 use Rattle.dv_catalog.specs.State.{Namespaces, Collection, collection_of, documents_of, indexes_of}
 use Rattle.dv_core.specs.State.{State}
-use Rattle.dv_core.specs.Statements.{WriteCounts, Written, nothing_written, with_all, with_next, with_result, is_due}
+use Rattle.dv_core.specs.Statements.{WriteSteps, Written, nothing_written, with_all, with_next, with_result, is_due}
 use Rattle.dv_core.specs.Step.{Answer, asked_write}
 use Rattle.dv_core.specs.Storable.{storable}
 use Rattle.dv_core.specs.Writes.{insert_one, update_one, delete_one}
@@ -85,7 +85,7 @@ module _ (P : List ℕ → Collection → Type 0) (IsGood : Change → Type 0) (
   split_keep [] statement behind keep = (tt, keep.0)
   split_keep (s ∷ before) statement behind keep = let rest = split_keep before statement behind keep.1 in ((keep.0, rest.0), rest.1)
 
-  did_holds : (write : WriteCounts) (old : State) (did : Written) → AllByRecursion Keeps write.statements → Did write old did → Stands P old.catalog.namespaces → Stands P did.namespaces
+  did_holds : (write : WriteSteps) (old : State) (did : Written) → AllByRecursion Keeps write.statements → Did write old did → Stands P old.catalog.namespaces → Stands P did.namespaces
   did_holds write old did keep (inl whole) h = rw whole (all_holds write.namespace write.ordered (nothing_written old.catalog.namespaces) write.statements h keep)
   did_holds write old did keep (inr cuts) h =
       let parts = split_keep cuts.before cuts.statement cuts.behind (subst (AllByRecursion Keeps) cuts.stands keep) in
@@ -97,7 +97,7 @@ module _ (P : List ℕ → Collection → Type 0) (IsGood : Change → Type 0) (
       (apply_holds write.namespace (take cuts.made changes) before.namespaces held (first_good cuts.made changes (does_good write.namespace c cuts.statement parts.1 (held write.namespace)))
       (front_unbroken c.indexes cuts.made changes c.documents (changes_unbroken c cuts.statement)))
 
-  may_hold : (old : State) (asked : Result Asked Refusal) (answer : Answer) → ((what : Asked) → IsKeptBy P what) → ((what : Asked) (write : WriteCounts) → asked ≡ Ok what → asked_write what ≡ Some write → AllByRecursion Keeps write.statements)
+  may_hold : (old : State) (asked : Result Asked Refusal) (answer : Answer) → ((what : Asked) → IsKeptBy P what) → ((what : Asked) (write : WriteSteps) → asked ≡ Ok what → asked_write what ≡ Some write → AllByRecursion Keeps write.statements)
       → MayWrite old asked answer → Stands P old.catalog.namespaces → Stands P answer.state.catalog.namespaces
   may_hold old asked answer kept keep (inl same) h = rw same h
   may_hold old asked answer kept keep (inr (inl w)) h = rw w.answers (did_holds w.write old w.did (keep w.what w.write w.asks w.is_write) w.did_so h)
@@ -105,7 +105,7 @@ module _ (P : List ℕ → Collection → Type 0) (IsGood : Change → Type 0) (
 
   -- a step whose statements keep it does
   pub step_holds : (old new : State) (session : ℕ) (command : Command) (outcome : Outcome) → ((what : Asked) → IsKeptBy P what)
-      → ((what : Asked) (write : WriteCounts) → asked_by command ≡ Ok what → asked_write what ≡ Some write → AllByRecursion Keeps write.statements)
+      → ((what : Asked) (write : WriteSteps) → asked_by command ≡ Ok what → asked_write what ≡ Some write → AllByRecursion Keeps write.statements)
       → Stands P old.catalog.namespaces → BareStep old session command outcome new → Stands P new.catalog.namespaces
   step_holds old new session command outcome kept keep h steps =
       let (answer, may, stands) = outcome_may old new session command outcome steps in

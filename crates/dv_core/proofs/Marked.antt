@@ -22,8 +22,8 @@ use Rattle.dv_core.specs.Load.{IsLoaded}
 use Rattle.dv_core.specs.Marks.{AreMarked, AreMarkedAll, AreMarkedByWrite, AreMarkedForWant, AreMarkedWhereDropped, marks_behind, marks_behind_all, marks_of_drop, marks_where_made, marks_written, read_by}
 use Rattle.dv_core.specs.Runs.{carries, stands, state_after_move, state_behind_all, wants}
 use Rattle.dv_core.specs.State.{State, marked, standing}
-use Rattle.dv_core.specs.Statements.{WriteCounts, carry_out, nothing_written}
-use Rattle.dv_core.specs.Step.{Answer, Cut, IsLeft, MemoryStep, Wants, WriteCut, answer_to, answered, counted_step, indexes, makes, on_catalog, replying, step, write_answer, asked_write, work_of}
+use Rattle.dv_core.specs.Statements.{WriteSteps, carry_out, nothing_written}
+use Rattle.dv_core.specs.Step.{Answer, Cut, IsLeft, MemoryStep, Wants, WriteCut, answer_to, answered, counted_step, indexes, makes, on_catalog, replying, step, write_answer, asked_write, task_of}
 use Rattle.dv_core.specs.Writes.{write_by}
 use Rattle.dv_core.proofs.Bare.{bare}
 use Rattle.dv_core.proofs.Changed.{refused_leave, told, views_stay, want_leaves, refusal_leaves, write_told}
@@ -36,13 +36,13 @@ use Rattle.dv_core.proofs.Works.{work_marks}
 -- ---- the answer leaves them
 
 step_leaves : (old : State) (session : ℕ) (asked : Result Asked Refusal) → (answered old (asked >>= answer_to old session)).state.marks ≡ old.marks
-step_leaves old session (Ok asked) = work_marks old (work_of old session asked)
+step_leaves old session (Ok asked) = work_marks old (task_of old session asked)
 step_leaves old session (Err refusal) = refl
 
 -- ---- as they are counted
 
 module _ (old : State) where
-  write_counted : (b : Bool) (write : WriteCounts) → AreMarkedByWrite b write old (if b then old.marks else marks_written write.namespace write.ordered old.catalog.views (nothing_written old.catalog.namespaces) write.statements old.marks)
+  write_counted : (b : Bool) (write : WriteSteps) → AreMarkedByWrite b write old (if b then old.marks else marks_written write.namespace write.ordered old.catalog.views (nothing_written old.catalog.namespaces) write.statements old.marks)
   write_counted true write = refl
   write_counted false write = written_marked write.namespace write.ordered old.catalog.views (nothing_written old.catalog.namespaces) write.statements old.marks
 
@@ -81,7 +81,7 @@ one_more : (v : ViewForm) (views after : List ViewForm) → with_view v views �
 one_more v views after is = more_by (fault_of_new views v.name v.source v.stages) v views after is
 
 module _ (old : State) (each : length old.marks ≡ length old.catalog.views) where
-  write_each : (b : Bool) (write : WriteCounts) (marks : Marks) → AreMarkedByWrite b write old marks → length marks ≡ length old.marks
+  write_each : (b : Bool) (write : WriteSteps) (marks : Marks) → AreMarkedByWrite b write old marks → length marks ≡ length old.marks
   write_each true write marks marked = ap length marked
   write_each false write marks marked = each_length write.namespace write.ordered old.catalog.views (nothing_written old.catalog.namespaces) write.statements old.marks marks marked
 
@@ -102,7 +102,7 @@ module _ (old : State) (each : length old.marks ≡ length old.catalog.views) wh
   cut_each : (asked : Result Asked Refusal) (answer : Answer) (marks : Marks) → Cut old asked answer marks → length marks ≡ length answer.state.catalog.views
   cut_each (Ok asked) answer marks cut = by_write (asked_write asked) cut
     where
-      by_write : (write : Option WriteCounts) → WriteCut old write answer marks → length marks ≡ length answer.state.catalog.views
+      by_write : (write : Option WriteSteps) → WriteCut old write answer marks → length marks ≡ length answer.state.catalog.views
       by_write None cut = absurd cut
       by_write (Some write) (on, (left, is_cut, answers, marked)) =
           cut_length write.namespace write.ordered old.catalog.views write.statements old.catalog.namespaces left is_cut old.marks marks marked ∙ each
@@ -188,7 +188,7 @@ module _ (old : State) where
   abbrev IsRefused : Answer → Type 0
   IsRefused answer = told answer.reply ≡ Some (int32 (pos 0))
 
-  write_left : (b : Bool) (what : Asked) (write : WriteCounts) (answer : Answer) (marks : Marks) → told answer.reply ≡ Some (int32 (pos 1)) → IsRefused (answered old (if b then Err OnView else Ok answer))
+  write_left : (b : Bool) (what : Asked) (write : WriteSteps) (answer : Answer) (marks : Marks) → told answer.reply ≡ Some (int32 (pos 1)) → IsRefused (answered old (if b then Err OnView else Ok answer))
       → AreMarkedByWrite b write old marks → marks ≡ old.marks
   write_left true what write answer marks carried refused marked = marked
   write_left false what write answer marks carried refused marked = absurd (cc (carried, refused))
@@ -218,7 +218,7 @@ module _ (old : State) where
   cut_told : (asked : Result Asked Refusal) (answer : Answer) (marks : Marks) → Cut old asked answer marks → told answer.reply ≡ Some (int32 (pos 1))
   cut_told (Ok asked) answer marks cut = by_write (asked_write asked) refl cut
     where
-      by_write : (write : Option WriteCounts) → asked_write asked ≡ write → WriteCut old write answer marks → told answer.reply ≡ Some (int32 (pos 1))
+      by_write : (write : Option WriteSteps) → asked_write asked ≡ write → WriteCut old write answer marks → told answer.reply ≡ Some (int32 (pos 1))
       by_write None is cut = absurd cut
       by_write (Some write) is (on, (left, is_cut, answers, marked)) = ap (λ (a : Answer). told a.reply) answers ∙ write_told asked write is left.n left.changed left.errors
   cut_told (Err refusal) answer marks cut = absurd cut

@@ -15,7 +15,7 @@ use Rattle.dv_core.specs.Statements.{AreCut, Written, is_due, next_changes, noth
 
 -- ---- changes
 
--- as where memory is wanting for no view
+-- as when memory runs out for no view
 counted_so : (all : List Share) (marks : Marks) → AreMarkedSo all marks (all_counted all marks)
 counted_so [] marks = refl
 counted_so (share ∷ rest) [] = refl

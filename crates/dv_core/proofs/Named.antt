@@ -22,7 +22,7 @@ use Rattle.dv_command.specs.declared.command.Command.{Command}
 use Rattle.dv_core.specs.Indexes.{form_asked, index_name}
 use Rattle.dv_core.specs.Sound.{AreSoundIndexes, IsSoundCommand}
 use Rattle.dv_core.specs.State.{State, empty_store_state}
-use Rattle.dv_core.specs.Statements.{WriteCounts, Written, nothing_written, with_all, with_next, with_result, is_due}
+use Rattle.dv_core.specs.Statements.{WriteSteps, Written, nothing_written, with_all, with_next, with_result, is_due}
 use Rattle.dv_core.specs.Step.{Answer}
 use Rattle.dv_core.specs.declared.outcome.Outcome.{Outcome}
 use Rattle.dv_core.proofs.Bare.{BareStep}
@@ -81,7 +81,7 @@ module _ (namespace : List ℕ) (ordered : Bool) (name : List ℕ) where
   all_leave so_far [] = refl
   all_leave so_far (statement ∷ statements) = all_leave (with_next namespace ordered so_far statement) statements ∙ next_leaves so_far statement
 
-did_leave : (write : WriteCounts) (old : State) (did : Written) → Did write old did → (name : List ℕ) → indexes_of name did.namespaces ≡ indexes_of name old.catalog.namespaces
+did_leave : (write : WriteSteps) (old : State) (did : Written) → Did write old did → (name : List ℕ) → indexes_of name did.namespaces ≡ indexes_of name old.catalog.namespaces
 did_leave write old did (inl whole) name = ap (λ (w : Written). indexes_of name w.namespaces) whole ∙ all_leave write.namespace write.ordered name (nothing_written old.catalog.namespaces) write.statements
 did_leave write old did (inr c) name =
     let before : Written = with_all write.namespace write.ordered (nothing_written old.catalog.namespaces) c.before in

@@ -15,7 +15,7 @@ use Rattle.dv_command.specs.Asked.{Asked, asked_by}
 use Rattle.dv_command.specs.Asked as asking
 use Rattle.dv_value.specs.Results.{◌>>=◌}
 use Rattle.dv_command.specs.Entries.{Updating, updating_of}
-use Rattle.dv_command.specs.Sound.{AreSpellable}
+use Rattle.dv_pipe.specs.Laws.{AreSpellable}
 use Rattle.dv_command.specs.Inner.Sound.{IsSoundUpdate}
 use Rattle.dv_command.specs.declared.asking.WriteKind.{WriteKind}
 use Rattle.dv_command.specs.declared.asking.WriteKind.TheVariants.{Insert, Update, Delete}
@@ -32,7 +32,7 @@ use Rattle.dv_core.specs.Sound.{IsOrderly, IsSoundDocument, AreSound, IsSoundCom
 use Rattle.dv_core.specs.Load.{IsLoaded, insert_alone, left_by, loaded, namespace_in}
 use Rattle.dv_catalog.specs.State.{AreOrdered, Collection, Standing, collection_at, collection_of, documents_of, indexes_of, is_view}
 use Rattle.dv_core.specs.State.{State, empty_store_state}
-use Rattle.dv_core.specs.Statements.{WriteCounts}
+use Rattle.dv_core.specs.Statements.{WriteSteps}
 use Rattle.dv_core.specs.Step.{asked_write}
 use Rattle.dv_path.specs.Names.{has_bad_name}
 use Rattle.dv_core.specs.Storable.{id_in, is_within_limits, storable, with_id_first}
@@ -223,8 +223,8 @@ module _ (laws : CollectionLaws) where
         updates_keep P IsStored changes (λ form. Unit {0}) (λ form any namespace c holds. afters_stored laws.id_stays laws.fits form c.documents (in_order namespace c holds).1) entries (asks_any entries)
     statements_hold Delete entries = deletes_keep P IsStored changes (λ k. tt) entries
 
-    writes_hold : (what : Asked) (write : WriteCounts) → asked_write what ≡ Some write → AllByRecursion (Keeps P IsStored changes) write.statements
-    writes_hold (asking.write w) write is = let same : write_by w ≡ write = cc in subst (λ (w : WriteCounts). AllByRecursion (Keeps P IsStored changes) w.statements) same (statements_hold w.kind w.entries)
+    writes_hold : (what : Asked) (write : WriteSteps) → asked_write what ≡ Some write → AllByRecursion (Keeps P IsStored changes) write.statements
+    writes_hold (asking.write w) write is = let same : write_by w ≡ write = cc in subst (λ (w : WriteSteps). AllByRecursion (Keeps P IsStored changes) w.statements) same (statements_hold w.kind w.entries)
     writes_hold what write is = absurd cc
 
     steps_hold : ((what : Asked) → IsKeptBy P what) → (old new : State) (session : ℕ) (command : Command) (outcome : Outcome) → Stands P old.catalog.namespaces → BareStep old session command outcome new → Stands P new.catalog.namespaces
@@ -293,7 +293,7 @@ module _ (laws : CollectionLaws) (unique_laws : UniqueLaws) where
     unique = change_unbroken unique_laws c.indexes change c.documents whole.documents.0 whole.unique apart;
   }
 
-  abbrev KeepsSound : WriteCounts → Type 0
+  abbrev KeepsSound : WriteSteps → Type 0
   KeepsSound write = AllByRecursion (Keeps IsWhole IsSoundChange change_whole) write.statements
 
   inserts_sound : (documents : List (List Field)) → AreSpellable documents → AllByRecursion (Keeps IsWhole IsSoundChange change_whole) (map insert_one documents)
@@ -324,7 +324,7 @@ module _ (laws : CollectionLaws) (unique_laws : UniqueLaws) where
         updates_keep IsWhole IsSoundChange change_whole IsSoundUpdate (λ form asked namespace c whole. afters_sound form asked c.documents whole.documents.0.1 whole.documents.1) entries (entries_sound entries valid)
     statements_sound Delete entries valid = deletes_keep IsWhole IsSoundChange change_whole (λ k. tt) entries
 
-    writes_sound : (command : Command) → IsSoundCommand command → (what : Asked) (write : WriteCounts) → asked_by command ≡ Ok what → asked_write what ≡ Some write → KeepsSound write
+    writes_sound : (command : Command) → IsSoundCommand command → (what : Asked) (write : WriteSteps) → asked_by command ≡ Ok what → asked_write what ≡ Some write → KeepsSound write
     writes_sound command sound (asking.write w) write asked is =
         let same : write_by w ≡ write = cc in
         subst KeepsSound same (statements_sound w.kind w.entries (soundly_asked asks command (asking.write w) sound asked).1)

@@ -13,7 +13,7 @@ use Rattle.dv_catalog.specs.Changes.{Change, Statement, clashes_by, put, gone, w
 use Rattle.dv_core.specs.Part.{IsPart}
 use Rattle.dv_catalog.specs.State.{Collection, documents_of}
 use Rattle.dv_core.specs.State.{State}
-use Rattle.dv_core.specs.Statements.{WriteCounts}
+use Rattle.dv_core.specs.Statements.{WriteSteps}
 use Rattle.dv_core.specs.Step.{asked_write}
 use Rattle.dv_core.specs.Writes.{statement_of, write_by}
 use Rattle.dv_core.proofs.Bare.{BareStep}
@@ -56,12 +56,12 @@ module _ (old : State) where
   abbrev Go : List Statement → Type 0
   Go statements = AllByRecursion (Keeps IsLeft IsGone goes) statements
 
-  deletes_go : (asked : asking.Write) (what : Asked) (write : WriteCounts) → asking.write asked ≡ what → asked.kind ≡ Delete → asked_write what ≡ Some write → Go write.statements
+  deletes_go : (asked : asking.Write) (what : Asked) (write : WriteSteps) → asking.write asked ≡ what → asked.kind ≡ Delete → asked_write what ≡ Some write → Go write.statements
   deletes_go asked what write is deletes writes =
       let same : write_by asked ≡ write = cc (ap asked_write is, writes) in
       let go : Go (map (statement_of asked.kind) asked.entries) =
       subst (λ (kind : WriteKind). Go (map (statement_of kind) asked.entries)) (sym deletes) (deletes_keep IsLeft IsGone goes (λ k. tt) asked.entries) in
-      subst (λ (w : WriteCounts). Go w.statements) same go
+      subst (λ (w : WriteSteps). Go w.statements) same go
 
   pub delete_leaves : (new : State) (session : ℕ) (command : Command) (asked : asking.Write) (outcome : Outcome) → asked_by command ≡ Ok (asking.write asked) → asked.kind ≡ Delete → BareStep old session command outcome new
       → (namespace : List ℕ) → IsPart (documents_of namespace new.catalog.namespaces) (documents_of namespace old.catalog.namespaces)

@@ -11,7 +11,7 @@ use Rattle.dv_catalog.specs.Inner.ScanLaws.{all_scanned}
 use Rattle.dv_catalog.specs.State as stored
 use Rattle.dv_catalog.specs.State.{rows_of}
 use Rattle.dv_command.specs.Asked.{Asked, find, aggregate, get_more, kill_cursors, asked_by}
-use Rattle.dv_command.specs.Sound.{AreSpellable}
+use Rattle.dv_pipe.specs.Laws.{AreSpellable}
 use Rattle.dv_command.specs.Inner.Sound.{IsSoundRequest}
 use Rattle.dv_command.specs.declared.command.Command.{Command}
 use Rattle.dv_cursor.specs.Batch.{batch}
@@ -20,13 +20,13 @@ use Rattle.dv_cursor.specs.Inner.Runs.{is_cursor_place}
 use Rattle.dv_value.specs.Results.{◌>>=◌}
 use Rattle.dv_refusal.specs.declared.refusal.Refusal.{Refusal}
 use Rattle.dv_refusal.specs.declared.refusal.Refusal.TheVariants.{TooLarge}
-use Rattle.dv_core.specs.Find.{are_too_large, reply_to_find, first_batch, reply_to_aggregate, kept, kept_under, kept_by_cursor, replied}
+use Rattle.dv_core.specs.Find.{has_too_large, reply_to_find, first_batch, reply_to_aggregate, kept, kept_under, kept_by_cursor, replied}
 use Rattle.dv_core.specs.Load.{loaded}
 use Rattle.dv_core.specs.More.{next_of, cursor_number, rows_asked, rows_wanted, without_cursor, without_cursors}
 use Rattle.dv_core.specs.Runs.{carries, wants, state_after_move}
 use Rattle.dv_core.specs.Sound.{AreShown, AreSoundCursors, AreSoundDocuments, AreSoundViews, IsSoundCommand}
 use Rattle.dv_core.specs.State.{State, empty_store_state}
-use Rattle.dv_core.specs.Step.{answered, answer_to, on_cursors, end_session, work_of}
+use Rattle.dv_core.specs.Step.{answered, answer_to, on_cursors, end_session, task_of}
 use Rattle.dv_core.specs.Storable.{is_within_limits}
 use Rattle.dv_core.specs.declared.outcome.Outcome.{Outcome}
 use Rattle.dv_core.proofs.Bare.{BareStep}
@@ -113,17 +113,17 @@ module _ (laws : CursorLaws) where
 
   module _ (session : ℕ) (namespace : List ℕ) (cursors : Cursors) (all : Shown cursors) where
     module _ (count : ℕ) (rows : Rows) (valid : AreSpellable rows) where
-      replied_shown : (told : ℕ × Cursors) (b : Bool) → are_too_large rows ≡ b → (AreShown (Some rows) → Shown told.1) → (reply : List Field) → Leaves (if b then Err TooLarge else Ok (reply, told.1))
+      replied_shown : (told : ℕ × Cursors) (b : Bool) → has_too_large rows ≡ b → (AreShown (Some rows) → Shown told.1) → (reply : List Field) → Leaves (if b then Err TooLarge else Ok (reply, told.1))
       replied_shown told true large left reply = tt
       replied_shown told false fit left reply = left (valid, fit)
 
       kept_shown : (left : Rows) → (AreShown (Some rows) → AreShown (Some left)) → Leaves (kept session namespace left cursors >>= replied namespace count rows)
-      kept_shown [] shown = replied_shown (0, cursors) (are_too_large rows) refl (λ fit. all) _
+      kept_shown [] shown = replied_shown (0, cursors) (has_too_large rows) refl (λ fit. all) _
       kept_shown (row ∷ left) shown = by_free (free_id cursors)
         where
           by_free : (free : Option ℕ) → Leaves (kept_under free session namespace (row ∷ left) cursors >>= replied namespace count rows)
           by_free None = tt
-          by_free (Some id) = replied_shown (id, added session namespace (row ∷ left) cursors) (are_too_large rows) refl (λ fit. added_shown session namespace (row ∷ left) cursors (shown fit) all) _
+          by_free (Some id) = replied_shown (id, added session namespace (row ∷ left) cursors) (has_too_large rows) refl (λ fit. added_shown session namespace (row ∷ left) cursors (shown fit) all) _
 
       first_shown : (single : Bool) → Leaves (first_batch session namespace count single rows cursors)
       first_shown single = kept_shown (kept_by_cursor count single rows) (left_shown count single rows)
@@ -156,7 +156,7 @@ module _ (laws : CursorLaws) where
         left_by_command old (next_of session g.namespace (cursor_number g.id) g.batch_size (rows_asked session g.namespace g.id old.cursors) old.cursors) all
         (next_shown session g.namespace old.cursors all (cursor_number g.id) g.batch_size (rows_asked session g.namespace g.id old.cursors))
     asked_shown size (kill_cursors k) sound = without_shown session k.namespace k.ids old.cursors all
-    asked_shown size asked sound = same_shown old.cursors _ (work_cursors old (work_of old session asked) tt) all
+    asked_shown size asked sound = same_shown old.cursors _ (work_cursors old (task_of old session asked) tt) all
 
     command_shown : (command : Command) → IsSoundCommand command → (asked : Result Asked Refusal) → asked_by command ≡ asked → AreSoundCursors (answered old (asked >>= answer_to old session)).state
     command_shown command sound (Ok asked) is = asked_shown (body_size command) asked (soundly_asked asks command asked sound is)

@@ -1,5 +1,5 @@
 -- A find whose first batch is its only one needs no document of a collection behind those that it may have.
-use Rattle.std.proofs.Common.{◌≡◌, ℕ, zero, suc, ◌<◌, ◌≤◌, ◌⊎◌, inl, inr, Bool, true, cond, not, List, [], ◌∷◌, drop, map, take, Result, Ok, Err, refl, ap, sym, ◌∙◌, arith}
+use Rattle.std.proofs.Common.{◌≡◌, ℕ, Bool, true, cond, not, List, [], ◌∷◌, drop, map, Result, Ok, Err, refl, ap, sym, ◌∙◌}
 use Rattle.std.specs.List.{AllByRecursion, list_all}
 use Rattle.dv_value.specs.Spelling.{Fits}
 use Rattle.dv_value.specs.Tree.{Field}
@@ -19,25 +19,6 @@ use Rattle.dv_core.proofs.Stored.{within_limits_fits}
 
 abbrev Rows : Type 0
 Rows = List (List Field)
-
--- ---- how many rows are needed
-
-fewer_taken : (m n : ℕ) (rows : Rows) → m ≤ n → take m (take n rows) ≡ take m rows
-fewer_taken zero zero [] le = refl
-fewer_taken zero zero (row ∷ rows) le = refl
-fewer_taken zero (suc n) [] le = refl
-fewer_taken zero (suc n) (row ∷ rows) le = refl
-fewer_taken (suc m) zero rows le = absurd (omega (arith, le))
-fewer_taken (suc m) (suc n) [] le = refl
-fewer_taken (suc m) (suc n) (row ∷ rows) le = ap (λ (rs : Rows). row ∷ rs) (fewer_taken m n rows (omega (arith, le)))
-
-pub needed_batch : ((count : ℕ) (rows : Rows) → batch count (take count rows) ≡ batch count rows)
-    → (count limit : ℕ) (rows : Rows) → 0 < count → (limit ≡ 0) ⊎ (count < limit) → batch count (limited count rows) ≡ batch count (limited limit rows)
-needed_batch needs zero limit rows some more = absurd (omega (arith, some))
-needed_batch needs (suc count) zero rows some more = needs (suc count) rows
-needed_batch needs (suc count) (suc limit) rows some (inl none) = absurd (omega (arith, none))
-needed_batch needs (suc count) (suc limit) rows some (inr less) =
-    ap (batch (suc count)) (sym (fewer_taken (suc count) (suc limit) rows (omega (arith, less)))) ∙ needs (suc count) (take (suc limit) rows)
 
 -- ---- what is replied
 

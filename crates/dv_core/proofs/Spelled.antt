@@ -34,9 +34,9 @@ use Rattle.dv_keyed.specs.Index.{IndexForm, id_form}
 use Rattle.dv_index.specs.Indexed.{is_dropped, without_index}
 use Rattle.dv_catalog.specs.State as states
 use Rattle.dv_catalog.specs.Views.{aggregated, created, dropped, made, reads_name, with_view, with_view_by, with_views}
-use Rattle.dv_core.specs.Statements.{WriteCounts, Written, carry_out}
+use Rattle.dv_core.specs.Statements.{WriteSteps, Written, carry_out}
 use Rattle.dv_core.specs.Step.{Answer, answered, read_answer, write_answer, on_catalog, on_cursors, answer_to, step, asked_write}
-use Rattle.dv_command.specs.Sound.{AreSpellable}
+use Rattle.dv_pipe.specs.Laws.{AreSpellable}
 use Rattle.dv_command.specs.Inner.Sound.{AreIds, IsNamespace, IsSoundRequest}
 use Rattle.dv_core.specs.Writes.{write_by}
 use Rattle.dv_core.proofs.Bare.{BareCut, BareStep, BareWriteCut}
@@ -44,10 +44,10 @@ use Rattle.dv_core.proofs.Viewed.{PipesStayValid, gathered_valid, rows_valid}
 use Rattle.dv_core.proofs.Named.{IsNamed, explained_named}
 use Rattle.dv_core.proofs.Asking.{AsksSoundly, body_fits, body_size, soundly_asked}
 use Rattle.dv_catalog.specs.Inner.ScanLaws.{all_scanned}
-use Rattle.dv_core.specs.Find.{are_too_large, reply_to_find, reply_to_aggregate, kept, kept_under, kept_by_cursor, replied}
+use Rattle.dv_core.specs.Find.{has_too_large, reply_to_find, reply_to_aggregate, kept, kept_under, kept_by_cursor, replied}
 use Rattle.dv_core.specs.Indexes.{explained_reply, form_asked, index_count, index_name}
 use Rattle.dv_core.specs.More.{gone_ids, id_behind, missing_ids, next_of, cursor_number, rows_asked, rows_wanted, went_each}
-use Rattle.dv_core.specs.Sound.{AreShown, AreSoundCursors, HasSpelling, IsTold, IsSound, IsSoundCommand}
+use Rattle.dv_core.specs.Sound.{AreShown, AreSoundCursors, HasSpelling, IsBounded, IsSound, IsSoundCommand}
 use Rattle.dv_core.specs.Storable.{is_within_limits}
 use Rattle.dv_core.proofs.Spellings.{spelling-field, length-int64, length-string, sizes, array-bound}
 use Rattle.dv_core.proofs.Texts.{are_ascii, IsUtf8-ascii}
@@ -71,7 +71,7 @@ both_hold true false is = absurd cc
 both_hold false b is = absurd cc
 
 -- one row that isn't too large, or rows within the limit
-within_limit_by : (rows others : List (List Field)) → are_too_large (rows ++ others) ≡ false → (length rows ≤ 1) ⊎ (total_size rows ≤ 16777216) → total_size rows ≤ 16777216
+within_limit_by : (rows others : List (List Field)) → has_too_large (rows ++ others) ≡ false → (length rows ≤ 1) ⊎ (total_size rows ≤ 16777216) → total_size rows ≤ 16777216
 within_limit_by rows others fit (inr few) = few
 within_limit_by [] others fit (inl one) = omega arith
 within_limit_by (row ∷ []) others fit (inl one) =
@@ -83,33 +83,33 @@ module _ (laws : BatchLaws) (count : ℕ) (rows : List (List Field)) where
   batch_valid : AreSpellable rows → AreSpellable (batch count rows)
   batch_valid valid = front_all (λ d. AreFields (fields_of d)) (batch count rows) (rows_behind count rows) (subst AreSpellable (sym (laws.front count rows)) valid)
 
-  batch_within : are_too_large rows ≡ false → total_size (batch count rows) ≤ 16777216
-  batch_within fit = within_limit_by (batch count rows) (rows_behind count rows) (subst (λ (rs : List (List Field)). are_too_large rs ≡ false) (sym (laws.front count rows)) fit) (laws.within count rows).1
+  batch_within : has_too_large rows ≡ false → total_size (batch count rows) ≤ 16777216
+  batch_within fit = within_limit_by (batch count rows) (rows_behind count rows) (subst (λ (rs : List (List Field)). has_too_large rs ≡ false) (sym (laws.front count rows)) fit) (laws.within count rows).1
 
 -- what is told of a part of the state, or why it is refused
 record IsSpelledSo {S : Type 0} (defined : Result (List Field × S) Refusal) : Type 0 where
   reply : (done : List Field × S) → defined ≡ Ok done → HasSpelling done.0
-  refusal : (why : Refusal) → defined ≡ Err why → IsTold why
+  refusal : (why : Refusal) → defined ≡ Err why → IsBounded why
 
 cursors_spelled : (old : State) (defined : Result (List Field × Cursors) Refusal) → IsSpelledSo defined → HasSpelling (answered old (on_cursors old defined)).reply
 cursors_spelled old (Ok done) so = so.reply done refl
 cursors_spelled old (Err refusal) so = refusal_spelled refusal (so.refusal refusal refl)
 
-is_refused : {S : Type 0} (why : Refusal) → IsTold why → IsSpelledSo {S = S} (Err why)
-is_refused why told = record { reply = λ done is. absurd cc; refusal = λ other is. let same : why ≡ other = cc in subst IsTold same told }
+is_refused : {S : Type 0} (why : Refusal) → IsBounded why → IsSpelledSo {S = S} (Err why)
+is_refused why told = record { reply = λ done is. absurd cc; refusal = λ other is. let same : why ≡ other = cc in subst IsBounded same told }
 
 is_told : {S : Type 0} (done : List Field × S) → HasSpelling done.0 → IsSpelledSo (Ok done)
 is_told {S} done spelt = record { reply = λ other is. let same : done ≡ other = cc in subst (λ (d : List Field × S). HasSpelling d.0) same spelt; refusal = λ why is. absurd cc }
 
 module _ (laws : BatchLaws) (namespace : List ℕ) (named : IsNamespace namespace) (count : ℕ) (rows : List (List Field)) (valid : AreSpellable rows) where
-  replied_spelled : (id : ℕ × Cursors) → id.0 < 2 ^ 63 → (b : Bool) → are_too_large rows ≡ b
+  replied_spelled : (id : ℕ × Cursors) → id.0 < 2 ^ 63 → (b : Bool) → has_too_large rows ≡ b
       → IsSpelledSo (if b then Err TooLarge else Ok (first_batch_reply namespace id.0 (map document_of (batch count rows)), id.1))
   replied_spelled id fits true is = is_refused TooLarge tt
   replied_spelled id fits false is = is_told _ (rows_spelled (codes "firstBatch") first_name namespace named.0 named.1 id.0 fits (batch count rows) (batch_valid laws count rows valid) (batch_within laws count rows is))
 
   under_spelled : (session : ℕ) (left : List (List Field)) (cursors : Cursors) (id : Option ℕ) → ((i : ℕ) → id ≡ Some i → i < 2 ^ 63) → IsSpelledSo (kept_under id session namespace left cursors >>= replied namespace count rows)
   under_spelled session left cursors None fits = is_refused LimitReached tt
-  under_spelled session left cursors (Some id) fits = replied_spelled (id, added session namespace left cursors) (fits id refl) (are_too_large rows) refl
+  under_spelled session left cursors (Some id) fits = replied_spelled (id, added session namespace left cursors) (fits id refl) (has_too_large rows) refl
 
   free_fits : (b c : Bool) (next id : ℕ) → nat_lt next (2 ^ 63) ≡ c → (if b && c then Some next else None) ≡ Some id → id < 2 ^ 63
   free_fits true true next id small is = let same : next ≡ id = cc in subst (λ (n : ℕ). n < 2 ^ 63) same (ltb-true next (2 ^ 63) small)
@@ -117,7 +117,7 @@ module _ (laws : BatchLaws) (namespace : List ℕ) (named : IsNamespace namespac
   free_fits false c next id small is = absurd cc
 
   first_spelled : (session : ℕ) (left : List (List Field)) (cursors : Cursors) → IsSpelledSo (kept session namespace left cursors >>= replied namespace count rows)
-  first_spelled session [] cursors = replied_spelled (0, cursors) (omega arith) (are_too_large rows) refl
+  first_spelled session [] cursors = replied_spelled (0, cursors) (omega arith) (has_too_large rows) refl
   first_spelled session (row ∷ left) cursors = under_spelled session (row ∷ left) cursors (free_id cursors) (λ id is. free_fits _ _ cursors.next id refl is)
 
   id_fits : (id : ℕ) (left : List (List Field)) → id < 2 ^ 63 → id_behind id left < 2 ^ 63
@@ -186,14 +186,14 @@ killed_spelled most gone missing few all others =
 
 -- ---- writes
 
-write_or_refusal : (old : State) (b : Bool) (write : WriteCounts) (did : Written) → HasSpelling (write.reply did.n did.changed did.errors) → HasSpelling (answered old (if b then Err OnView else Ok (write_answer old write did))).reply
+write_or_refusal : (old : State) (b : Bool) (write : WriteSteps) (did : Written) → HasSpelling (write.reply did.n did.changed did.errors) → HasSpelling (answered old (if b then Err OnView else Ok (write_answer old write did))).reply
 write_or_refusal old true write did spelt = refusal_spelled OnView tt
 write_or_refusal old false write did spelt = spelt
 
 -- what is made is answered, or why it can't be
 abbrev IsToldOf : {A : Type 0} → Result A Refusal → Type 0
 IsToldOf (Ok x) = Unit {0}
-IsToldOf (Err refusal) = IsTold refusal
+IsToldOf (Err refusal) = IsBounded refusal
 
 catalog_spelled : (old : State) (reply : states.State → List Field) (made : Result states.State Refusal) → ((left : states.State) → HasSpelling (reply left)) → IsToldOf made
     → HasSpelling (answered old (on_catalog old (made >>= λ left. Ok (reply left, left)))).reply
@@ -383,7 +383,7 @@ module _ (asks : AsksSoundly) (counts : CountsAreValid) (laws : BatchLaws) (pipe
 
 module _ (asks : AsksSoundly) (counts : CountsAreValid) where
   -- the reply of a write that is cut
-  left_spelled : (old : State) (write : WriteCounts) (answer : Answer) → IsTellable write → BareWriteCut old (Some write) answer → HasSpelling answer.reply
+  left_spelled : (old : State) (write : WriteSteps) (answer : Answer) → IsTellable write → BareWriteCut old (Some write) answer → HasSpelling answer.reply
   left_spelled old write answer is (on, (left, is_cut, answers)) = subst (λ (a : Answer). HasSpelling a.reply) (sym answers) (cut_spelled counts write old.catalog.namespaces left is is_cut)
 
   asked_cut_spelled : (old : State) (size : ℕ) (what : Asked) (answer : Answer) → IsSoundRequest size what → BareWriteCut old (asked_write what) answer → HasSpelling answer.reply

@@ -26,10 +26,10 @@ use Rattle.dv_catalog.specs.Changes.{Effect, Statement, done_to}
 use Rattle.dv_views.specs.declared.fault.ViewFault.TheVariants.{NoMemory}
 use Rattle.dv_catalog.specs.State.{Namespaces, collection_of}
 use Rattle.dv_catalog.specs.Views.{made}
-use Rattle.dv_core.specs.Statements.{WriteCounts, Written, nothing_written, is_due, with_result, with_next, with_all, carry_out, IsCutWrite}
+use Rattle.dv_core.specs.Statements.{WriteSteps, Written, nothing_written, is_due, with_result, with_next, with_all, carry_out, IsCutWrite}
 use Rattle.dv_core.specs.Writes.{statement_of, reply_by, write_by}
 use Rattle.dv_core.proofs.Plain.{IsPlain, IsPlainly, IsPlainStatement, done_plainly, inserts_plain, updates_plain, deletes_plain}
-use Rattle.dv_core.specs.Sound.{HasSpelling, IsTold}
+use Rattle.dv_core.specs.Sound.{HasSpelling, IsBounded}
 use Rattle.dv_core.proofs.Spellings.{spelling-field, spelling-nil, length-int32, length-int64, length-string, sizes, array-bound}
 use Rattle.dv_core.proofs.Texts.{are_ascii, IsUtf8-ascii}
 use Rattle.dv_core.proofs.SpelledRows.{more_valid, number_valid, ok_fields, ok_size, ok_valid, spelled}
@@ -89,7 +89,7 @@ place_short byte at h i =
     (IsUtf8-from_ascii (decimal at) (IsAscii-decimal at i)) in
     (text, omega (arith, length-append ((codes "RefusedType 0x" ++ hex_byte byte) ++ codes " at ") (decimal at), length-decimal-le 20 at (omega arith) (omega arith) i))
 
-fault_short : (fault : BsonFault) → IsTold (InvalidBson fault) → IsShortText (fault_text fault)
+fault_short : (fault : BsonFault) → IsBounded (InvalidBson fault) → IsShortText (fault_text fault)
 fault_short (RefusedType byte at) told = place_short byte at told.0 told.1
 fault_short Truncated told = ascii_short (codes "Truncated") refl (omega arith)
 fault_short BadLength told = ascii_short (codes "BadLength") refl (omega arith)
@@ -102,7 +102,7 @@ fault_short bson.TooLarge told = ascii_short (codes "TooLarge") refl (omega arit
 fault_short NoMemory told = ascii_short (codes "NoMemory") refl (omega arith)
 fault_short BadName told = ascii_short (codes "BadName") refl (omega arith)
 
-pub told_short : (refusal : Refusal) → IsTold refusal → IsShort refusal
+pub told_short : (refusal : Refusal) → IsBounded refusal → IsShort refusal
 told_short (InvalidBson fault) told =
     let short = fault_short fault told in
     record {
@@ -261,18 +261,18 @@ abbrev pub IsSpelled : (ℕ → ℕ → List Tree → List Field) → Type 0
 IsSpelled reply = (n changed : ℕ) (es : List Tree) → length es ≤ 100000 → AllByRecursion IsSmall es → HasSpelling (reply n changed es)
 
 -- a write of so few statements, each refused plainly, whose reply has a spelling
-pub record IsTellable (write : WriteCounts) : Type 0 where
+pub record IsTellable (write : WriteSteps) : Type 0 where
   pub within : length write.statements ≤ 100000
   pub plain : AllByRecursion IsPlainStatement write.statements
   pub reply : IsSpelled write.reply
 
-few_written : (write : WriteCounts) (old : Namespaces) (statements : List Statement) → length statements ≤ 100000 → AllByRecursion IsPlainStatement statements
+few_written : (write : WriteSteps) (old : Namespaces) (statements : List Statement) → length statements ≤ 100000 → AllByRecursion IsPlainStatement statements
     → AreFew (length statements) (with_all write.namespace write.ordered (nothing_written old) statements)
 few_written write old statements within plain =
     let all = few_all write.namespace write.ordered 0 (nothing_written old) statements (omega (arith, within)) plain (record { statements = omega arith; errors = omega arith; small = tt }) in
     record { statements = omega (arith, all.statements); errors = omega (arith, all.errors); small = all.small }
 
-pub write_spelled : (write : WriteCounts) (old : Namespaces) → IsTellable write → HasSpelling (write.reply (carry_out write old).n (carry_out write old).changed (carry_out write old).errors)
+pub write_spelled : (write : WriteSteps) (old : Namespaces) → IsTellable write → HasSpelling (write.reply (carry_out write old).n (carry_out write old).changed (carry_out write old).errors)
 write_spelled write old is =
     let all = few_written write old write.statements is.within is.plain in
     is.reply (carry_out write old).n (carry_out write old).changed (carry_out write old).errors (omega (arith, all.errors, is.within)) all.small
@@ -291,7 +291,7 @@ done_behind counts changes = record {
 }
 
 -- one that is cut: the errors of the statements before, and that of the one that found no memory
-pub cut_spelled : CountsAreValid → (write : WriteCounts) (old : Namespaces) (left : Written) → IsTellable write → IsCutWrite write old left → HasSpelling (write.reply left.n left.changed left.errors)
+pub cut_spelled : CountsAreValid → (write : WriteSteps) (old : Namespaces) (left : Written) → IsTellable write → IsCutWrite write old left → HasSpelling (write.reply left.n left.changed left.errors)
 cut_spelled counts write old left is c =
     let so_far : Written = with_all write.namespace write.ordered (nothing_written old) c.before in
     let many : length write.statements ≡ length c.before + suc (length c.behind) = rw (c.stands, length-append) refl in

@@ -6,7 +6,7 @@ use Rattle.dv_value.specs.Tree.{int32, boolean, string, Field, fields_of}
 use Rattle.dv_command.specs.Replies.{hello_reply, refusal_reply}
 use Rattle.dv_refusal.specs.Refusals.{code, code_name, message_of}
 use Rattle.dv_refusal.specs.declared.refusal.Refusal.{Refusal}
-use Rattle.dv_core.specs.Sound.{HasSpelling, IsTold}
+use Rattle.dv_core.specs.Sound.{HasSpelling, IsBounded}
 use Rattle.dv_core.proofs.Spellings.{spelling-field, spelling-nil, length-int32, length-string}
 use Rattle.dv_core.proofs.SpelledRows.{more_valid, number_valid, ok_fields, ok_valid, spelled}
 use Rattle.dv_core.proofs.SpelledErrors.{name_short, told_short}
@@ -37,7 +37,7 @@ hello_spelled =
 
 -- ---- every command
 
-pub refusal_spelled : (refusal : Refusal) → IsTold refusal → HasSpelling (refusal_reply refusal)
+pub refusal_spelled : (refusal : Refusal) → IsBounded refusal → HasSpelling (refusal_reply refusal)
 refusal_spelled refusal told =
     let short = told_short refusal told in
     let called = name_short refusal in

@@ -9,7 +9,7 @@ use Rattle.dv_value.specs.Spelling.{payload, spelling, IsValue, AreFields, AreEl
 use Rattle.dv_value.specs.Tree.{Tree, int32, int64, string, array, Field, fields_of, list_of_fields, elements_of}
 use Rattle.dv_command.specs.Replies.{document_of, count, reply_of, batch_reply}
 use Rattle.dv_cursor.specs.Batch.{total_size}
-use Rattle.dv_command.specs.Sound.{AreSpellable}
+use Rattle.dv_pipe.specs.Laws.{AreSpellable}
 use Rattle.dv_core.specs.Sound.{HasSpelling}
 use Rattle.dv_core.proofs.Spellings.{spelling-field, spelling-nil, spelling-long, length-int32, length-int64, length-string, sizes, array-bound}
 use Rattle.dv_core.proofs.Texts.{are_ascii, IsUtf8-ascii}

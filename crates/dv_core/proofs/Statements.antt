@@ -12,7 +12,7 @@ use Rattle.dv_catalog.specs.Marks.{AreMarkedBy, Marked, Marks}
 use Rattle.dv_catalog.specs.State.{Namespaces, collection_of, lists_of}
 use Rattle.dv_views.specs.Forms.{ViewForm}
 use Rattle.dv_catalog.specs.Changes.{Change, Effect, Statement, apply, changes_of, done_to}
-use Rattle.dv_core.specs.Statements.{WriteCounts, Written, nothing_written, with_next, with_all, with_result, is_due, next_changes, cut, AreCut, IsCutWrite}
+use Rattle.dv_core.specs.Statements.{WriteSteps, Written, nothing_written, with_next, with_all, with_result, is_due, next_changes, cut, AreCut, IsCutWrite}
 use Rattle.dv_catalog.specs.Inner.Parts as Parts
 use Rattle.dv_catalog.specs.declared.failure.Stopped.{Stopped}
 use Rattle.dv_command.specs.Replies.{document_of, cut_error}
@@ -190,7 +190,7 @@ module _ (namespace : List ℕ) (ordered : Bool) (views : List ViewForm) where
         counts now after next = ap (λ (w : Written). w.statements) next.is_next ∙ rw reached.due (counts_result so_far _)
 
 -- what an ended write answers
-module _ (write : WriteCounts) (old new : Marked) (left : Written) where
+module _ (write : WriteSteps) (old new : Marked) (left : Written) where
   abbrev pub WholeOf : Type 0
   WholeOf = AreCarried write.namespace write.ordered old.state.views write.statements old.state.namespaces old.marks left new.marks
 

@@ -20,7 +20,7 @@ use Rattle.dv_core.specs.declared.outcome.Outcome.TheVariants.{Reply, Wanting, N
 use Rattle.dv_core.specs.declared.outcome.Batch.{Batch}
 use Rattle.dv_core.specs.declared.outcome.Told.{Told}
 use Rattle.dv_core.specs.declared.outcome.Told.TheVariants as tells
-use Rattle.dv_core.specs.Statements.{WriteCounts, Written, carry_out}
+use Rattle.dv_core.specs.Statements.{WriteSteps, Written, carry_out}
 use Rattle.dv_core.specs.Marks.{AreMarked, AreMarkedAll, AreMarkedByWrite, AreMarkedForWant, marks_where_read, read_by}
 use Rattle.dv_core.specs.Step.{Answer, answered, read_answer, write_answer, on_catalog, on_cursors, answer_to, replying, Cut, MemoryStep, TellsOfWant, Wants}
 use Rattle.dv_core.specs.Inner.StepParts.{Ends, GivesAndLeaves, IsMadeOf, Refuses, StandRead, TellsReply, TellsOrNot, reply_told}
@@ -33,7 +33,7 @@ abbrev answer_of : List Field → State → Answer
 answer_of reply state = record { reply = reply; state = state }
 
 module _ (old : State) (session : ℕ) (command : Command) where
-  -- how views stand where the command is refused so: as where it is carried out, unless memory is wanting; and as where it is
+  -- how views stand where the command is refused so: as where it is carried out, unless memory runs out; and as where it is
   abbrev StandRefused : Result Asked Refusal → Refusal → Marks → Type 0
   StandRefused asked refusal marks = ((refusal ≡ WantOfMemory) ⊎ AreMarkedAll old asked marks) × AreMarkedForWant old asked marks
 
@@ -168,7 +168,7 @@ module _ (old : State) (session : ℕ) (command : Command) where
 
   -- ---- a create, and a drop
 
-  -- what is refused leaves views as they stood, unless memory is wanting
+  -- what is refused leaves views as they stood, unless memory runs out
   pub create_stands : (c : Create) (reply : List Field) (told : Result (List Field) Refusal) (before after : stored.State) (made : Result stored.State Refusal) (marks : Marks) → created c.namespace c.view old.catalog ≡ made → GivesAndLeaves (replying reply made) before told after
       → StandMade (names_of_new c.view) (marks_made c.view old.catalog.views old.marks) (marked old) told marks → StandBy (create c) told marks
   create_stands c reply (Ok told) before after (Ok state) marks is gives so = rw is so
@@ -189,7 +189,7 @@ module _ (old : State) (session : ℕ) (command : Command) where
   -- ---- a write
 
   module _ (w : asking.Write) (asks : asked_by command ≡ Ok (asking.write w)) (new : State) where
-    abbrev writes : WriteCounts
+    abbrev writes : WriteSteps
     writes = write_by w
 
     abbrev done : Written
@@ -229,7 +229,7 @@ module _ (old : State) (session : ℕ) (command : Command) where
         by_view false on (done, views, cursors) = write_done on views cursors outcome done
 
 -- a write on a collection
-pub on_collection : (write : WriteCounts) (old new : State) (outcome : Outcome) → is_view write.namespace old.catalog.views ≡ false → WritesOrCuts write (marked old) outcome (marked new) → new.catalog.views ≡ old.catalog.views → new.cursors ≡ old.cursors
+pub on_collection : (write : WriteSteps) (old new : State) (outcome : Outcome) → is_view write.namespace old.catalog.views ≡ false → WritesOrCuts write (marked old) outcome (marked new) → new.catalog.views ≡ old.catalog.views → new.cursors ≡ old.cursors
     → WritesOn write old outcome new
 on_collection write old new outcome on does views cursors = subst (λ (b : Bool). WritesWhere b write old outcome new) (sym on) (does, views, cursors)
 

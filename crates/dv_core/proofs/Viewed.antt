@@ -9,7 +9,8 @@ use Rattle.dv_catalog.specs.Changes.{Effect, done_to}
 use Rattle.dv_catalog.specs.State as stored
 use Rattle.dv_catalog.specs.Views.{made, reads_name, with_view, with_view_by, with_views}
 use Rattle.dv_command.specs.Asked.{Asked, ViewOn, create, drop, create_indexes, drop_indexes, asked_by}
-use Rattle.dv_command.specs.Sound.{AreSpellable, IsSoundPipeline}
+use Rattle.dv_pipe.specs.Laws.{AreSpellable}
+use Rattle.dv_command.specs.Sound.{IsSoundPipeline}
 use Rattle.dv_command.specs.Inner.Sound.{IsSoundViewAsked, IsSoundRequest}
 use Rattle.dv_command.specs.declared.command.Command.{Command}
 use Rattle.dv_core.specs.Indexes.{form_asked}

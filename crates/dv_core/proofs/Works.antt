@@ -6,10 +6,10 @@ use Rattle.dv_catalog.specs.State as stored
 use Rattle.dv_cursor.specs.Cursors.{Cursors}
 use Rattle.dv_refusal.specs.declared.refusal.Refusal.{Refusal}
 use Rattle.dv_core.specs.State.{State}
-use Rattle.dv_core.specs.Step.{Answer, Work, answer_of, answered, making, moving, on_catalog, on_cursors, read_answer, telling, writing}
+use Rattle.dv_core.specs.Step.{Answer, Task, answer_of, answered, making, moving, on_catalog, on_cursors, read_answer, telling, writing}
 
 -- there are no cursors to move
-abbrev pub MovesNone : Work → Type 0
+abbrev pub MovesNone : Task → Type 0
 MovesNone (moving result) = ⊥
 MovesNone work = Unit {0}
 
@@ -27,7 +27,7 @@ module _ (state : State) where
   catalog_cursors (Ok told) = refl
   catalog_cursors (Err refusal) = refl
 
-  pub work_cursors : (work : Work) → MovesNone work → (answered state (answer_of state work)).state.cursors ≡ state.cursors
+  pub work_cursors : (work : Task) → MovesNone work → (answered state (answer_of state work)).state.cursors ≡ state.cursors
   work_cursors (telling result) none = read_cursors result
   work_cursors (writing write) none = write_cursors (is_view write.namespace state.catalog.views) _ _ refl
   work_cursors (moving result) none = absurd none
@@ -49,7 +49,7 @@ module _ (state : State) where
   catalog_marks (Ok told) = refl
   catalog_marks (Err refusal) = refl
 
-  pub work_marks : (work : Work) → (answered state (answer_of state work)).state.marks ≡ state.marks
+  pub work_marks : (work : Task) → (answered state (answer_of state work)).state.marks ≡ state.marks
   work_marks (telling result) = read_marks result
   work_marks (writing write) = write_marks (is_view write.namespace state.catalog.views) _ _ refl
   work_marks (moving result) = cursors_marks result

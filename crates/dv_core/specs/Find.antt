@@ -16,8 +16,8 @@ use Rattle.dv_catalog.specs.Views.{aggregated}
 use Rattle.dv_core.specs.Storable.{is_within_limits}
 
 -- whether one of the rows is over the limits for documents
-abbrev pub are_too_large : List (List Field) → Bool
-are_too_large rows = not (list_all is_within_limits rows)
+abbrev pub has_too_large : List (List Field) → Bool
+has_too_large rows = not (list_all is_within_limits rows)
 
 -- the rows that a cursor keeps after a first batch; none if that is the only batch
 abbrev pub kept_by_cursor : ℕ → Bool → List (List Field) → List (List Field)
@@ -36,7 +36,7 @@ kept session namespace (row ∷ rows) cursors = kept_under (free_id cursors) ses
 -- the reply with the first batch; refused with 901 if one of the rows is over the limits
 abbrev pub replied : List ℕ → ℕ → List (List Field) → ℕ × Cursors → Result (List Field × Cursors) Refusal
 replied namespace count rows told =
-    if are_too_large rows then Err TooLarge else Ok (first_batch_reply namespace told.0 (map document_of (batch count rows)), told.1)
+    if has_too_large rows then Err TooLarge else Ok (first_batch_reply namespace told.0 (map document_of (batch count rows)), told.1)
 
 -- the reply with the first batch of these rows, and the cursors with a new one that keeps the others
 abbrev pub first_batch : ℕ → List ℕ → ℕ → Bool → List (List Field) → Cursors → Result (List Field × Cursors) Refusal

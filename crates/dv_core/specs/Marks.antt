@@ -10,7 +10,7 @@ use Rattle.dv_catalog.specs.Views.{created, dropped}
 use Rattle.dv_refusal.specs.declared.refusal.Refusal.{Refusal}
 use Rattle.dv_views.specs.Forms.{ViewForm, names_read}
 use Rattle.dv_core.specs.State.{State}
-use Rattle.dv_core.specs.Statements.{AreCut, WriteCounts, Written, is_due, next_changes, nothing_written, with_all, with_next}
+use Rattle.dv_core.specs.Statements.{AreCut, WriteSteps, Written, is_due, next_changes, nothing_written, with_all, with_next}
 use Rattle.dv_core.specs.Writes.{write_by}
 
 -- each view has its mark, and there are no other marks
@@ -71,7 +71,7 @@ marks_of_drop namespace state marks =
     else marks_without namespace state.views marks
 
 -- the marks after a write if no view becomes stale; a write to a view changes nothing
-abbrev pub marks_of_write : WriteCounts → State → Marks
+abbrev pub marks_of_write : WriteSteps → State → Marks
 marks_of_write write old =
     if is_view write.namespace old.catalog.views then old.marks
     else marks_written write.namespace write.ordered old.catalog.views (nothing_written old.catalog.namespaces) write.statements old.marks
@@ -84,7 +84,7 @@ marks_behind old (drop asked) = marks_where_made (dropped asked.namespace old.ca
 marks_behind old asked = marks_where_read (read_by asked) old
 
 -- the marks that a write may lead to; one to a view is refused, and changes nothing
-abbrev pub AreMarkedByWrite : Bool → WriteCounts → State → Marks → Type 0
+abbrev pub AreMarkedByWrite : Bool → WriteSteps → State → Marks → Type 0
 AreMarkedByWrite true write old marks = marks ≡ old.marks
 AreMarkedByWrite false write old marks = AreMarkedByEach write.namespace write.ordered old.catalog.views (nothing_written old.catalog.namespaces) write.statements old.marks marks
 

@@ -43,9 +43,9 @@ abbrev pub asks_for : ℕ → ℕ → ℕ → GetMore → Bool
 asks_for session id other asked = (other == session) && is_cursor_number id asked.id
 
 -- the next batch of the rows not yet returned, if there is a cursor
-abbrev pub batch_told : ℕ → Option (List (List Field)) → List (List Field)
-batch_told count None = []
-batch_told count (Some rows) = batch (rows_wanted count rows) rows
+abbrev pub next_rows : ℕ → Option (List (List Field)) → List (List Field)
+next_rows count None = []
+next_rows count (Some rows) = batch (rows_wanted count rows) rows
 
 -- whether there are no rows
 abbrev pub is_nil : List (List Field) → Bool
@@ -60,7 +60,7 @@ is_last_batch count (Some rows) = is_nil (rows_behind (rows_wanted count rows) r
 -- the rows that a getMore returns from the cursor with this session and id; none for other commands
 abbrev pub asked_rows : ℕ → ℕ → ℕ → Result Asked Refusal → State → List (List Field)
 asked_rows session id other (Ok (get_more asked)) state =
-    if asks_for session id other asked then batch_told asked.batch_size (rows_asked other asked.namespace asked.id state.cursors) else []
+    if asks_for session id other asked then next_rows asked.batch_size (rows_asked other asked.namespace asked.id state.cursors) else []
 asked_rows session id other asked state = []
 
 -- whether such a getMore returns the last batch

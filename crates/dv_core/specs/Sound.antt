@@ -12,8 +12,9 @@ use Rattle.dv_index.specs.Unique.{are_broken}
 use Rattle.dv_catalog.specs.State.{documents_of, indexes_of, AreOrdered, IsOrdered}
 use Rattle.dv_core.specs.State.{State}
 use Rattle.dv_cursor.specs.Cursors.{rows_to_come}
-use Rattle.dv_core.specs.Find.{are_too_large}
-use Rattle.dv_command.specs.Sound.{AreSpellable, IsIndexName, IsSoundPipeline}
+use Rattle.dv_core.specs.Find.{has_too_large}
+use Rattle.dv_pipe.specs.Laws.{AreSpellable}
+use Rattle.dv_command.specs.Sound.{IsIndexName, IsSoundPipeline}
 
 -- a valid document within the limits for stored documents
 pub record IsSoundDocument (d : List Field) : Type 0 where
@@ -54,7 +55,7 @@ AreSoundViews state = AllByRecursion (λ v. IsSoundPipeline v.stages) state.cata
 -- rows that can be returned: each is valid and within the limits for documents
 abbrev pub AreShown : Option (List (List Field)) → Type 0
 AreShown None = ⊤
-AreShown (Some rows) = AreSpellable rows × (are_too_large rows ≡ false)
+AreShown (Some rows) = AreSpellable rows × (has_too_large rows ≡ false)
 
 -- the rows not yet returned by each cursor can be returned
 abbrev pub AreSoundCursors : State → Type 0
@@ -74,9 +75,9 @@ IsSoundCommand (Sections body lists) = IsSoundDocument body × AllByRecursion (�
 IsSoundCommand (Invalid fault) = ⊤
 
 -- the byte and the offset in the refusal's fault, if it has them, are below 256 and below 2^64
-abbrev pub IsTold : Refusal → Type 0
-IsTold (InvalidBson (RefusedType byte at)) = (byte < 256) × (at < 2 ^ 64)
-IsTold refusal = ⊤
+abbrev pub IsBounded : Refusal → Type 0
+IsBounded (InvalidBson (RefusedType byte at)) = (byte < 256) × (at < 2 ^ 64)
+IsBounded refusal = ⊤
 
 -- a document that can be encoded
 abbrev pub HasSpelling : List Field → Type 0

@@ -71,16 +71,16 @@ module _ (namespace : List ℕ) (ordered : Bool) where
 
 -- the namespace of a write, whether an error ends it, its statements, and its reply as a function of the counted documents, the changes
 -- and the errors
-pub record WriteCounts : Type 0 where
+pub record WriteSteps : Type 0 where
   pub namespace : List ℕ
   pub ordered : Bool
   pub statements : List Statement
   pub reply : ℕ → ℕ → List Tree → List Field
 
 -- what all statements of a write do
-abbrev pub carry_out : WriteCounts → Namespaces → Written
+abbrev pub carry_out : WriteSteps → Namespaces → Written
 carry_out write old = with_all write.namespace write.ordered (nothing_written old) write.statements
 
 -- what a write may leave if memory runs out in one of its statements
-abbrev pub IsCutWrite : WriteCounts → Namespaces → Written → Type 0
+abbrev pub IsCutWrite : WriteSteps → Namespaces → Written → Type 0
 IsCutWrite write old left = AreCut write.namespace write.ordered write.statements old left

@@ -14,7 +14,7 @@ use Rattle.dv_catalog.specs.Marks.{Marks}
 use Rattle.dv_catalog.specs.State.{is_view}
 use Rattle.dv_catalog.specs.State as stored
 use Rattle.dv_catalog.specs.Views.{created, dropped}
-use Rattle.dv_core.specs.Statements.{WriteCounts, Written, carry_out, IsCutWrite}
+use Rattle.dv_core.specs.Statements.{WriteSteps, Written, carry_out, IsCutWrite}
 use Rattle.dv_core.specs.Writes.{write_by}
 use Rattle.dv_core.specs.Find.{reply_to_find, reply_to_aggregate}
 use Rattle.dv_core.specs.Indexes.{find_explained, indexed, unindexed}
@@ -32,47 +32,47 @@ pub record Answer : Type 0 where
 -- ---- the commands: each returns a reply and a state, or a refusal
 
 -- what there is to do for a command, which may be refused
-pub data Work : Type 0 where
+pub data Task : Type 0 where
   -- to give this reply, and to change nothing
-  telling : Result (List Field) Refusal → Work
+  telling : Result (List Field) Refusal → Task
   -- to write documents
-  writing : WriteCounts → Work
+  writing : WriteSteps → Task
   -- to open, advance or close cursors: a reply, and the cursors after it
-  moving : Result (List Field × Cursors) Refusal → Work
+  moving : Result (List Field × Cursors) Refusal → Task
   -- to create or drop collections, views or indexes: a reply, and the collections and views after it
-  making : Result (List Field × stored.State) Refusal → Work
+  making : Result (List Field × stored.State) Refusal → Task
 
 -- this reply with a result, or its refusal
 abbrev pub replying : {S : Type 0} → List Field → Result S Refusal → Result (List Field × S) Refusal
 replying reply made = made >>= λ left. Ok (reply, left)
 
 -- what there is to do for a parsed command of a session
-abbrev pub work_of : State → ℕ → Asked → Work
-work_of state session hello = telling (Ok hello_reply)
-work_of state session ping = telling (Ok (reply_of []))
-work_of state session (asking.write asked) = writing (write_by asked)
-work_of state session (find asked) = moving (reply_to_find session asked state.catalog state.cursors)
-work_of state session (aggregate asked) = moving (reply_to_aggregate session asked state.catalog state.cursors)
-work_of state session (get_more asked) = moving (next_batch session asked state.cursors)
-work_of state session (kill_cursors asked) = moving (Ok (killed session asked state.cursors))
-work_of state session (create asked) = making (replying (reply_of []) (created asked.namespace asked.view state.catalog))
-work_of state session (drop asked) = making (replying (drop_reply asked.namespace) (dropped asked.namespace state.catalog))
-work_of state session (create_indexes asked) = making (indexed asked state.catalog)
-work_of state session (drop_indexes asked) = making (unindexed asked state.catalog)
-work_of state session (explain asked) = telling (Ok (find_explained asked state.catalog))
-work_of state session (view_stats asked) = telling (view_told asked (marked state))
+abbrev pub task_of : State → ℕ → Asked → Task
+task_of state session hello = telling (Ok hello_reply)
+task_of state session ping = telling (Ok (reply_of []))
+task_of state session (asking.write asked) = writing (write_by asked)
+task_of state session (find asked) = moving (reply_to_find session asked state.catalog state.cursors)
+task_of state session (aggregate asked) = moving (reply_to_aggregate session asked state.catalog state.cursors)
+task_of state session (get_more asked) = moving (next_batch session asked state.cursors)
+task_of state session (kill_cursors asked) = moving (Ok (killed session asked state.cursors))
+task_of state session (create asked) = making (replying (reply_of []) (created asked.namespace asked.view state.catalog))
+task_of state session (drop asked) = making (replying (drop_reply asked.namespace) (dropped asked.namespace state.catalog))
+task_of state session (create_indexes asked) = making (indexed asked state.catalog)
+task_of state session (drop_indexes asked) = making (unindexed asked state.catalog)
+task_of state session (explain asked) = telling (Ok (find_explained asked state.catalog))
+task_of state session (view_stats asked) = telling (view_told asked (marked state))
 
 -- the answer to a command that changes nothing
 abbrev pub read_answer : State → Result (List Field) Refusal → Result Answer Refusal
 read_answer state result = result >>= λ reply. Ok (record { reply = reply; state = state })
 
 -- the answer to a write whose statements have done this
-abbrev pub write_answer : State → WriteCounts → Written → Answer
+abbrev pub write_answer : State → WriteSteps → Written → Answer
 write_answer old write did =
     record { reply = write.reply did.n did.changed did.errors; state = record old { catalog = record old.catalog { namespaces = did.namespaces } } }
 
 -- the answer to a write; one to a view is refused with 902
-abbrev pub carried_out : State → WriteCounts → Result Answer Refusal
+abbrev pub carried_out : State → WriteSteps → Result Answer Refusal
 carried_out state write =
     if is_view write.namespace state.catalog.views then Err OnView else Ok (write_answer state write (carry_out write state.catalog.namespaces))
 
@@ -85,7 +85,7 @@ abbrev pub on_catalog : State → Result (List Field × stored.State) Refusal �
 on_catalog state result = result >>= λ told. Ok (record { reply = told.0; state = record state { catalog = told.1 } })
 
 -- the answer to a command for which this is to do
-abbrev pub answer_of : State → Work → Result Answer Refusal
+abbrev pub answer_of : State → Task → Result Answer Refusal
 answer_of state (telling result) = read_answer state result
 answer_of state (writing write) = carried_out state write
 answer_of state (moving result) = on_cursors state result
@@ -93,7 +93,7 @@ answer_of state (making result) = on_catalog state result
 
 -- the answer to a parsed command of a session
 abbrev pub answer_to : State → ℕ → Asked → Result Answer Refusal
-answer_to state session asked = answer_of state (work_of state session asked)
+answer_to state session asked = answer_of state (task_of state session asked)
 
 -- the answer to a command; a refused one leaves the state unchanged
 abbrev pub answered : State → Result Answer Refusal → Answer
@@ -107,7 +107,7 @@ step state session command = answered state (asked_by command >>= answer_to stat
 -- ---- running out of memory
 
 -- the write of a command, if it is one
-abbrev pub asked_write : Asked → Option WriteCounts
+abbrev pub asked_write : Asked → Option WriteSteps
 asked_write (asking.write asked) = Some (write_by asked)
 asked_write asked = None
 
@@ -134,7 +134,7 @@ moves (kill_cursors asked) = true
 moves asked = false
 
 -- the answers and marks of a write that runs out of memory in one of its statements; a write to a view isn't carried out
-abbrev pub WriteCut : State → Option WriteCounts → Answer → Marks → Type 0
+abbrev pub WriteCut : State → Option WriteSteps → Answer → Marks → Type 0
 WriteCut old None answer marks = ⊥
 WriteCut old (Some write) answer marks =
     (is_view write.namespace old.catalog.views ≡ false)

@@ -24,6 +24,6 @@ outcome_told (tells.Batch batch) = Reply (batch_told batch)
 outcome_told (tells.Outcome outcome) = outcome
 
 -- the id of a batch fits in an int64
-abbrev pub HasId : Told → Type 0
-HasId (tells.Batch batch) = batch.id < 2 ^ 63
-HasId (tells.Outcome outcome) = ⊤
+abbrev pub HasLongId : Told → Type 0
+HasLongId (tells.Batch batch) = batch.id < 2 ^ 63
+HasLongId (tells.Outcome outcome) = ⊤

@@ -10,7 +10,7 @@ use Rattle.dv_command.specs.declared.asking.WriteKind.{WriteKind}
 use Rattle.dv_command.specs.declared.asking.WriteKind.TheVariants.{Insert, Update, Delete}
 use Rattle.dv_value.specs.Results.{◌>>=◌}
 use Rattle.dv_core.specs.Storable.{storable}
-use Rattle.dv_core.specs.Statements.{WriteCounts}
+use Rattle.dv_core.specs.Statements.{WriteSteps}
 
 -- the statement of an insert: a document, which is made storable first
 abbrev pub insert_one : List Field → Statement
@@ -37,5 +37,5 @@ reply_by Update n changed errors = update_reply n changed errors
 reply_by Delete n changed errors = write_reply n errors
 
 -- a write from the parsed command: each entry is a statement
-abbrev pub write_by : asking.Write → WriteCounts
+abbrev pub write_by : asking.Write → WriteSteps
 write_by asked = record { namespace = asked.namespace; ordered = asked.ordered; statements = map (statement_of asked.kind) asked.entries; reply = reply_by asked.kind }

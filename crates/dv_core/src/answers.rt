@@ -6,7 +6,7 @@ ghost use Rattle.dv_refusal.specs.Refusals.{UnlessWanting};
 ghost use Rattle.dv_command.specs.Replies as replies;
 ghost use Rattle.dv_core.specs.declared.outcome.Outcome.TheVariants.{Reply, NoReply};
 ghost use Rattle.dv_core.specs.Inner.StepParts.{Refuses, TellsReply, reply_told};
-ghost use Rattle.dv_core.specs.Told.{HasId, outcome_told};
+ghost use Rattle.dv_core.specs.Told.{HasLongId, outcome_told};
 
 use crate::outcome::{Batch, Outcome, Told};
 use crate::reserve::Reserve;
@@ -37,7 +37,7 @@ pub(crate) fn batch_or_refusal(
 ) -> Told
     requires { IfOk reply (λ batch. batch.id < 2 ^ 63) }
     ensures reply { TellsReply (reply_told reply) (outcome_told result) }
-    ensures id { HasId result }
+    ensures id { HasLongId result }
 {
     match reply {
         Ok(batch) => Told::Batch(batch),
@@ -56,7 +56,7 @@ pub(crate) fn told(reply: Result<Document, NoMemory>) -> Outcome
     }
 }
 
-/// The outcome of a command that is refused: where memory is wanting for the reply, it is refused for that.
+/// The outcome of a command that is refused: when memory runs out for the reply, it is refused for that.
 pub(crate) fn refuse(alloc: Global, reserve: &mut Reserve, refusal: Refusal) -> Outcome
     ensures { Refuses refusal result }
 {
@@ -80,14 +80,14 @@ fn refuse_for_memory(alloc: Global, reserve: &mut Reserve) -> Outcome
     }
 }
 
-/// The reply to a ping. Refused where memory is wanting.
+/// The reply to a ping. Refused when memory runs out.
 pub(crate) fn ping(alloc: Global) -> Result<Document, Refusal>
     ensures { UnlessWanting (λ reply. reply) (Ok (replies.reply_of [])) result }
 {
     Ok(reply_of(Document::new(alloc))?)
 }
 
-/// The reply to a greeting. Refused where memory is wanting.
+/// The reply to a greeting. Refused when memory runs out.
 pub(crate) fn hello(alloc: Global) -> Result<Document, Refusal>
     ensures { UnlessWanting (λ reply. reply) (Ok replies.hello_reply) result }
 {

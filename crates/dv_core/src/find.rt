@@ -60,7 +60,7 @@ pub(crate) fn first_batch(
         count,
         single,
     } = first;
-    let too_large = are_too_large(&rows);
+    let too_large = has_too_large(&rows);
     let (batch, rows) = first_rows(alloc, rows, count)?;
     if single || rows.is_empty() {
         if too_large {
@@ -90,7 +90,7 @@ pub(crate) fn first_batch(
     })
 }
 
-/// The rows of the first batch, and those behind it. Fails where memory is wanting.
+/// The rows of the first batch, and those behind it. Fails when memory runs out.
 #[tactic(auto, using(crate::proofs::Firsts::few_are_all, crate::proofs::Firsts::none_behind))]
 fn first_rows(
     alloc: Global,
@@ -109,7 +109,7 @@ fn first_rows(
     Ok((batch, behind))
 }
 
-/// The body of the reply with a batch. Fails where memory is wanting.
+/// The body of the reply with a batch. Fails when memory runs out.
 pub(crate) fn body_of(alloc: Global, names: &ReplyNames, batch: Batch) -> Result<Document, NoMemory>
     requires { batch.id < 2 ^ 63 }
     ensures { IfOk result (λ body. body ≡ batch_told batch) }
@@ -129,8 +129,8 @@ pub(crate) fn body_of(alloc: Global, names: &ReplyNames, batch: Batch) -> Result
 }
 
 /// Whether one of the rows is over the limits for documents. Takes no memory.
-fn are_too_large(rows: &[Document]) -> bool
-    ensures { result ≡ finding.are_too_large rows.now }
+fn has_too_large(rows: &[Document]) -> bool
+    ensures { result ≡ finding.has_too_large rows.now }
 {
     'rows: for row in rows {
         if !fits(row) {
@@ -140,7 +140,7 @@ fn are_too_large(rows: &[Document]) -> bool
     false
 }
 
-/// The documents as values, in order. Fails where memory is wanting.
+/// The documents as values, in order. Fails when memory runs out.
 fn values_of(alloc: Global, documents: Vec<Document>) -> Result<List, NoMemory>
     ensures { IfOk result (λ values. values ≡ map document_of documents.items) }
 {

@@ -15,7 +15,7 @@ use dv_index::NewIndex;
 use dv_value::{Document, NoMemory};
 use std::alloc::Global;
 
-/// The reply that tells how a find is answered. Refused where memory is wanting.
+/// The reply that tells how a find is answered. Refused when memory runs out.
 pub(crate) fn explained(alloc: Global, told: Explained) -> Result<Document, Refusal>
     ensures { UnlessWanting (λ reply. reply) (Ok (explained_reply (explained_seen told))) result }
 {
@@ -28,7 +28,7 @@ pub(crate) fn explained(alloc: Global, told: Explained) -> Result<Document, Refu
     Ok(reply)
 }
 
-/// The indexes that are asked for, in order. Fails where memory is wanting.
+/// The indexes that are asked for, in order. Fails when memory runs out.
 pub(crate) fn new_indexes(
     alloc: Global,
     indexes: Vec<IndexAsked>,

@@ -7,7 +7,7 @@ ghost use Rattle.dv_value.specs.Tree.{Field};
 ghost use Rattle.dv_command.specs.Asked.{Aggregate, Asked, Create, Drop, Find, GetMore, aggregate, create, drop, find, asked_by};
 ghost use Rattle.dv_command.specs.Asked as asking;
 ghost use Rattle.dv_command.specs.Replies.{refusal_reply};
-ghost use Rattle.dv_command.specs.Sound.{AreSpellable};
+ghost use Rattle.dv_pipe.specs.Laws.{AreSpellable};
 ghost use Rattle.dv_command.specs.declared.asking.WriteKind.TheVariants.{Delete};
 ghost use Rattle.dv_command.specs.declared.command.Command.{Command};
 ghost use Rattle.dv_refusal.specs.declared.refusal.Refusal.{Refusal};
@@ -15,17 +15,17 @@ ghost use Rattle.dv_refusal.specs.declared.refusal.Refusal.TheVariants.{LimitRea
 ghost use Rattle.dv_core.specs.declared.outcome.Outcome.{Outcome};
 ghost use Rattle.dv_core.specs.declared.outcome.Outcome.TheVariants.{Reply, Wanting};
 ghost use Rattle.dv_core.specs.Inner.Examples as examples;
-ghost use Rattle.dv_core.specs.Find.{FirstIsRefused, are_too_large};
+ghost use Rattle.dv_core.specs.Find.{FirstIsRefused, has_too_large};
 ghost use Rattle.dv_core.specs.Load.{IsLoaded, insert_alone, loaded, namespace_in};
 ghost use Rattle.dv_core.specs.Marks.{HasItsMarks};
 ghost use Rattle.dv_core.specs.Part.{LeavesPart};
-ghost use Rattle.dv_core.specs.Sound.{HasSpelling, IsOrderly, IsSound, IsSoundCommand, IsSoundDocument, IsTold};
+ghost use Rattle.dv_core.specs.Sound.{HasSpelling, IsOrderly, IsSound, IsSoundCommand, IsSoundDocument, IsBounded};
 ghost use Rattle.dv_catalog.specs.State.{Namespaces, is_view, rows_of};
 ghost use Rattle.dv_core.specs.State.{State, empty_store_state};
 ghost use Rattle.dv_core.specs.Runs.{AsksMore, LeadsTo, Move, ShowsAggregated, ShowsFound, WantLeadsTo, carries, reply_told, state_of_run};
 ghost use Rattle.dv_cursor.specs.Batch.{rows_behind};
 ghost use Rattle.dv_cursor.specs.Cursors.{Cursors, free_id};
-ghost use Rattle.dv_core.specs.Statements.{WriteCounts, Written, carry_out, IsCutWrite};
+ghost use Rattle.dv_core.specs.Statements.{WriteSteps, Written, carry_out, IsCutWrite};
 ghost use Rattle.dv_core.specs.Step.{MemoryStep, counted_step, step, asked_write, makes, moves, indexes, end_session};
 ghost use Rattle.dv_core.specs.Steps.{AnswersInsert, ChangesNothing, CollectionRefuses, EachAnswer, EachStep, IsAllowed, IsRefused, Keeps, KeepsDocuments, SaysRefused};
 ghost use Rattle.dv_core.specs.Storable.{storable, is_within_limits};
@@ -140,7 +140,7 @@ pub fn replies_have_a_spelling()
     ensures wanting { (old new : State) (session : ℕ) (command : Command) (reply : List Field) → IsSoundCommand command
         → MemoryStep old session command (Wanting reply) new → HasSpelling reply }
     ensures rows { (state : State) → IsSound state → (namespace : List ℕ) → AreSpellable (rows_of namespace state.catalog) }
-    ensures refused { (refusal : Refusal) → IsTold refusal → HasSpelling (refusal_reply refusal) }
+    ensures refused { (refusal : Refusal) → IsBounded refusal → HasSpelling (refusal_reply refusal) }
 {
     dv_command::laws::what_is_asked_is_sound();
     dv_command::laws::a_count_has_a_spelling();
@@ -151,8 +151,8 @@ pub fn replies_have_a_spelling()
 
 /// An ordered write reports at most one error; and if it is cut, only that.
 pub fn an_ordered_write_ends_at_its_first_error()
-    ensures whole { (write : WriteCounts) (old : Namespaces) → write.ordered ≡ true → length (carry_out write old).errors ≤ 1 }
-    ensures cut { (write : WriteCounts) (old : Namespaces) (left : Written) → write.ordered ≡ true → IsCutWrite write old left → length left.errors ≡ 1 }
+    ensures whole { (write : WriteSteps) (old : Namespaces) → write.ordered ≡ true → length (carry_out write old).errors ≤ 1 }
+    ensures cut { (write : WriteSteps) (old : Namespaces) (left : Written) → write.ordered ≡ true → IsCutWrite write old left → length left.errors ≡ 1 }
 {}
 
 /// What the replies of a run return of a cursor's rows, whether they are left out or not: the first batch and the batches of later
@@ -250,7 +250,7 @@ pub fn wants_by_example()
 /// A row over the limits refuses the command, wherever it is, also after the first batch; that there is no room for a cursor is
 /// reported before it.
 pub fn each_row_is_within_the_limits()
-    ensures refused { (count : ℕ) (single : Bool) (rows : List (List Field)) (cursors : Cursors) → are_too_large rows ≡ true → IsSome (free_id cursors)
+    ensures refused { (count : ℕ) (single : Bool) (rows : List (List Field)) (cursors : Cursors) → has_too_large rows ≡ true → IsSome (free_id cursors)
         → FirstIsRefused TooLarge count single rows cursors }
     ensures behind { (count : ℕ) (row : List Field) (rows rest : List (List Field)) (cursors : Cursors) → rows_behind count rows ≡ row ∷ rest
         → free_id cursors ≡ None → FirstIsRefused LimitReached count false rows cursors }

@@ -26,7 +26,7 @@ use std::marker::Model;
 
 /// All that commands read and change. What is true of it at every moment, `Store` says.
 #[derive(Debug, Drop)]
-pub struct Machine {
+pub(crate) struct Machine {
     alloc: Global,
     catalog: Catalog,
     cursors: Cursors,
@@ -63,12 +63,12 @@ impl Machine {
     ghost use Rattle.dv_core.specs.Stats as telling;
     ghost use Rattle.dv_core.specs.Step.{MemoryStep, TellsOfWant, end_session};
     ghost use Rattle.dv_core.specs.Inner.StepParts.{AreAnsweredAlike, Ends, GivesAndLeaves, GivesBatch, LoadsOne, StandRead, reply_to_create, reply_to_drop};
-    ghost use Rattle.dv_core.specs.Told.{HasId, batch_told, outcome_told};
+    ghost use Rattle.dv_core.specs.Told.{HasLongId, batch_told, outcome_told};
     ghost use Rattle.dv_core.specs.Inner.WriteParts.{WritesOn};
     ghost use Rattle.dv_core.specs.Writes.{write_by};
 
     /// One without any collection.
-    pub fn new(alloc: Global) -> Self
+    pub(crate) fn new(alloc: Global) -> Self
         ensures { result ≡ empty_store_state }
     {
         Machine {
@@ -80,10 +80,10 @@ impl Machine {
     }
 
     /// Carries out one command of a session. If memory runs out, the reserve is given back for the reply.
-    pub fn carry_out(&mut self, session: u32, command: &Command, reserve: &mut Reserve) -> Told
+    pub(crate) fn carry_out(&mut self, session: u32, command: &Command, reserve: &mut Reserve) -> Told
         requires { AreWithinLimits self.old }
         ensures step { MemoryStep self.old session command.now (outcome_told result) self.new }
-        ensures id { HasId result }
+        ensures id { HasLongId result }
         ensures unread { command.now ≡ Invalid NoMemory → TellsOfWant (outcome_told result) }
     {
         match parse(self.alloc, command) {
@@ -120,8 +120,8 @@ impl Machine {
         }
     }
 
-    /// The body of the reply with a batch. Fails where memory is wanting.
-    pub fn body_of(&mut self, batch: Batch) -> Result<Document, NoMemory>
+    /// The body of the reply with a batch. Fails when memory runs out.
+    pub(crate) fn body_of(&mut self, batch: Batch) -> Result<Document, NoMemory>
         requires { batch.id < 2 ^ 63 }
         ensures body { IfOk result (λ body. body ≡ batch_told batch) }
         ensures state { self.new ≡ self.old }
@@ -293,7 +293,7 @@ impl Machine {
     }
 
     /// Loads a document into the collection of a namespace, beside any session.
-    pub fn load(&mut self, namespace: &str, document: Document) -> Result<(), i32>
+    pub(crate) fn load(&mut self, namespace: &str, document: Document) -> Result<(), i32>
         ensures loaded { OnOk result (loading.IsLoaded namespace.now document self.old self.new) }
         ensures code { IfErr result (λ code. loading.IsCodeOf (loading.loaded namespace.now document self.old) code) }
         ensures kept { OnErr result (self.new ≡ self.old) }
@@ -320,21 +320,21 @@ impl Machine {
     }
 
     /// That no live view reads a stale one. Does nothing.
-    pub fn law_live_read_no_stale(&self)
+    pub(crate) fn law_live_read_no_stale(&self)
         ensures { LiveReadNoStale self.now.catalog.views self.now.marks }
     {
         self.catalog.law_live_read_no_stale();
     }
 
     /// The rows that the view of a namespace keeps, in their order. None if there is no view there, or a stale one.
-    pub fn stored_rows(&self, namespace: &str) -> Option<ViewRows<'_>>
+    pub(crate) fn stored_rows(&self, namespace: &str) -> Option<ViewRows<'_>>
         ensures { result ≡ stored_of namespace.now (marked self.now) }
     {
         self.catalog.stored_rows(namespace)
     }
 
     /// Ends the cursors of a session.
-    pub fn end_session(&mut self, session: u32)
+    pub(crate) fn end_session(&mut self, session: u32)
         ensures { self.new ≡ end_session session self.old }
     {
         self.cursors.end_session(session);

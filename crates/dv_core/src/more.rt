@@ -64,8 +64,8 @@ pub(crate) fn kill_all(
     }
 }
 
-/// Ends the cursors that have one of these ids, one after the other, and answers for each id whether there was one. Fails
-/// where memory is wanting; then nothing is changed.
+/// Ends the cursors that have one of these ids, one after the other, and returns for each id whether there was one. Fails when
+/// memory runs out; then nothing is changed.
 fn kill_each(
     alloc: Global,
     cursors: &mut Cursors,
@@ -85,7 +85,7 @@ fn kill_each(
     Ok(went)
 }
 
-/// Ends the cursor of an id, and answers whether there was one.
+/// Ends the cursor of an id, and returns whether there was one.
 fn kill_one(cursors: &mut Cursors, session: u32, namespace: &str, id: i64) -> bool
     ensures found { result ≡ is_some (more.rows_asked session namespace.now id cursors.old) }
     ensures left { cursors.new ≡ more.without_cursor session namespace.now id cursors.old }
@@ -96,7 +96,7 @@ fn kill_one(cursors: &mut Cursors, session: u32, namespace: &str, id: i64) -> bo
     }
 }
 
-/// The reply that tells which of the ids had a cursor. Fails where memory is wanting.
+/// The reply that tells which of the ids had a cursor. Fails when memory runs out.
 fn kill_reply(alloc: Global, ids: &[i64], went: &[bool]) -> Result<Document, NoMemory>
     requires { length went.now ≡ length ids.now }
     ensures { IfOk result (λ reply. reply ≡ replies.kill_cursors_reply (more.gone_ids ids.now went.now) (more.missing_ids ids.now went.now)) }

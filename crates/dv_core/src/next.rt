@@ -19,8 +19,8 @@ pub(crate) enum Next {
     Cut,
 }
 
-/// The error of a statement that was refused; of one that found no memory, behind how many of its changes. Fails where
-/// memory is wanting.
+/// The error of a statement that was refused; of one that found no memory, behind how many of its changes. Fails when memory runs
+/// out.
 pub(crate) fn error_of(alloc: Global, place: usize, stopped: &Stopped) -> Result<Document, NoMemory>
     requires { place < 2 ^ 31 }
     ensures { IfOk result (λ error. error ≡ parts.error_of place stopped.now) }

@@ -6,18 +6,18 @@ use dv_command::{Command, Refusal, WriteKind, first_name};
 use std::alloc::Global;
 
 /// How many bytes are kept.
-const KEPT: usize = 1_048_576;
+const KEPT_BYTES: usize = 1_048_576;
 
 /// The fewest bytes of a piece.
-const SMALLEST: usize = 1_024;
+const SMALLEST_PIECE: usize = 1_024;
 
 /// How many bytes beside these are enough for a command that stores nothing.
-const ENOUGH: usize = 65_536;
+const ROOM_FOR_COMMAND: usize = 65_536;
 
 /// Bytes that nothing uses, in as few pieces as they can be had. They are given back if memory runs out for a command that stores
 /// nothing, for a message or for a reply, and taken again for the next command that stores something.
 #[derive(Debug, Drop)]
-pub struct Reserve {
+pub(crate) struct Reserve {
     alloc: Global,
     pieces: Vec<Vec<u8>>,
     missing: usize,
@@ -31,16 +31,16 @@ impl Reserve {
         let mut reserve = Reserve {
             alloc,
             pieces: Vec::new(alloc),
-            missing: KEPT,
+            missing: KEPT_BYTES,
             has_views: false,
         };
         let _ = reserve.take();
         reserve
     }
 
-    /// Makes ready for a command, and answers whether it may be carried out. For one that stores something all bytes are taken
-    /// that are missing; for another there is room beside them, or they are given back. A delete gives them back itself where
-    /// memory is wanting; but not where it is wanting for a view alone, which is stale then.
+    /// Makes ready for a command, and returns whether it may be carried out. For one that stores something all bytes are taken
+    /// that are missing; for another there is room beside them, or they are given back. A delete gives them back itself when
+    /// memory runs out; but not where it is wanting for a view alone, which is stale then.
     pub(crate) fn prepare(&mut self, command: &Command) -> bool {
         match need_of(command) {
             Need::Kept => return self.take(),
@@ -48,16 +48,16 @@ impl Reserve {
                 self.has_views = true;
                 return self.take();
             }
-            Need::RoomToRead if !self.has_views => self.leave(SMALLEST),
+            Need::RoomToRead if !self.has_views => self.leave(SMALLEST_PIECE),
             Need::Room | Need::RoomToRead => self.make_room(),
         }
         true
     }
 
-    /// Takes those that are missing, and answers whether they could be had, but for less than a piece.
+    /// Takes those that are missing, and returns whether they could be had, but for less than a piece.
     fn take(&mut self) -> bool {
         let mut size = self.missing;
-        'pieces: while size >= SMALLEST {
+        'pieces: while size >= SMALLEST_PIECE {
             if self.add(size) {
                 self.missing = self.missing.saturating_sub(size);
                 size = size.min(self.missing);
@@ -65,18 +65,18 @@ impl Reserve {
                 size /= 2;
             }
         }
-        self.missing < SMALLEST
+        self.missing < SMALLEST_PIECE
     }
 
     /// Gives all back.
     pub(crate) fn give_back(&mut self) {
         self.pieces = Vec::new(self.alloc);
-        self.missing = KEPT;
+        self.missing = KEPT_BYTES;
     }
 
     /// Gives all back, unless enough are left beside them.
     pub(crate) fn make_room(&mut self) {
-        self.leave(ENOUGH);
+        self.leave(ROOM_FOR_COMMAND);
     }
 
     /// Gives all back, unless so many bytes are left beside them.
@@ -110,7 +110,7 @@ impl Reserve {
         }
     }
 
-    /// Adds a piece, and answers whether it could be had.
+    /// Adds a piece, and returns whether it could be had.
     fn add(&mut self, size: usize) -> bool
         ensures { self.new.missing ≡ self.old.missing }
     {

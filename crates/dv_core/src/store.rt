@@ -45,7 +45,7 @@ impl Store {
     ghost use Rattle.dv_core.specs.State.{empty_store_state, marked};
     ghost use Rattle.dv_core.specs.Step.{MemoryStep, TellsOfWant, end_session};
     ghost use Rattle.dv_core.specs.Inner.StepParts.{IsMadeOf};
-    ghost use Rattle.dv_core.specs.Told.{HasId, outcome_told};
+    ghost use Rattle.dv_core.specs.Told.{HasLongId, outcome_told};
 
     /// A store without any collection.
     pub fn new(alloc: Global) -> Self
@@ -65,7 +65,7 @@ impl Store {
     /// that report that memory ran out. While these can't be reserved again, a command that stores something is refused.
     pub fn execute(&mut self, session: u32, command: &Command) -> Outcome
         ensures step { MemoryStep self.old session command.now result self.new }
-        // A command for which memory was wanting as it was read is told so.
+        // A command for which memory ran out as it was read is told so.
         ensures unread { command.now ≡ Invalid NoMemory → TellsOfWant result }
     {
         let told = self.carry_out(session, command);
@@ -78,7 +78,7 @@ impl Store {
         ensures step { MemoryStep self.old session command.now (outcome_told result) self.new }
         ensures unread { command.now ≡ Invalid NoMemory → TellsOfWant (outcome_told result) }
         // The id of a batch is below 2^63.
-        ensures id { HasId result }
+        ensures id { HasLongId result }
     {
         states_stay_orderly();
         if !self.reserve.prepare(command) {
@@ -87,10 +87,10 @@ impl Store {
         self.machine.carry_out(session, command, &mut self.reserve)
     }
 
-    /// The outcome that is told. Where memory is wanting for the body of a batch, with some of the reserve given back for it,
-    /// there is no reply.
+    /// The outcome that is told. If memory runs out for the body of a batch, with some of the reserve given back for it, there is
+    /// no reply.
     fn made_of(&mut self, outcome: Told) -> Outcome
-        requires { HasId outcome }
+        requires { HasLongId outcome }
         ensures made { IsMadeOf outcome result }
         ensures state { self.new ≡ self.old }
     {

@@ -21,8 +21,8 @@ use dv_command::{ReplyNames, Write, WriteKind, deletion_of, updating_of};
 use dv_value::{Document, NoMemory};
 use std::alloc::Global;
 
-/// Carries out the statements of a write one after the other. Where memory is wanting for one the command ends with it, and the
-/// reserve is given back for the reply; where memory is wanting for that, there is none.
+/// Carries out the statements of a write one after the other. If memory runs out for one the command ends with it, and the
+/// reserve is given back for the reply; when memory runs out for that, there is none.
 pub(crate) fn write_all(
     alloc: Global,
     reserve: &mut Reserve,
@@ -40,7 +40,7 @@ pub(crate) fn write_all(
     }
 }
 
-/// Carries out the statements one after the other. Fails where memory is wanting for the reply.
+/// Carries out the statements one after the other. Fails when memory runs out for the reply.
 fn write_each(
     alloc: Global,
     reserve: &mut Reserve,
@@ -78,8 +78,8 @@ fn write_each(
     Ok(Outcome::Reply(written.reply(alloc, reserve, names, kind)?))
 }
 
-/// Carries out the next statement, and notes what came of it. Answers what comes behind it; fails where memory is
-/// wanting for the statement's error.
+/// Carries out the next statement, and notes what came of it. Answers what comes behind it; fails when memory runs out for the
+/// statement's error.
 fn write_next(
     alloc: Global,
     reserve: &mut Reserve,
@@ -108,8 +108,8 @@ fn write_next(
     }
 }
 
-/// Carries out one statement, and answers what it is counted for. Where it is refused, nothing is changed; where memory is
-/// wanting, it ends behind some of its changes. A delete takes of the reserve where memory is wanting before the first of them.
+/// Carries out one statement, and returns what it is counted for. Where it is refused, nothing is changed; when memory runs out,
+/// it ends behind some of its changes. A delete takes of the reserve when memory runs out before the first of them.
 fn write_one(
     alloc: Global,
     reserve: &mut Reserve,
@@ -159,7 +159,7 @@ fn write_once(
         WriteKind::Update => catalog.update(namespace, &updating_of(alloc, entry)?),
         WriteKind::Delete => {
             let deletion = deletion_of(alloc, entry)?;
-            // Of several documents only some may go where memory is wanting.
+            // Of several documents only some may go when memory runs out.
             if !deletion.only_first {
                 reserve.make_room();
             }

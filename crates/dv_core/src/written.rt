@@ -54,8 +54,8 @@ impl Written {
         self.changed += counted.changed as u128;
     }
 
-    /// Notes a statement that was refused, and answers what comes behind it. Fewer than 100,000 statements came before.
-    /// Fails where memory is wanting.
+    /// Notes a statement that was refused, and returns what comes behind it. Fewer than 100,000 statements came before. Fails
+    /// when memory runs out.
     pub(crate) fn note(
         &mut self,
         alloc: Global,
@@ -71,8 +71,8 @@ impl Written {
         Ok(next_behind(ordered, &stopped.refusal))
     }
 
-    /// The reply of a write. Where memory is wanting and there are no errors, the reserve is given back for it. Fails where memory
-    /// is wanting still.
+    /// The reply of a write. If memory runs out and there are no errors, the reserve is given back for it. Fails when memory runs
+    /// out still.
     pub(crate) fn reply(
         self,
         alloc: Global,
@@ -99,7 +99,7 @@ impl Written {
     }
 }
 
-/// The reply of a write that was counted so, with these errors. Fails where memory is wanting.
+/// The reply of a write that was counted so, with these errors. Fails when memory runs out.
 fn reply_with(
     alloc: Global,
     names: &ReplyNames,

@@ -46,7 +46,7 @@ impl Cursor {
         }
     }
 
-    /// Takes the first rows away, and answers whether there is none left.
+    /// Takes the first rows away, and returns whether there is none left.
     pub(crate) fn skip(&mut self, count: usize) -> bool
         ensures skipped { self.new ≡ record self.old { rows = drop count self.old.rows } }
         ensures out { IsTrue result ↔ (self.new.rows ≡ []) }

@@ -29,7 +29,7 @@ check_write_failed fault = false
 abbrev pub IsReadable : List ℕ → Type 0
 IsReadable file = (documents : List (List Field)) × Holds documents file × (length file ≤ 1073741824)
 
--- and the line with their number was written
+-- the file is readable, and the line with the number of its documents was written
 abbrev pub IsCounted : Option (List ℕ) → Option (List ℕ) → List ℕ → Type 0
 IsCounted written_before written file =
     (documents : List (List Field)) × Holds documents file × (length file ≤ 1073741824) × Appends written_before written (ok_line (length documents))

@@ -36,7 +36,7 @@ pub enum CheckFault {
 }
 
 impl CheckFault {
-    // What a fault of the document of this number, which begins at this byte, comes to.
+    /// What a fault of the document of this number, which begins at this byte, comes to.
     fn of_document(number: usize, at: usize, fault: BsonFault) -> CheckFault
         ensures memory { fault ≡ BsonFault.NoMemory → result ≡ CheckFault.NoMemory }
         ensures other { fault ≢ BsonFault.NoMemory → result ≡ CheckFault.Document number at fault }
@@ -90,7 +90,7 @@ pub fn check<R: ByteIn, W: TextOut>(
     tell(writer, count).map_err(|_| CheckFault::Write)
 }
 
-// Writes that a file is so many documents, and flushes it.
+/// Writes that a file is so many documents, and flushes it.
 fn tell<W: TextOut>(writer: &mut W, count: usize) -> Result<(), Failed>
     ensures told { OnOk result (Appends (W.contents writer.old) (W.contents writer.new) (ok_line count)) }
     ensures failures { W.failures writer.new ≡ failures_behind result (W.failures writer.old) }
@@ -99,7 +99,7 @@ fn tell<W: TextOut>(writer: &mut W, count: usize) -> Result<(), Failed>
     writer.flush()
 }
 
-// How many documents the bytes are.
+/// How many documents the bytes are.
 fn count(alloc: Global, bytes: &[u8]) -> Result<usize, CheckFault>
     ensures counted { IfOk result (λ n. (documents : List (List Field)) × Holds documents bytes.now × (n ≡ length documents)) }
     ensures only { (documents : List (List Field)) → Holds documents bytes.now → (result ≡ Ok (length documents)) ⊎ (result ≡ Err CheckFault.NoMemory) }

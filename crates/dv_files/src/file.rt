@@ -35,7 +35,8 @@ impl From<AllocError> for FileFault {
     }
 }
 
-/// All bytes of a file. Of one that is too large at most 65,536 bytes more are read than it may have.
+/// All bytes of a file. Fails with `Read` if the reader fails, with `TooLarge` if the file has more than 1,073,741,824 bytes, of
+/// which at most 65,536 more are read, and with `NoMemory` when memory runs out.
 pub fn read_file<R: ByteIn>(alloc: Global, reader: &mut R) -> Result<Vec<u8>, FileFault>
     ensures whole { IfOk result (λ bytes. IfSome (R.remaining reader.old) (λ file. bytes.items ≡ file)) }
     ensures limit { IfOk result (λ bytes. length bytes.items ≤ 1073741824) }
@@ -56,7 +57,7 @@ pub fn read_file<R: ByteIn>(alloc: Global, reader: &mut R) -> Result<Vec<u8>, Fi
     Err(FileFault::TooLarge)
 }
 
-/// The first document of the bytes, and the bytes after it.
+/// The first document of the bytes, and the bytes after it. Fails as `read_document` does.
 pub fn first_document(alloc: Global, bytes: &[u8]) -> Result<(Document, &[u8]), BsonFault>
     ensures found { IfOk result (λ found. Begins bytes.now found.0 found.1.now) }
     ensures only { EachBegun bytes.now (λ document behind.
@@ -67,8 +68,8 @@ pub fn first_document(alloc: Global, bytes: &[u8]) -> Result<(Document, &[u8]), 
     Ok((document, &bytes[length..]))
 }
 
-/// The bytes after the first document of the bytes, which is not built.
-pub fn behind_document(alloc: Global, bytes: &[u8]) -> Result<&[u8], BsonFault>
+/// The bytes after the first document, which is checked but not built. Fails as `read_document` does.
+pub(crate) fn behind_document(alloc: Global, bytes: &[u8]) -> Result<&[u8], BsonFault>
     ensures found { IfOk result (λ behind. (document : List Field) × Begins bytes.now document behind.now) }
     ensures only { EachBegun bytes.now (λ document behind. MatchResult result (λ rest. rest.now ≡ behind) (λ e. e ≡ BsonFault.NoMemory)) }
     ensures refused { IfErr result (λ e. (e ≡ BsonFault.NoMemory) ⊎ (first_fault bytes.now ≡ Some e)) }

@@ -36,10 +36,6 @@ gone-length p (e ∷ es) = by (is_eq (pos_order p e.0)) (gone-length p es)
     by true rest = omega arith
     by false rest = omega (arith, rest)
 
-nothing-of : (f : List Field → Bool) (b : Bool) (a : Option (List Field)) → option_filter f (cond b None a) ≡ cond b None (option_filter f a)
-nothing-of f true a = refl
-nothing-of f false a = refl
-
 -- at a position one row goes or one comes
 one-change : (a b : Option (List Field)) → cond (is_some (option_filter (λ v. is_none b) a)) 1 0 + cond (is_some (option_filter (λ v. not (stands_as a v)) b)) 1 0 ≤ 1
 one-change None None = omega arith

@@ -49,7 +49,7 @@ impl ByRow for SortSpec {
     ghost single = { sort_single };
 }
 
-/// Where the sort places a row that is at the position: behind its sort keys. Fails where memory is wanting.
+/// Where the sort places a row that is at the position: behind its sort keys. Fails when memory runs out.
 fn place_of(alloc: Global, spec: &SortSpec, pos: &Pos, row: &Document) -> Result<Pos, NoMemory>
     ensures { IfOk result (λ place. place ≡ defined.sort_place spec.now row.now ++ pos.now) }
 {
@@ -60,7 +60,7 @@ fn place_of(alloc: Global, spec: &SortSpec, pos: &Pos, row: &Document) -> Result
     pos.behind(alloc, places_of(alloc, spec, row)?)
 }
 
-/// The sort keys of the row. Fails where memory is wanting.
+/// The sort keys of the row. Fails when memory runs out.
 fn places_of(alloc: Global, spec: &SortSpec, row: &Document) -> Result<Vec<Part>, NoMemory>
     ensures { IfOk result (λ places. places.items ≡ defined.sort_place spec.now row.now) }
 {
@@ -72,7 +72,7 @@ fn places_of(alloc: Global, spec: &SortSpec, row: &Document) -> Result<Vec<Part>
     Ok(places)
 }
 
-/// The key by which a part of the sort places the row. Fails where memory is wanting.
+/// The key by which a part of the sort places the row. Fails when memory runs out.
 fn part_of(part: &SortPart, row: &Document) -> Result<Part, NoMemory>
     ensures { IfOk result (λ place. place ≡ defined.part_at part.now.direction (keys.sort_key row.now part.now.path part.now.direction)) }
 {

@@ -23,10 +23,11 @@ use Rattle.dv_order.specs.Order.{canon, order}
 use Rattle.dv_order.specs.Key.{KeyTree, value, key_order}
 use Rattle.dv_order.specs.Inner.KeyLaws.{key_order_total, equal-back}
 use Rattle.dv_path.specs.LeafKeys.{leaf_values}
-use Rattle.dv_gather.specs.Joining.{as_value, joined_by, matches}
+use Rattle.dv_gather.specs.Joining.{as_value, joined_by, joined_with}
 use Rattle.dv_gather.specs.Lookups.{set_field}
 use Rattle.dv_row.specs.Expressions.{with_field_behind}
-use Rattle.dv_gather.specs.Inner.KeySets.{AreKeysOf, any_key, referred}
+use Rattle.dv_gather.specs.Inner.KeySets.{AreKeysOf, any_key}
+use Rattle.dv_gather.specs.View.{referred}
 use Rattle.dv_gather.specs.Inner.Places.{ArePlaces, is_place, is_kept, is_under, is_found, item_passes_at, items_chosen, item_at, items_at}
 use Rattle.dv_gather.specs.Inner.KeyLaws.{any-same}
 use Rattle.dv_gather.proofs.Shared.{matches-by_keys}
@@ -182,7 +183,7 @@ module _ {A : Type 0} (k l : KeyTree) (old : BTreeMap KeyTree (Vec ℕ A)) where
 
 -- the documents that have some of the keys
 pub matches-by_places : {A : Type 0} (stands : (v w : Tree) → key_order (value (canon v)) (value (canon w)) ≡ order v w) (m : BTreeMap KeyTree (Vec ℕ A)) (keys : List KeyTree) (found : ℕ → Bool) (local foreign : List (List ℕ)) (d : List Field) (ds : List (List Field))
-    → AreKeysOf keys (joined_by local d) → ((i : ℕ) → found i ≡ list_any (λ k. is_under m k i) keys) → ArePlaces m foreign ds → items_chosen found ds ≡ matches local foreign ds d
+    → AreKeysOf keys (joined_by local d) → ((i : ℕ) → found i ≡ list_any (λ k. is_under m k i) keys) → ArePlaces m foreign ds → items_chosen found ds ≡ joined_with local foreign ds d
 matches-by_places stands m keys found local foreign d ds own under are =
     let test = λ (f : List Field). any_key keys (leaf_values foreign f) in
     chosen-filter found test ds (λ i. under i ∙ any-same (λ k. is_under m k i) (λ k. item_passes_at (is_found foreign k) ds i) (λ k. are k i) keys ∙ any-passes (is_found foreign) keys ds i)
@@ -196,17 +197,17 @@ member-is ps i = any-same (λ k. is_eq (nat_cmp i k)) (λ p. p == i) (same-back 
 
 -- the documents that one key finds, by their places
 pub found-by_key : {A : Type 0} (stands : (v w : Tree) → key_order (value (canon v)) (value (canon w)) ≡ order v w) (m : BTreeMap KeyTree (Vec ℕ A)) (key : KeyTree) (ps : List ℕ) (local foreign : List (List ℕ)) (d : List Field) (ds : List (List Field))
-    → IsStrictlySortedBy nat_cmp ps → ((i : ℕ) → is_under m key i ≡ is_place ps i) → AreKeysOf (key ∷ []) (joined_by local d) → ArePlaces m foreign ds → items_at ps ds ≡ matches local foreign ds d
+    → IsStrictlySortedBy nat_cmp ps → ((i : ℕ) → is_under m key i ≡ is_place ps i) → AreKeysOf (key ∷ []) (joined_by local d) → ArePlaces m foreign ds → items_at ps ds ≡ joined_with local foreign ds d
 found-by_key stands m key ps local foreign d ds sorted kept own are =
     items-chosen ds ps sorted ∙ matches-by_places stands m (key ∷ []) (member ps) local foreign d ds own (λ i. member-is ps i ∙ sym (kept i) ∙ sym (or-false (is_under m key i))) are
 
 module _ {A : Type 0} (stands : (v w : Tree) → key_order (value (canon v)) (value (canon w)) ≡ order v w) (m : BTreeMap KeyTree (Vec ℕ A)) (key : KeyTree) (local foreign : List (List ℕ)) (d : List Field) (ds : List (List Field)) (own : AreKeysOf (key ∷ []) (joined_by local d)) (are : ArePlaces m foreign ds) where
   -- no place, or one
-  pub found-none : None ≡ get key_order m key → [] ≡ map as_value (matches local foreign ds d)
+  pub found-none : None ≡ get key_order m key → [] ≡ map as_value (joined_with local foreign ds d)
   unfolding IsStrictlySortedBy
   found-none none = ap (map as_value) (found-by_key stands m key [] local foreign d ds tt (λ i. ap (λ o. is_kept o i) (sym none)) own are)
 
-  pub found-one : (ps : Vec ℕ A) (place : ℕ) → Some ps ≡ get key_order m key → ps.items ≡ place ∷ [] → map as_value (item_at (slice_get ds place)) ≡ map as_value (matches local foreign ds d)
+  pub found-one : (ps : Vec ℕ A) (place : ℕ) → Some ps ≡ get key_order m key → ps.items ≡ place ∷ [] → map as_value (item_at (slice_get ds place)) ≡ map as_value (joined_with local foreign ds d)
   unfolding IsStrictlySortedBy
   found-one ps place some one =
       ap (map as_value) (sym (append-nil (item_at (slice_get ds place)))

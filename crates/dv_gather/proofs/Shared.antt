@@ -1,16 +1,15 @@
 -- Documents that share a value, by the keys of the values of one side.
-use Rattle.std.proofs.Common.{◌≡◌, ◌∙◌, ap, sym, refl, Bool, true, false, ◌||◌, List, [], ◌∷◌, filter, map, ℕ, zero, suc, ◌+◌, ◌<◌, ◌++◌, length, take, get_or, slice_get, ap₂, Some, if◌then◌else◌}
-use Rattle.std.proofs.lemmas.List.{map-append}
+use Rattle.std.proofs.Common.{◌≡◌, ◌∙◌, ap, sym, refl, Bool, true, false, ◌||◌, List, [], ◌∷◌, filter, ℕ, if◌then◌else◌}
 use Rattle.std.specs.List.{list_any}
 use Rattle.std.specs.Cmp.{eq_by_cmp_equiv}
 use Rattle.std.specs.Ordering.{is_eq}
 use Rattle.dv_value.specs.Tree.{Tree, Field}
-use Rattle.dv_value.specs.Inner.ListLaws.{same-truth, take-read}
+use Rattle.dv_value.specs.Inner.ListLaws.{same-truth}
 use Rattle.dv_order.specs.Order.{canon, order}
 use Rattle.dv_order.specs.Key.{KeyTree, value, key_order}
 use Rattle.dv_order.specs.Inner.KeyLaws.{key_order_total}
 use Rattle.dv_path.specs.LeafKeys.{is_key_of, is_some_key, leaf_values}
-use Rattle.dv_gather.specs.Joining.{is_equal_to_one, is_joined, joined_by, matches}
+use Rattle.dv_gather.specs.Joining.{is_equal_to_one, is_joined, joined_by, joined_with}
 use Rattle.dv_gather.specs.Inner.KeySets.{AreKeysOf, any_key}
 use Rattle.dv_gather.specs.Inner.KeyLaws.{alike, any-same}
 
@@ -66,17 +65,5 @@ module _ (stands : (v w : Tree) → key_order (value (canon v)) (value (canon w)
   filter-same p q h [] = refl
   filter-same p q h (x ∷ xs) = ap (λ b. if b then x ∷ filter p xs else filter p xs) (h x) ∙ ap (λ l. if q x then x ∷ l else l) (filter-same p q h xs)
 
-  pub matches-by_keys : (keys : List KeyTree) (local foreign : List (List ℕ)) (d : List Field) (ds : List (List Field)) → AreKeysOf keys (joined_by local d) → filter (λ f. any_key keys (leaf_values foreign f)) ds ≡ matches local foreign ds d
+  pub matches-by_keys : (keys : List KeyTree) (local foreign : List (List ℕ)) (d : List Field) (ds : List (List Field)) → AreKeysOf keys (joined_by local d) → filter (λ f. any_key keys (leaf_values foreign f)) ds ≡ joined_with local foreign ds d
   matches-by_keys keys local foreign d ds is = filter-same (λ f. any_key keys (leaf_values foreign f)) (is_joined local foreign d) (λ f. any-key_is keys (joined_by local d) (leaf_values foreign f) is) ds
-
--- ---- loops
-
-take-here : {X : Type 0} (xs : List X) (i : ℕ) (x : X) → slice_get xs i ≡ Some x → take (suc i) xs ≡ take i xs ++ x ∷ []
-take-here [] i x e = absurd cc
-take-here (z ∷ xs) zero x e = let same : z ≡ x = cc in ap (λ y. y ∷ []) same
-take-here (z ∷ xs) (suc i) x e = ap (λ l. z ∷ l) (take-here xs i x e)
-
--- a list for a row more
-pub row-more : {X Y : Type 0} (f : X → Y) (xs : List X) (i : ℕ) (x : X) (ys new : List Y) (y : Y) → i < length xs → x ≡ get_or xs i x → ys ≡ map f (take i xs) → y ≡ f x → new ≡ ys ++ y ∷ [] → new ≡ map f (take (i + 1) xs)
-row-more f xs i x ys new y within is so-far last pushed =
-    pushed ∙ ap₂ (λ a b. a ++ b ∷ []) so-far last ∙ sym (ap (map f) (take-read xs i x within is) ∙ map-append f (take i xs) (x ∷ []))

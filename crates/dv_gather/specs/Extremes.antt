@@ -8,6 +8,7 @@ use Rattle.dv_order.specs.Order.{order}
 use Rattle.dv_gather.specs.declared.extreme.Extreme.{Extreme}
 use Rattle.dv_gather.specs.declared.extreme.Extreme.TheVariants.{Least, Greatest}
 
+-- whether the value is null
 abbrev pub is_null : Tree → Bool
 is_null null = true
 is_null v = false

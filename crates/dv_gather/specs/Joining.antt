@@ -28,8 +28,8 @@ abbrev pub is_joined : List (List ℕ) → List (List ℕ) → List Field → Li
 is_joined local foreign d f = list_any (is_equal_to_one (leaf_values foreign f)) (joined_by local d)
 
 -- the matches of a document, in their order
-abbrev pub matches : List (List ℕ) → List (List ℕ) → List (List Field) → List Field → List (List Field)
-matches local foreign others d = filter (is_joined local foreign d) others
+abbrev pub joined_with : List (List ℕ) → List (List ℕ) → List (List Field) → List Field → List (List Field)
+joined_with local foreign others d = filter (is_joined local foreign d) others
 
 -- a document as a value
 abbrev pub as_value : List Field → Tree

@@ -5,5 +5,6 @@ pub mod Groups
 pub mod Joining
 pub mod Lookups
 pub mod Sums
+pub mod View
 -- what only bodies and proofs need
 pub mod Inner

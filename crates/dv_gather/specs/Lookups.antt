@@ -12,17 +12,18 @@ use Rattle.dv_value.specs.Results.{◌>>=◌}
 use Rattle.dv_path.specs.Names.{has_dot}
 use Rattle.dv_row.specs.Row.{Row}
 use Rattle.dv_gather.specs.declared.lookup.Lookup.{Lookup}
-use Rattle.dv_gather.specs.Joining.{as_value, matches}
+use Rattle.dv_gather.specs.Joining.{as_value, joined_with}
 
 -- ---- rows
 
--- the fields with the value under the name: in its present place, or as the last field if it is new
+-- the fields with the value under the name: in its present place, or as the last field if it is new. (A new name with a zero byte, which no
+-- parsed `$lookup` has, is not added.)
 abbrev pub set_field : List ℕ → Tree → List Field → List Field
 set_field name v fs = if has_name name fs then with_value_under name v fs else with_field_behind name (Some v) fs
 
 -- the matches of a row, as an array
 abbrev pub joined_documents : Lookup → List Row → Row → Tree
-joined_documents l others d = array (elements_of (map as_value (matches l.local l.foreign others d)))
+joined_documents l others d = array (elements_of (map as_value (joined_with l.local l.foreign others d)))
 
 -- a row with the array of its matches
 abbrev pub joined_row : Lookup → List Row → Row → Row
@@ -68,6 +69,7 @@ field_option name options = text_option name options >>= λ text. path_or_fault 
 abbrev pub as_option : List Field → Result (List ℕ) PipelineFault
 as_option options = text_option (codes "as") options >>= target_in
 
+-- a `$lookup` of its options
 abbrev pub looking : List ℕ → List (List ℕ) → List (List ℕ) → List ℕ → Lookup
 looking from local foreign target = record { from = from; local = local; foreign = foreign; target = target }
 

@@ -2,7 +2,7 @@
 
 ghost use Rattle.std.specs.Prelude.{◌≡◌, ℕ, suc, map, IfOk, OnOk};
 ghost use Rattle.dv_value.specs.View.{tree};
-ghost use Rattle.dv_row.specs.Inner.RowValueView.{row_value};
+ghost use Rattle.dv_row.specs.RowValueView.{row_value};
 ghost use Rattle.dv_gather.specs.Inner.SumBounds.{AreWithin, IsWithinCount, most};
 ghost use Rattle.dv_gather.specs.Inner.AccumulatorStates as defined;
 ghost use Rattle.dv_gather.specs.Inner.StateView.{state_seen};
@@ -38,7 +38,7 @@ impl AccumulatorState {
         }
     }
 
-    /// Adds a value behind the others. Fails where memory is wanting.
+    /// Adds a value behind the others. Fails when memory runs out.
     pub(crate) fn add(&mut self, value: RowValue<'_>) -> Result<(), NoMemory>
         requires { IsWithinCount most (state_seen self.old) }
         ensures state { OnOk result (state_seen self.new ≡ defined.with_value (row_value value.entry) (state_seen self.old)) }
@@ -56,7 +56,7 @@ impl AccumulatorState {
         Ok(())
     }
 
-    /// What the accumulator returns for the values. Fails where memory is wanting.
+    /// What the accumulator returns for the values. Fails when memory runs out.
     pub(crate) fn value(self, alloc: Global) -> Result<Value, NoMemory>
         ensures { IfOk result (λ value. tree value ≡ defined.state_value (state_seen self)) }
     {
@@ -68,7 +68,7 @@ impl AccumulatorState {
     }
 }
 
-/// Adds a value to the state at the place, where there is one. Fails where memory is wanting.
+/// Adds a value to the state at the place, where there is one. Fails when memory runs out.
 pub(crate) fn add_at(
     states: &mut [AccumulatorState],
     place: usize,

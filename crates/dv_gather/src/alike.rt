@@ -38,7 +38,7 @@ fn begins_as(document: &Document, row: &Document) -> bool
     true
 }
 
-/// The row with the value behind its own, under the names of the document. Fails where memory is wanting.
+/// The row with the value behind its own, under the names of the document. Fails when memory runs out.
 pub(crate) fn row_like(
     alloc: Global,
     document: &Document,

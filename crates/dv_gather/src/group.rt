@@ -1,13 +1,13 @@
 //! `$group`.
 
 ghost use Rattle.std.specs.Prelude.{◌≡◌, [], ℕ, suc, map, IfOk, OnOk};
-ghost use Rattle.dv_row.specs.Inner.ExpressionView.{expression_seen};
-ghost use Rattle.dv_row.specs.Inner.RowValueView.{row_value};
+ghost use Rattle.dv_row.specs.ExpressionView.{expression_seen};
+ghost use Rattle.dv_row.specs.RowValueView.{row_value};
 ghost use Rattle.dv_gather.specs.Inner.SumBounds.{EachWithin, most};
 ghost use Rattle.dv_gather.specs.Grouping as defined;
 ghost use Rattle.dv_gather.specs.GroupParsing.{grouping};
 ghost use Rattle.dv_gather.specs.Inner.GroupView.{accumulation};
-ghost use Rattle.dv_gather.specs.Inner.KeySets.{referred};
+ghost use Rattle.dv_gather.specs.View.{referred};
 ghost use Rattle.dv_gather.specs.Inner.GroupStates.{row_of_state, groups_with_row, groups_with_rows};
 ghost use Rattle.dv_gather.specs.Inner.StateView.{groups_seen};
 
@@ -40,7 +40,7 @@ pub struct Group {
 
 impl Model for Group {
     ghost use Rattle.std.specs.Prelude.{map};
-    ghost use Rattle.dv_row.specs.Inner.ExpressionView.{expression_seen};
+    ghost use Rattle.dv_row.specs.ExpressionView.{expression_seen};
     ghost use Rattle.dv_gather.specs.Grouping.{Grouping};
     ghost use Rattle.dv_gather.specs.Inner.GroupCode.{coded_grouping};
 
@@ -69,17 +69,10 @@ impl GroupField {
 
 impl Group {
     /// The grouping by this expression, with these fields. Takes no memory.
-    pub fn of(key: Expr, fields: Vec<GroupField>) -> Self
+    pub(crate) fn of(key: Expr, fields: Vec<GroupField>) -> Self
         ensures { result ≡ grouping (expression_seen key) (map accumulation fields.items) }
     {
         Group { key, fields }
-    }
-
-    /// The expression of a row's key. Takes no memory.
-    pub fn key(&self) -> &Expr
-        ensures { expression_seen result.now ≡ self.now.key }
-    {
-        &self.key
     }
 
     /// The fields in written order. Takes no memory.

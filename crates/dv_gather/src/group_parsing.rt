@@ -3,7 +3,7 @@
 ghost use Rattle.std.specs.Prelude.{◌≡◌, map, codes, IfOk};
 ghost use Rattle.dv_value.specs.Names.{value_under, without};
 ghost use Rattle.dv_value.specs.View.{tree};
-ghost use Rattle.dv_row.specs.Inner.ExpressionView.{expression_seen};
+ghost use Rattle.dv_row.specs.ExpressionView.{expression_seen};
 ghost use Rattle.dv_value.specs.Results.{Gives, each};
 ghost use Rattle.dv_row.specs.declared.fault.PipelineFault.TheVariants.{NoMemory as no_memory};
 ghost use Rattle.dv_gather.specs.GroupParsing as defined;

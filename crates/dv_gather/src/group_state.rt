@@ -2,7 +2,7 @@
 
 ghost use Rattle.std.specs.Prelude.{◌≡◌, ℕ, suc, map, IfOk, OnOk};
 ghost use Rattle.dv_value.specs.View.{tree};
-ghost use Rattle.dv_row.specs.Inner.RowValueView.{row_value};
+ghost use Rattle.dv_row.specs.RowValueView.{row_value};
 ghost use Rattle.dv_gather.specs.Inner.SumBounds.{AreWithin, most};
 ghost use Rattle.dv_gather.specs.Inner.GroupView.{accumulation};
 ghost use Rattle.dv_gather.specs.Inner.GroupStates as defined;
@@ -34,7 +34,7 @@ impl GroupState {
         }
     }
 
-    /// Adds a row of the group, which has this key. Fails where memory is wanting.
+    /// Adds a row of the group, which has this key. Fails when memory runs out.
     pub(crate) fn add(
         &mut self,
         alloc: Global,
@@ -81,7 +81,7 @@ impl GroupState {
         add_each(alloc, &mut self.states, fields, row)
     }
 
-    /// The group's row. That of another group, if there is one, lends its names. Fails where memory is wanting.
+    /// The group's row. That of another group, if there is one, lends its names. Fails when memory runs out.
     pub(crate) fn row(
         self,
         alloc: Global,
@@ -94,7 +94,7 @@ impl GroupState {
         row_of_values(alloc, fields, values, another)
     }
 
-    /// The key, and the values of the states. Fails where memory is wanting.
+    /// The key, and the values of the states. Fails when memory runs out.
     fn values(self, alloc: Global) -> Result<Vec<Value>, NoMemory>
         ensures { IfOk result (λ values. map tree values.items ≡ defined.row_values (group_state_seen self)) }
     {
@@ -108,7 +108,7 @@ impl GroupState {
     }
 }
 
-/// Adds a row's values to the states of the fields. Fails where memory is wanting.
+/// Adds a row's values to the states of the fields. Fails when memory runs out.
 fn add_each(
     alloc: Global,
     states: &mut Vec<AccumulatorState>,
@@ -137,7 +137,7 @@ fn key_or_null(key: Option<Value>) -> Value
     }
 }
 
-/// The states of the fields over no rows. Fails where memory is wanting.
+/// The states of the fields over no rows. Fails when memory runs out.
 fn states_of_none(alloc: Global, fields: &[GroupField]) -> Result<Vec<AccumulatorState>, NoMemory>
     ensures { IfOk result (λ states. map state_seen states.items ≡ defined.states_of_none (map accumulation fields.now)) }
 {

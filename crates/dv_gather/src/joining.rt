@@ -6,7 +6,7 @@ ghost use Rattle.std.specs.BTreeSet.{contains};
 ghost use Rattle.std.specs.Ordering.{is_eq, nat_cmp};
 ghost use Rattle.dv_order.specs.Key.{KeyTree, key_order};
 ghost use Rattle.dv_gather.specs.Joining.{as_value};
-ghost use Rattle.dv_gather.specs.Inner.KeySets.{referred};
+ghost use Rattle.dv_gather.specs.View.{referred};
 ghost use Rattle.dv_gather.specs.Inner.Places.{AddsPlace, AreMatches, ArePlaces, items_chosen, is_found, is_place, is_under, item_at};
 
 use crate::keys::sole_key;

@@ -3,7 +3,7 @@
 ghost use Rattle.std.specs.Prelude.{◌≡◌, IfOk, OnOk};
 ghost use Rattle.dv_value.specs.Tree.{array, elements_of};
 ghost use Rattle.dv_value.specs.View.{tree};
-ghost use Rattle.dv_gather.specs.Inner.KeySets.{referred};
+ghost use Rattle.dv_gather.specs.View.{referred};
 ghost use Rattle.dv_gather.specs.Lookups as defined;
 
 use crate::alike::{has_names_of, row_like};
@@ -52,7 +52,7 @@ impl<'a> Model for Join<'a> {
 
     ghost coded = { coded× lookups.the_row.coded (coded_list (coded_list (coded× (coded_list coded_ℕ) coded_tree))) };
 
-    ghost use Rattle.dv_gather.specs.Inner.KeySets.{referred};
+    ghost use Rattle.dv_gather.specs.View.{referred};
     ghost use Rattle.dv_gather.specs.Inner.Places.{ArePlaces};
 
     ghost view = { λ j. (j.lookup.now, referred j.documents.now) };

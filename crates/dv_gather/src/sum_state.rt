@@ -41,7 +41,7 @@ impl SumState {
     }
 
     /// The sum as a value: an int32 where it fits and each number was one, 0 for none; else an int64 where it fits; else a
-    /// document with its decimal digits under `$sum128`. Fails where memory is wanting.
+    /// document with its decimal digits under `$sum128`. Fails when memory runs out.
     pub(crate) fn value(&self, alloc: Global) -> Result<Value, NoMemory>
         ensures { IfOk result (λ sum. tree sum ≡ state_value (sum_state_seen self.now)) }
     {

@@ -51,7 +51,7 @@ impl AccumulatorState {
         }
     }
 
-    /// Adds the row at the position, or removes it. Fails where memory is wanting; then it is spent.
+    /// Adds the row at the position, or removes it. Fails when memory runs out; then it is spent.
     pub(crate) fn apply(
         &mut self,
         alloc: Global,
@@ -85,7 +85,7 @@ impl AccumulatorState {
         Ok(())
     }
 
-    /// What the accumulator returns for the values. Fails where memory is wanting.
+    /// What the accumulator returns for the values. Fails when memory runs out.
     pub(crate) fn value(&self, alloc: Global, field: &GroupField) -> Result<Value, NoMemory>
         ensures { IfOk result (λ value. tree value ≡ state_value (accumulation field.now) (state_seen self.now)) }
     {
@@ -97,7 +97,7 @@ impl AccumulatorState {
     }
 }
 
-/// The rows with one more, or without it, where it has a value that isn't null. Fails where memory is wanting.
+/// The rows with one more, or without it, where it has a value that isn't null. Fails when memory runs out.
 fn reranked(
     alloc: Global,
     rows: Ordered<Document>,
@@ -121,7 +121,7 @@ fn reranked(
     }
 }
 
-/// Where the row at the position stands by this value. Fails where memory is wanting.
+/// Where the row at the position stands by this value. Fails when memory runs out.
 fn ranked_place(
     alloc: Global,
     accumulator: Accumulator,
@@ -138,7 +138,7 @@ fn ranked_place(
     pos.behind_part(alloc, part)
 }
 
-/// The value of the first row, null where there is none. Fails where memory is wanting.
+/// The value of the first row, null where there is none. Fails when memory runs out.
 fn value_of_first(
     alloc: Global,
     field: &GroupField,
@@ -155,7 +155,7 @@ fn value_of_first(
     }
 }
 
-/// The values with that of the row at the position, where it has one, or without it. Fails where memory is wanting.
+/// The values with that of the row at the position, where it has one, or without it. Fails when memory runs out.
 #[tactic(auto, using(crate::proofs::Pushing::values_put, crate::proofs::Pushing::values_gone))]
 fn repushed(
     alloc: Global,
@@ -176,7 +176,7 @@ fn repushed(
     }
 }
 
-/// A copy of the values, as an array. Fails where memory is wanting.
+/// A copy of the values, as an array. Fails when memory runs out.
 fn array_of(alloc: Global, values: &Ordered<Value>) -> Result<Value, NoMemory>
     ensures { IfOk result (λ value. tree value ≡ array (elements_of (values_in (values_seen values.now)))) }
 {
@@ -184,7 +184,7 @@ fn array_of(alloc: Global, values: &Ordered<Value>) -> Result<Value, NoMemory>
     Ok(Value::Array(List::of(copies)))
 }
 
-/// A copy of the values, without their positions. Fails where memory is wanting.
+/// A copy of the values, without their positions. Fails when memory runs out.
 fn copies_of(alloc: Global, values: &Ordered<Value>) -> Result<Vec<Value>, NoMemory>
     ensures { IfOk result (λ copies. map tree copies.items ≡ values_in (values_seen values.now)) }
 {

@@ -192,7 +192,7 @@ impl Operator for GroupOperator {
     }
 }
 
-/// What tells of the rows, where none were. Fails where memory is wanting.
+/// What tells of the rows, where none were. Fails when memory runs out.
 fn puts_of(alloc: Global, rows: &Ordered<Document>) -> Result<Vec<Taken>, NoMemory>
     ensures { IfOk result (λ puts. puts.items ≡ diff_told [] rows.now) }
 {

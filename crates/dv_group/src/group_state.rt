@@ -26,7 +26,7 @@ pub(crate) struct GroupState {
 }
 
 impl GroupState {
-    /// A group of no rows. Fails where memory is wanting.
+    /// A group of no rows. Fails when memory runs out.
     pub(crate) fn new(alloc: Global, group: &Group) -> Result<Self, NoMemory>
         ensures rows { IfOk result (λ state. state.members ≡ []) }
         ensures sound { IfOk result (λ state. IsGroupState group.now.fields state) }
@@ -44,7 +44,7 @@ impl GroupState {
         self.members.is_empty()
     }
 
-    /// Sets what stands at the position: the row, or nothing. Fails where memory is wanting; then it is spent.
+    /// Sets what stands at the position: the row, or nothing. Fails when memory runs out; then it is spent.
     pub(crate) fn set(
         &mut self,
         alloc: Global,
@@ -65,7 +65,7 @@ impl GroupState {
         apply_some(alloc, states, group, RowChange::Added, &pos, &row)
     }
 
-    /// The group's row, where it has rows. A row before it lends its names, if there is one. Fails where memory is wanting.
+    /// The group's row, where it has rows. A row before it lends its names, if there is one. Fails when memory runs out.
     pub(crate) fn row(
         &self,
         alloc: Global,
@@ -85,7 +85,7 @@ impl GroupState {
         Ok(Some(row))
     }
 
-    /// The key, and the values of the states. Fails where memory is wanting.
+    /// The key, and the values of the states. Fails when memory runs out.
     fn values(
         &self,
         alloc: Global,
@@ -103,7 +103,7 @@ impl GroupState {
     }
 }
 
-/// The states of the fields over no rows. Fails where memory is wanting.
+/// The states of the fields over no rows. Fails when memory runs out.
 fn states_of_none(alloc: Global, fields: &[GroupField]) -> Result<Vec<AccumulatorState>, NoMemory>
     ensures { IfOk result (λ states. map state_seen states.items ≡ map (λ a. state_over a []) (map accumulation fields.now)) }
 {
@@ -114,7 +114,7 @@ fn states_of_none(alloc: Global, fields: &[GroupField]) -> Result<Vec<Accumulato
     Ok(states)
 }
 
-/// Sets which of the rows stands at the position, or that none does. Gives the one that stood there. Fails where memory is wanting;
+/// Sets which of the rows stands at the position, or that none does. Gives the one that stood there. Fails when memory runs out;
 /// then all are dropped.
 fn exchange(
     alloc: Global,
@@ -131,7 +131,7 @@ fn exchange(
     Ok(old)
 }
 
-/// The rows, with this one at the position, or with none there, and the one that stood there, if any. Fails where memory is wanting.
+/// The rows, with this one at the position, or with none there, and the one that stood there, if any. Fails when memory runs out.
 fn with_set(
     rows: Ordered<Document>,
     pos: &Pos,
@@ -153,8 +153,8 @@ fn law_few(members: &Ordered<Document>)
     let _count = members.len();
 }
 
-/// Adds the row at the position to the states of the group's fields, or removes it, where there is one. Fails where memory is
-/// wanting.
+/// Adds the row at the position to the states of the group's fields, or removes it, where there is one. Fails when memory runs
+/// out.
 fn apply_some(
     alloc: Global,
     states: &mut Vec<AccumulatorState>,
@@ -173,7 +173,7 @@ fn apply_some(
     }
 }
 
-/// Adds the row at the position to the states of the fields, or removes it. Fails where memory is wanting.
+/// Adds the row at the position to the states of the fields, or removes it. Fails when memory runs out.
 fn apply_each(
     alloc: Global,
     states: &mut Vec<AccumulatorState>,

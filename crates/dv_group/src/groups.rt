@@ -18,7 +18,7 @@ use std::collections::BTreeMap;
 /// The groups, by their keys.
 pub(crate) type Groups = BTreeMap<Key, LiveGroup>;
 
-/// Takes in changes of rows, one after the other, where no rows of groups are wanted. Fails where memory is wanting.
+/// Takes in changes of rows, one after the other, where no rows of groups are wanted. Fails when memory runs out.
 pub(crate) fn follow_all(
     alloc: Global,
     group: &Group,
@@ -36,8 +36,8 @@ pub(crate) fn follow_all(
 }
 
 /// Takes in a change of a row: the one that stood at its position is removed from the group of its key, and the one that stands
-/// there now is added to that of its own. Gives the rows of these groups before it and after it, where they are wanted. Fails where
-/// memory is wanting.
+/// there now is added to that of its own. Gives the rows of these groups before it and after it, where they are wanted. Fails
+/// when memory runs out.
 pub(crate) fn follow(
     alloc: Global,
     group: &Group,
@@ -56,7 +56,7 @@ pub(crate) fn follow(
     move_row(alloc, group, groups, pos, &key, &other, new, wish)
 }
 
-/// The key of the row, where there is one. Fails where memory is wanting.
+/// The key of the row, where there is one. Fails when memory runs out.
 fn key_of_row(alloc: Global, group: &Group, row: &Option<Document>) -> Result<Option<Key>, NoMemory>
     ensures { IfOk result (λ key. key ≡ own_key group.now row.now) }
 {
@@ -69,8 +69,9 @@ fn key_of_row(alloc: Global, group: &Group, row: &Option<Document>) -> Result<Op
     }
 }
 
-/// Removes what stands at the position from the group of the one key, and adds the row there to that of the other one, where there
-/// are keys and a row. Gives the rows of these groups before it and after it, where they are wanted. Fails where memory is wanting.
+/// Removes what stands at the position from the group of the one key, and adds the row there to that of the other one, where
+/// there are keys and a row. Gives the rows of these groups before it and after it, where they are wanted. Fails when memory runs
+/// out.
 fn move_row(
     alloc: Global,
     group: &Group,

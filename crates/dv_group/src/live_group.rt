@@ -36,8 +36,8 @@ impl LiveGroup {
         self.state.is_empty()
     }
 
-    /// Sets what stands at the position: the row, or nothing. Gives the group's row before and after it, where it is wanted. Fails
-    /// where memory is wanting; then it is spent.
+    /// Sets what stands at the position: the row, or nothing. Gives the group's row before and after it, where it is wanted.
+    /// Fails when memory runs out; then it is spent.
     pub(crate) fn set(
         &mut self,
         alloc: Global,
@@ -58,7 +58,7 @@ impl LiveGroup {
         Ok(Transition { before, after })
     }
 
-    /// Keeps the group's row, where it is wanted, and gives it. Fails where memory is wanting.
+    /// Keeps the group's row, where it is wanted, and gives it. Fails when memory runs out.
     fn settle(
         &mut self,
         alloc: Global,
@@ -76,7 +76,7 @@ impl LiveGroup {
         Ok(row)
     }
 
-    /// The group's row, where it is wanted. Fails where memory is wanting.
+    /// The group's row, where it is wanted. Fails when memory runs out.
     pub(crate) fn shown_if_wanted(
         &self,
         alloc: Global,
@@ -92,8 +92,8 @@ impl LiveGroup {
         }
     }
 
-    /// The group's row, where it has rows; it is shared where it was made before. A row before it lends its names. Fails where
-    /// memory is wanting.
+    /// The group's row, where it has rows; it is shared where it was made before. A row before it lends its names. Fails when
+    /// memory runs out.
     pub(crate) fn shown(
         &self,
         alloc: Global,
@@ -110,7 +110,7 @@ impl LiveGroup {
     }
 }
 
-/// A copy of the row, where there is one. Fails where memory is wanting.
+/// A copy of the row, where there is one. Fails when memory runs out.
 fn copy_of(row: &Option<Document>) -> Result<Option<Document>, NoMemory>
     ensures { IfOk result (λ copy. copy ≡ row.now) }
 {

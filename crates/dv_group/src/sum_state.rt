@@ -55,7 +55,7 @@ impl SumState {
         }
     }
 
-    /// The sum as a value. Fails where memory is wanting.
+    /// The sum as a value. Fails when memory runs out.
     pub(crate) fn value(&self, alloc: Global) -> Result<Value, NoMemory>
         ensures { IfOk result (λ sum. tree sum ≡ sums.spelled (nat_eq self.now.int64s 0) self.now.total) }
     {

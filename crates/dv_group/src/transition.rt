@@ -51,7 +51,7 @@ pub(crate) enum Transitions {
 }
 
 impl Transitions {
-    /// Those of the group of the key, where there is a key. Fails where memory is wanting.
+    /// Those of the group of the key, where there is a key. Fails when memory runs out.
     pub(crate) fn of_one(
         alloc: Global,
         key: &Option<Key>,
@@ -66,7 +66,7 @@ impl Transitions {
         }
     }
 
-    /// Those of the groups of two keys, where there are keys. Fails where memory is wanting.
+    /// Those of the groups of two keys, where there are keys. Fails when memory runs out.
     pub(crate) fn of_two(
         alloc: Global,
         key: &Option<Key>,
@@ -119,7 +119,7 @@ pub(crate) fn first_row(rows: &Ordered<Document>) -> Option<&Document> {
     }
 }
 
-/// The rows of the groups of two keys, where they have one. Fails where memory is wanting.
+/// The rows of the groups of two keys, where they have one. Fails when memory runs out.
 fn rows_of_two(
     alloc: Global,
     key: &Key,
@@ -133,7 +133,7 @@ fn rows_of_two(
     with_row(alloc, rows, other, beside)
 }
 
-/// The rows, with that of the group of the key, where it has one. Fails where memory is wanting.
+/// The rows, with that of the group of the key, where it has one. Fails when memory runs out.
 pub(crate) fn with_row(
     alloc: Global,
     rows: Ordered<Document>,
@@ -148,7 +148,7 @@ pub(crate) fn with_row(
     }
 }
 
-/// Where the row of the group of the key stands. Fails where memory is wanting.
+/// Where the row of the group of the key stands. Fails when memory runs out.
 fn place_of(alloc: Global, key: &Key) -> Result<Pos, NoMemory>
     ensures { IfOk result (λ pos. pos ≡ Up key.now ∷ []) }
 {

@@ -1,17 +1,20 @@
 -- Connections that are served at once: one comes, one has a turn, one is closed.
-use Rattle.std.proofs.Common.{◌≡◌, ◌≢◌, ℕ, suc, ◌+◌, ◌<◌, ◌≤◌, List, [], ◌∷◌, ◌++◌, Option, Some, None, length, get_or, set, refl, sym, ap, subst, ◌∙◌, append_assoc, arith, length-append, length-set}
+use Rattle.std.proofs.Common.{◌≡◌, ◌≢◌, ℕ, suc, ◌+◌, ◌<◌, ◌≤◌, List, [], ◌∷◌, ◌++◌, Option, Some, None, length, get_or, map, set, refl, sym, ap, subst, ◌∙◌, append_assoc, append-nil, arith, length-append, length-set}
 use Rattle.std.proofs.KnownBytes.{Consumes-nil, Consumes-trans, Keeps-refl}
 use Rattle.std.proofs.lemmas.List.Sorted.{IsPermutation-refl}
 use Rattle.std.specs.List.{AllByRecursion, remove}
+use Rattle.std.specs.List.Sorted.{IsPermutation}
 use Rattle.dv_host.specs.Channel.{Gains}
 use Rattle.dv_host.specs.declared.link.Fate.{Fate}
 use Rattle.dv_host.specs.declared.link.Fate.TheVariants.{Failed}
 use Rattle.dv_host.specs.Outside.{Accepts, Closed, Closes, HasTaken}
-use Rattle.dv_host.specs.Schedule.{Step, opened, ended, PlaysBy, session_in, openings, heard, answers, may_wait, closing, unsent_behind, closing_behind, IsOpen, IsPieceOf, IsBelow, IsFair, open_behind}
+use Rattle.dv_host.specs.Schedule.{Step, opened, ended, PlaysBy, session_in, openings, heard, answers, may_wait, closing, unsent_behind, closing_behind, IsPieceOf, IsFair, open_behind}
 use Rattle.dv_host.specs.View.{Seen}
-use Rattle.dv_host.specs.Host.{Accepted, AreNumbered, Close, Come, Finished, refused, served, sessions_of, left_of, taken_of, fate_of, Follows, Hosts, IsApart, IsBehind, IsIn, Moves, Settles, WasServed}
+use Rattle.dv_host.specs.Host.{Accepted, AreBelow, Close, Come, Finished, refused, served, sessions_of, session_at, left_of, taken_of, fate_of, Follows, IsIn, Served, Settles, WasServed}
+use Rattle.dv_host.specs.Inner.Moving.{Moves}
+use Rattle.dv_host.specs.Inner.Hosting.{AreNumbered, Hosts, IsApart, IsBehind, IsBelow, IsOpen}
 use Rattle.dv_host.proofs.Schedules.{all_joined, all_weaker, plays_joined, heard_joined, answers_joined, behind_joined, may_wait_le, pieces_below, pieces_fair, below_more, open_joined, few_joined, few_behind, pieces_open, pieces_few}
-use Rattle.dv_host.proofs.Lives.{all_fed, all_open_still, ascend_more, ascend_still, end_of_one, ends_so, opened_of_one, openings_more, openings_pieces, openings_same, opens_so, other_end, other_start, pieces_of_one, sessions_within, shared_closed, shared_opened, shared_refused, shared_set}
+use Rattle.dv_host.proofs.Lives.{accepted_low, all_fed, all_open_still, ascend_more, ascend_still, end_of_one, ends_so, opened_of_one, openings_more, openings_pieces, openings_same, opens_so, other_end, other_start, pieces_of_one, sessions_within, shared_closed, shared_opened, shared_refused, shared_set}
 use Rattle.dv_host.proofs.Links.{numbered_more, number_below, numbered_set, numbered_removed, all_removed, all_at, apart_set, apart_removed, length_removed}
 use Rattle.dv_host.proofs.Silent.{in_left, in_last, IsSilent, silent_none, silent_opened, silent_ended, follows_still, IsQuiet, all_live_still, all_served_still, live_moved, served_moved}
 
@@ -319,3 +322,30 @@ module _ {W : Type 0} (Happens : W → Step → W → Type 0) (coming_old coming
         gone = all_joined (IsBehind next) hosts.finished (gone_one ∷ []) hosts.gone (tt, tt);
         apart = all_joined (IsApart links) hosts.finished (gone_one ∷ []) hosts.apart (tt, tt);
       })
+
+-- where none is open, all were served
+pub all_served : {W : Type 0} (Happens : W → Step → W → Type 0) (coming_old coming : Option (List (List ℕ))) (closed_old closed : Option (List Closed)) (old now : W) (next count : ℕ)
+    → Hosts (PlaysBy Happens) coming_old coming closed_old closed old now next count []
+    → (served : Served (PlaysBy Happens) coming_old coming closed_old closed old now count) × AreBelow next served.accepted
+all_served Happens coming_old coming closed_old closed old now next count hosts = (
+  record {
+    steps = hosts.steps;
+    played = hosts.played;
+    fair = hosts.fair;
+    few = hosts.few;
+    none_open = hosts.open_are;
+    accepted = hosts.accepted;
+    many = hosts.many;
+    come = hosts.come;
+    finished = hosts.finished;
+    close = hosts.close;
+    sessions = record {
+      opened_so = hosts.sessions.opened_so;
+      ascend = hosts.sessions.ascend;
+      once_each = subst (IsPermutation (sessions_of hosts.accepted)) (append-nil (map session_at hosts.finished)) hosts.sessions.once_each;
+      no_others = hosts.sessions.no_others;
+    };
+    were_served = hosts.were_served;
+  },
+  accepted_low next hosts.steps hosts.accepted hosts.below hosts.sessions.opened_so,
+)

@@ -1,5 +1,5 @@
 -- How the connections of examples do not end.
-use Rattle.std.proofs.Common.{◌≡◌, List, [], ◌∷◌, Option, Some, None}
+use Rattle.std.proofs.Common.{[], ◌∷◌, Some, None}
 use Rattle.dv_host.specs.Host.{Settles}
 use Rattle.dv_host.specs.Inner.Examples.{link_with}
 use Rattle.dv_host.specs.declared.link.Fate.TheVariants as fates

@@ -6,7 +6,9 @@ use Rattle.dv_host.specs.declared.link.Fate.{Fate}
 use Rattle.dv_host.specs.Outside.{Accepts, Closed, Closes, HasTaken}
 use Rattle.dv_host.specs.Schedule.{Step, opened, ended, PlaysBy}
 use Rattle.dv_host.specs.View.{Seen}
-use Rattle.dv_host.specs.Host.{Hosts, Moves, Settles}
+use Rattle.dv_host.specs.Host.{Settles}
+use Rattle.dv_host.specs.Inner.Moving.{Moves}
+use Rattle.dv_host.specs.Inner.Hosting.{Hosts}
 use Rattle.dv_host.proofs.Links.{map_at, map_removed}
 use Rattle.dv_host.proofs.All.{moved, closed_at, opened_for}
 

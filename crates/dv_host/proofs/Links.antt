@@ -2,7 +2,7 @@
 use Rattle.std.proofs.Common.{◌≡◌, ◌≢◌, ℕ, zero, suc, ◌+◌, ◌<◌, ◌≤◌, List, [], ◌∷◌, ◌++◌, length, get_or, set, map, refl, sym, ap, subst, arith}
 use Rattle.std.specs.List.{AllByRecursion, remove}
 use Rattle.dv_host.specs.View.{Seen}
-use Rattle.dv_host.specs.Host.{AreNumbered}
+use Rattle.dv_host.specs.Inner.Hosting.{AreNumbered}
 
 pub numbered_lower : (low first : ℕ) (links : List Seen) (next : ℕ) → low ≤ first → AreNumbered first links next → AreNumbered low links next
 numbered_lower low first [] next le numbered = omega (arith, le, numbered)

@@ -1,5 +1,5 @@
 -- What becomes of each session: it is opened, has pieces of its bytes, and ends.
-use Rattle.std.proofs.Common.{◌≡◌, ◌≢◌, ℕ, ◌<◌, List, [], ◌∷◌, ◌++◌, Option, Some, None, map, length, get_or, set, refl, sym, ap, subst, ◌∙◌, append_assoc, append-nil, arith, inl, inr}
+use Rattle.std.proofs.Common.{◌≡◌, ◌≢◌, ℕ, ◌<◌, List, [], ◌∷◌, ◌++◌, Option, Some, None, map, length, get_or, set, refl, sym, ap, subst, ◌∙◌, append_assoc, append-nil, arith, inl, inr, IfSome}
 use Rattle.std.proofs.lemmas.Bool.{eq-eqb, ne_eqb}
 use Rattle.std.proofs.lemmas.Bool.Decides.{eqb_tells}
 use Rattle.std.proofs.lemmas.List.{get_or_default, length-map, map-append}
@@ -7,13 +7,13 @@ use Rattle.std.proofs.lemmas.List.Elements.{filter-append, filter_map-append}
 use Rattle.std.proofs.lemmas.List.Quantifiers.{all_pairs_push}
 use Rattle.std.proofs.lemmas.List.Sorted.{IsPermutation-append_left, IsPermutation-middle, IsPermutation-more, IsPermutation-push_more, IsPermutation-sym}
 use Rattle.std.proofs.Math.Seq.{map-set_same}
-use Rattle.std.specs.Bool.{⊤}
 use Rattle.std.specs.List.{AllByRecursion, AllPairs, cons_option, filter_map, remove}
 use Rattle.std.specs.List.Sorted.{IsPermutation}
 use Rattle.dv_host.specs.declared.link.Fate.{Fate}
-use Rattle.dv_host.specs.Schedule.{Step, opened, fed, ended, session_in, is_step_of, steps_of, openings, HasEnded, IsOpen, IsPieceOf, IsBelow}
+use Rattle.dv_host.specs.Schedule.{Step, opened, fed, ended, session_in, is_step_of, steps_of, openings, HasEnded, IsPieceOf}
 use Rattle.dv_host.specs.View.{Seen}
-use Rattle.dv_host.specs.Host.{Accepted, Finished, refused, served, sessions_of, session_at, IsIn}
+use Rattle.dv_host.specs.Host.{Accepted, AreBelow, Finished, refused, served, sessions_of, session_at, IsIn}
+use Rattle.dv_host.specs.Inner.Hosting.{IsOpen, IsBelow}
 use Rattle.dv_host.proofs.Schedules.{all_joined}
 use Rattle.dv_host.proofs.Links.{all_at, map_at, map_removed}
 
@@ -132,32 +132,32 @@ abbrev numbers_of : List Accepted → List ℕ
 numbers_of accepted = filter_map (λ (one : Accepted). one.session) accepted
 
 abbrev are_low : ℕ → List (Option ℕ) → Type 0
-are_low next [] = ⊤
-are_low next (None ∷ others) = are_low next others
-are_low next (Some s ∷ others) = (s < next) × are_low next others
+are_low next all = AllByRecursion (λ one. IfSome one (λ s. s < next)) all
 
 openings_low : (next : ℕ) (steps : List Step) → AllByRecursion (IsBelow next) steps → are_low next (openings steps)
 openings_low next [] below = tt
-openings_low next (opened None ∷ steps) below = openings_low next steps below.1
-openings_low next (opened (Some s) ∷ steps) below = (below.0, openings_low next steps below.1)
+openings_low next (opened result ∷ steps) below = (below.0, openings_low next steps below.1)
 openings_low next (fed s piece bytes told ∷ steps) below = openings_low next steps below.1
 openings_low next (ended s ∷ steps) below = openings_low next steps below.1
 
 low_with : (next : ℕ) (one : Option ℕ) (others : List (Option ℕ)) (numbers : List ℕ) → are_low next (one ∷ others) → (are_low next others → AllByRecursion (λ s. s < next) numbers)
     → AllByRecursion (λ s. s < next) (cons_option one numbers)
-low_with next None others numbers low more = more low
+low_with next None others numbers low more = more low.1
 low_with next (Some s) others numbers low more = (low.0, more low.1)
 
 numbers_low : (next : ℕ) (accepted : List Accepted) → are_low next (sessions_of accepted) → AllByRecursion (λ s. s < next) (numbers_of accepted)
 numbers_low next [] low = tt
 numbers_low next (one ∷ others) low = low_with next one.session (sessions_of others) (numbers_of others) low (numbers_low next others)
 
+pub accepted_low : (next : ℕ) (steps : List Step) (accepted : List Accepted) → AllByRecursion (IsBelow next) steps → openings steps ≡ sessions_of accepted → AreBelow next accepted
+accepted_low next steps accepted below are = subst (are_low next) are (openings_low next steps below)
+
 -- the numbers of accepted connections ascend; one more comes with the next number
 pub ascend_more : (steps : List Step) (next : ℕ) (accepted : List Accepted) (last : Accepted) → last.session ≡ Some next → AllByRecursion (IsBelow next) steps → openings steps ≡ sessions_of accepted
     → AllPairs (λ before later. before < later) (filter_map (λ (one : Accepted). one.session) accepted)
     → AllPairs (λ before later. before < later) (filter_map (λ (one : Accepted). one.session) (accepted ++ last ∷ []))
 ascend_more steps next accepted last is below are ascend =
-    let low = numbers_low next accepted (subst (are_low next) are (openings_low next steps below)) in
+    let low = numbers_low next accepted (accepted_low next steps accepted below are) in
     let grown : numbers_of (accepted ++ last ∷ []) ≡ numbers_of accepted ++ next ∷ [] = filter_map-append (λ (one : Accepted). one.session) accepted (last ∷ [])
     ∙ rw is refl in
     subst (AllPairs (λ before later. before < later)) (sym grown) (all_pairs_push (λ (a b : ℕ). a < b) (numbers_of accepted) next ascend (λ k d lt. all_at (λ s. s < next) (numbers_of accepted) k d lt low))

@@ -8,7 +8,7 @@ use Rattle.dv_host.specs.Channel.{Gains}
 use Rattle.dv_host.specs.declared.sessions.Fed.{Fed}
 use Rattle.dv_host.specs.Schedule.{Step, fed, HappensBy, PlaysBy, IsPieceOf, heard, answers, may_wait, unsent_behind, closed_by, closing, closing_behind}
 use Rattle.dv_host.specs.View.{Seen}
-use Rattle.dv_host.specs.Host.{Fills, Gives, Moves}
+use Rattle.dv_host.specs.Inner.Moving.{Fills, Gives, Moves}
 use Rattle.dv_host.proofs.Giving.{Gains-nil, Gains-trans}
 use Rattle.dv_host.proofs.Schedules.{all_joined, plays_joined, heard_joined, answers_joined, heard_one, answers_one, behind_joined, behind_one, may_wait_le}
 

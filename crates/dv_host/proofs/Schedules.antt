@@ -3,7 +3,8 @@ use Rattle.std.proofs.Common.{◌≡◌, ◌≢◌, ℕ, ◌+◌, ◌<◌, ◌�
 use Rattle.std.specs.List.{AllByRecursion}
 use Rattle.std.proofs.lemmas.Bool.{eq-eqb, ne_eqb}
 use Rattle.dv_host.specs.declared.sessions.Fed.{Fed}
-use Rattle.dv_host.specs.Schedule.{Step, opened, fed, ended, PlaysBy, heard, heard_in, answers, answers_in, behind, behind_step, unsent_behind, may_wait, IsPieceOf, IsBelow, IsFair, StayFew, open_in, open_behind}
+use Rattle.dv_host.specs.Schedule.{Step, opened, fed, ended, PlaysBy, heard, heard_in, answers, answers_in, behind, behind_step, unsent_behind, may_wait, IsPieceOf, IsFair, StayFew, open_in, open_behind}
+use Rattle.dv_host.specs.Inner.Hosting.{IsBelow}
 
 module _ {A : Type 0} (P : A → Type 0) where
   pub all_joined : (xs ys : List A) → AllByRecursion P xs → AllByRecursion P ys → AllByRecursion P (xs ++ ys)

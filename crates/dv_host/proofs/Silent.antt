@@ -1,10 +1,11 @@
 -- What one connection keeps while others have turns.
-use Rattle.std.proofs.Common.{◌≡◌, ◌≢◌, ℕ, zero, suc, ◌+◌, ◌<◌, List, [], ◌∷◌, ◌++◌, Option, None, length, get_or, set, refl, sym, ap, ◌∙◌, append-nil, arith, inl, inr}
+use Rattle.std.proofs.Common.{◌≡◌, ◌≢◌, ℕ, zero, suc, ◌<◌, List, [], ◌∷◌, ◌++◌, Option, None, length, get_or, set, refl, sym, ap, ◌∙◌, append-nil, arith, inl, inr}
 use Rattle.std.specs.Bool.{⊤}
 use Rattle.std.specs.List.{AllByRecursion}
-use Rattle.dv_host.specs.Schedule.{Step, opened, ended, steps_of, heard, answers, may_wait, closing, unsent_behind, closing_behind, IsPieceOf, IsBelow}
+use Rattle.dv_host.specs.Schedule.{Step, opened, ended, steps_of, heard, answers, may_wait, closing, unsent_behind, closing_behind, IsPieceOf}
 use Rattle.dv_host.specs.View.{Seen}
-use Rattle.dv_host.specs.Host.{Accepted, AreNumbered, Finished, refused, served, Follows, IsApart, IsIn, WasServed}
+use Rattle.dv_host.specs.Host.{Accepted, Finished, refused, served, Follows, IsIn, WasServed}
+use Rattle.dv_host.specs.Inner.Hosting.{AreNumbered, IsApart, IsBelow}
 use Rattle.dv_host.proofs.Schedules.{all_weaker, heard_joined, answers_joined, heard_other, answers_other, behind_joined, behind_other, behind_none, heard_none, answers_none}
 use Rattle.dv_host.proofs.Lives.{ended_still, other_steps}
 use Rattle.dv_host.proofs.Links.{number_least, all_at}

@@ -1,46 +1,15 @@
 -- Serving many connections at once.
-use Rattle.std.specs.Prelude.{◌≡◌, ◌≢◌, ℕ, suc, ◌<◌, ◌≤◌, ◌+◌, List, [], ◌∷◌, ◌++◌, length, map, Option, Some, None, ⊤, ◌⊎◌}
+use Rattle.std.specs.Prelude.{◌≡◌, ℕ, ◌<◌, ◌≤◌, List, [], ◌∷◌, ◌++◌, length, map, Option, Some, None, ⊤, ◌⊎◌, IfSome}
 use Rattle.std.specs.List.{AllByRecursion, AllPairs, filter_map}
 use Rattle.std.specs.List.Sorted.{IsPermutation}
 use Rattle.std.specs.Io.KnownBytes.{Consumes, IsAtEnd, Keeps}
-use Rattle.dv_host.specs.Channel.{Gains}
 use Rattle.dv_host.specs.Outside.{Accepts, Closed, Closes, HasTaken}
-use Rattle.dv_host.specs.Schedule.{Step, session_in, heard, answers, may_wait, closing, openings, HasEnded, IsOpen, IsPieceOf, IsBelow, IsFair, StayFew, open_behind}
+use Rattle.dv_host.specs.Schedule.{Step, session_in, heard, answers, may_wait, closing, openings, HasEnded, IsFair, StayFew, open_behind}
 use Rattle.dv_host.specs.View.{Seen}
 use Rattle.dv_host.specs.declared.link.Fate.{Fate}
 use Rattle.dv_host.specs.declared.link.Fate.TheVariants as fates
-use Rattle.dv_host.specs.declared.link.Told.{Told}
-use Rattle.dv_host.specs.declared.link.Told.TheVariants as told
 
 -- ---- one connection
-
--- the connection takes the first bytes of the replies that it has not taken yet
-pub record Gives (was now : Seen) : Type 0 where
-  pub given : List ℕ
-  pub taken : Gains was.taken now.taken given
-  pub kept : was.unsent ≡ given ++ now.unsent
-  pub still : now ≡ record was { taken = now.taken; unsent = now.unsent }
-
--- bytes are read from the connection, and added to those that were not passed to its session
-pub record Fills (was now : Seen) : Type 0 where
-  pub read : List ℕ
-  pub consumed : Consumes was.left now.left read
-  pub still : now ≡ record was { left = now.left; pending = was.pending ++ read }
-
--- the progress of a connection: bytes are read from it and passed to its session in order, and it takes bytes of replies
-pub record Moves {W : Type 0} (Plays : W → List Step → W → Type 0) (old new : W) (was now : Seen) : Type 0 where
-  pub steps : List Step
-  pub played : Plays old steps new
-  pub own : AllByRecursion (IsPieceOf was.session) steps
-  pub same : now.session ≡ was.session
-  pub read : List ℕ
-  pub consumed : Consumes was.left now.left read
-  pub fed_so : was.pending ++ read ≡ heard was.session steps ++ now.pending
-  pub given : List ℕ
-  pub taken : Gains was.taken now.taken given
-  pub kept : was.unsent ++ answers was.session steps ≡ given ++ now.unsent
-  pub few : length now.unsent ≤ may_wait was.session (length was.unsent) steps
-  pub shut : now.closing ≡ closing was.session was.closing steps
 
 -- what the end of a connection implies: unless it failed, all replies were taken; after `Closed` this fault closed the session; after
 -- `Ended` and `Full` none did, and all that was read was passed on; after `Ended` the whole input was read
@@ -49,12 +18,6 @@ Settles fates.Ended link = IsAtEnd link.left × (link.unsent ≡ []) × (link.pe
 Settles (fates.Closed fault) link = (link.unsent ≡ []) × (link.closing ≡ Some fault)
 Settles fates.Full link = (link.unsent ≡ []) × (link.pending ≡ []) × (link.closing ≡ None)
 Settles fates.Failed link = ⊤
-
--- what a step of serving a connection implies: nothing, unless it was the connection's end
-abbrev pub SettlesIn : Told → Seen → Type 0
-SettlesIn told.Waits link = ⊤
-SettlesIn told.Again link = ⊤
-SettlesIn (told.Over fate) link = Settles fate link
 
 -- ---- all connections
 
@@ -130,52 +93,37 @@ WasServed steps accepted (refused left taken) = (input : Option (List ℕ)) × I
 WasServed steps accepted (served link fate) = Follows steps accepted link × Settles fate link × HasEnded steps link.session
 
 -- Each connection has a session of its own, or was refused one: those that were opened are those of the accepted connections, in order;
--- their numbers ascend; each is that of exactly one connection, closed or open; and each step is of one of them.
-pub record HaveOwnSessions (steps : List Step) (accepted : List Accepted) (finished : List Finished) (links : List Seen) : Type 0 where
+-- their numbers ascend; each is that of exactly one closed connection; and each step is of one of them.
+pub record HaveOwnSessions (steps : List Step) (accepted : List Accepted) (finished : List Finished) : Type 0 where
   pub opened_so : openings steps ≡ sessions_of accepted
   pub ascend : AllPairs (λ before later. before < later) (filter_map (λ one. one.session) accepted)
-  pub once_each : IsPermutation (sessions_of accepted) (map session_at finished ++ map (λ link. Some link.session) links)
+  pub once_each : IsPermutation (sessions_of accepted) (map session_at finished)
   pub no_others : AllByRecursion (λ step. IsIn (session_in step) (sessions_of accepted)) steps
 
--- the sessions of open connections ascend, and are below the next number
-abbrev pub AreNumbered : ℕ → List Seen → ℕ → Type 0
-AreNumbered first [] next = first ≤ next
-AreNumbered first (link ∷ links) next = (first ≤ link.session) × AreNumbered (suc link.session) links next
-
--- the session of a closed connection is not one of the open ones
-abbrev pub IsApart : List Seen → Finished → Type 0
-IsApart links (refused left taken) = ⊤
-IsApart links (served was fate) = AllByRecursion (λ link. was.session ≢ link.session) links
-
--- the session of a closed connection is below the next number
-abbrev pub IsBehind : ℕ → Finished → Type 0
-IsBehind next (refused left taken) = ⊤
-IsBehind next (served was fate) = was.session < next
+-- the numbers of the sessions of accepted connections are below this one
+abbrev pub AreBelow : ℕ → List Accepted → Type 0
+AreBelow next accepted = AllByRecursion (λ session. IfSome session (λ number. number < next)) (sessions_of accepted)
 
 -- the greatest number of open connections
 abbrev pub most_open : ℕ
 most_open = 1000
 
--- Connections arrived, each with a session of its own, and were closed, each after its session ended; these are open. What happened to
--- the sessions is a schedule: each was opened, then received pieces of its connection's bytes, and then ended if that is closed. No piece
--- is longer than 65,536 bytes, and at no time are more than 1,000 sessions open.
-pub record Hosts {W : Type 0} (Plays : W → List Step → W → Type 0) (coming_old coming_new : Option (List (List ℕ))) (closed_old closed_new : Option (List Closed)) (old new : W) (next count : ℕ) (links : List Seen) : Type 0 where
+-- This number of connections arrived, and all of them were closed. Each had a session of its own, or was refused one. What happened to the
+-- sessions is a schedule, from the old world to the new one: each was opened, then received pieces of its connection's bytes, and then
+-- ended. No piece is longer than 65,536 bytes, at no time are more than 1,000 sessions open, and none is open at the end.
+pub record Served {W : Type 0} (Plays : W → List Step → W → Type 0) (coming_old coming_new : Option (List (List ℕ))) (closed_old closed_new : Option (List Closed)) (old new : W) (count : ℕ) : Type 0 where
+  -- the schedule
   pub steps : List Step
   pub played : Plays old steps new
   pub fair : AllByRecursion IsFair steps
   pub few : StayFew most_open 0 steps
-  pub open_are : open_behind 0 steps ≡ length links
+  pub none_open : open_behind 0 steps ≡ 0
+  -- the connections, in the order in which they arrived
   pub accepted : List Accepted
   pub many : length accepted ≡ count
   pub come : Come coming_old accepted coming_new
+  -- the same connections, in the order in which they were closed
   pub finished : List Finished
   pub close : Close closed_old finished closed_new
-  pub sessions : HaveOwnSessions steps accepted finished links
-  pub counted : length accepted ≡ length finished + length links
-  pub live : AllByRecursion (Follows steps accepted) links
-  pub stay_open : AllByRecursion (λ link. IsOpen steps link.session) links
+  pub sessions : HaveOwnSessions steps accepted finished
   pub were_served : AllByRecursion (WasServed steps accepted) finished
-  pub numbered : AreNumbered 0 links next
-  pub below : AllByRecursion (IsBelow next) steps
-  pub gone : AllByRecursion (IsBehind next) finished
-  pub apart : AllByRecursion (IsApart links) finished

@@ -4,7 +4,5 @@ pub mod Schedule
 pub mod Outside
 pub mod View
 pub mod Host
--- words that only bodies need
-pub mod Stands
 -- what only bodies and proofs need
 pub mod Inner

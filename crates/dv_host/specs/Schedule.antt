@@ -1,5 +1,5 @@
 -- Schedules: what happens to sessions, one step after the other.
-use Rattle.std.specs.Prelude.{◌≡◌, ℕ, suc, ◌+◌, ◌-◌, ◌<◌, ◌≤◌, Bool, List, [], ◌∷◌, ◌++◌, length, Option, Some, None, ◌==◌, if◌then◌else◌, ⊤, IfSome}
+use Rattle.std.specs.Prelude.{◌≡◌, ℕ, suc, ◌+◌, ◌-◌, ◌≤◌, Bool, List, [], ◌∷◌, ◌++◌, length, Option, Some, None, ◌==◌, if◌then◌else◌, ⊤}
 use Rattle.std.specs.List.{AllByRecursion, filter}
 use Rattle.std.specs.Option.{option_eq}
 use Rattle.dv_host.specs.declared.sessions.Fed.{Fed}
@@ -111,12 +111,6 @@ IsPieceOf session (opened result) = ⊥
 IsPieceOf session (fed other piece bytes told) = (other ≡ session) × (length piece ≤ longest_piece)
 IsPieceOf session (ended other) = ⊥
 
--- a session is open: it was opened, and then only pieces of its bytes arrived
-pub record IsOpen (steps : List Step) (session : ℕ) : Type 0 where
-  pub pieces : List Step
-  pub are_pieces : AllByRecursion (IsPieceOf session) pieces
-  pub in_order : steps_of session steps ≡ opened (Some session) ∷ pieces
-
 -- a session has ended: it was opened, then only pieces of its bytes arrived, and then it ended, and nothing after that
 pub record HasEnded (steps : List Step) (session : ℕ) : Type 0 where
   pub pieces : List Step
@@ -129,10 +123,6 @@ openings [] = []
 openings (opened result ∷ steps) = result ∷ openings steps
 openings (fed session piece bytes told ∷ steps) = openings steps
 openings (ended session ∷ steps) = openings steps
-
--- the number of the step's session is below the next one
-abbrev pub IsBelow : ℕ → Step → Type 0
-IsBelow next step = IfSome (session_in step) (λ session. session < next)
 
 -- a piece in the step is not too long
 abbrev pub IsFair : Step → Type 0

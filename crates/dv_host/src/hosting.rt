@@ -1,10 +1,10 @@
 //! Many connections at once, in turns.
 
 ghost use Rattle.std.specs.Prelude.{◌≡◌, ◌≤◌, ◌<◌, ◌+◌, ◌↔◌, [], length, sum_by, vec_len, IfOk, IfSome, IsTrue, slice_get, Some, OnOk};
-ghost use Rattle.dv_host.specs.Schedule.{HappensBy};
-ghost use Rattle.dv_host.specs.View.{seen_by};
-ghost use Rattle.dv_host.specs.Host.{Settles, SettlesIn};
-ghost use Rattle.dv_host.specs.Stands.{Stands};
+ghost use Rattle.dv_host.specs.Schedule.{HappensBy, PlaysBy};
+ghost use Rattle.dv_host.specs.Host.{AreBelow, Served, Settles};
+ghost use Rattle.dv_host.specs.Inner.Links.{seen_by};
+ghost use Rattle.dv_host.specs.Inner.Moving.{SettlesIn};
 ghost use Rattle.dv_host.specs.Inner.Serving.{Continues, ContinuesTo, with_one};
 
 use crate::channel::Channel;
@@ -34,7 +34,7 @@ pub enum HostFault {
     Turns,
 }
 
-// Accepts a connection, where there is room and one waits, and opens its session. Answers whether one was accepted.
+/// Accepts a connection, where there is room and one waits, and opens its session. Answers whether one was accepted.
 fn greet<O: Outside, S: Sessions>(
     alloc: Global,
     sessions: &mut S,
@@ -60,7 +60,7 @@ fn greet<O: Outside, S: Sessions>(
     true
 }
 
-// Accepts connections while there is room and some wait, at most so many, and answers how many.
+/// Accepts connections while there is room and some wait, at most so many, and returns how many.
 fn greet_all<O: Outside, S: Sessions>(
     alloc: Global,
     sessions: &mut S,
@@ -82,15 +82,15 @@ fn greet_all<O: Outside, S: Sessions>(
     count
 }
 
-// The place of the connection with the number.
+/// The place of the connection with the number.
 fn place_of<C>(links: &[Link<C>], number: u64) -> Option<usize>
     ensures { IfSome result (λ place. place < length links.now) }
 {
     links.binary_search_by_key(&number, |link| link.number).ok()
 }
 
-// Whether all sessions together keep more of unfinished messages than may be.
-fn is_full<C>(links: &[Link<C>]) -> bool
+/// Whether all sessions together keep more of unfinished messages than may be.
+fn is_over_budget<C>(links: &[Link<C>]) -> bool
     ensures { IsTrue result ↔ (268435456 < sum_by (λ link. link.unfinished) links.now) }
 {
     let mut kept: usize = 0;
@@ -100,7 +100,7 @@ fn is_full<C>(links: &[Link<C>]) -> bool
     kept > BUDGET
 }
 
-// A turn of the connection at a place.
+/// A turn of the connection at a place.
 fn turn_at<O: Outside, S: Sessions>(
     sessions: &mut S,
     outside: &O,
@@ -116,11 +116,11 @@ fn turn_at<O: Outside, S: Sessions>(
     ensures len { vec_len links.new ≡ vec_len links.old }
 {
     // Only where one keeps much the others are looked at.
-    let full = links[place].unfinished > SHARE && is_full(links);
-    links[place].turn(sessions, piece, full)
+    let over_budget = links[place].unfinished > SHARE && is_over_budget(links);
+    links[place].turn(sessions, piece, over_budget)
 }
 
-// Ends the session of the connection at a place, and closes it.
+/// Ends the session of the connection at a place, and closes it.
 fn finish<O: Outside, S: Sessions>(
     sessions: &mut S,
     outside: &mut O,
@@ -139,7 +139,7 @@ fn finish<O: Outside, S: Sessions>(
     outside.close(link.channel, fate);
 }
 
-// A turn of the connection with the number, where there is one; where it is over, it is closed.
+/// A turn of the connection with the number, where there is one; where it is over, it is closed.
 fn serve_one<O: Outside, S: Sessions>(
     sessions: &mut S,
     outside: &mut O,
@@ -161,7 +161,7 @@ fn serve_one<O: Outside, S: Sessions>(
     }
 }
 
-// A turn of each of those that may be ready.
+/// A turn of each of those that may be ready.
 fn serve_ready<O: Outside, S: Sessions>(
     sessions: &mut S,
     outside: &mut O,
@@ -179,7 +179,7 @@ fn serve_ready<O: Outside, S: Sessions>(
     }
 }
 
-// Ends all sessions, and closes all connections.
+/// Ends all sessions, and closes all connections.
 fn finish_all<O: Outside, S: Sessions>(
     sessions: &mut S,
     outside: &mut O,
@@ -195,7 +195,7 @@ fn finish_all<O: Outside, S: Sessions>(
     }
 }
 
-// Turns, until so many connections were accepted and closed.
+/// Turns, until so many connections were accepted and closed.
 fn rounds<O: Outside, S: Sessions>(
     alloc: Global,
     sessions: &mut S,
@@ -223,7 +223,7 @@ fn rounds<O: Outside, S: Sessions>(
     Err(HostFault::Turns)
 }
 
-// Room for so many bytes. Apart, and of any size, so that no proof spells all of them out.
+/// Room for so many bytes. Apart, and of any size, so that no proof spells all of them out.
 fn room(alloc: Global, size: usize) -> Result<Vec<u8>, AllocError>
     ensures { IfOk result (λ piece. length piece.items ≡ size) }
 {
@@ -248,9 +248,10 @@ pub fn host<O: Outside, S: Sessions>(
     connections: u64,
     turns: u64,
 ) -> Result<(), HostFault>
-    ensures { (count : _) × OnOk result (count ≡ connections)
-        × Stands (HappensBy S.opens S.feeds S.ends) S.next O.coming O.closed O.Channel.remaining O.Channel.contents
-        outside.old sessions.old count outside.new sessions.new [] }
+    ensures { (n : _) × OnOk result (n ≡ connections)
+        × (served : Served (PlaysBy (HappensBy S.opens S.feeds S.ends)) (O.coming outside.old) (O.coming outside.new)
+        (O.closed outside.old) (O.closed outside.new) sessions.old sessions.new n)
+        × AreBelow (S.next sessions.new) served.accepted }
 {
     let Ok(mut piece) = room(alloc, PIECE) else {
         return Err(HostFault::NoMemory);

@@ -9,7 +9,7 @@ pub enum Fate {
     Ended,
     /// Its session was closed by the fault of this number, and it has taken all that was answered.
     Closed(u8),
-    /// There is no room for more of an unfinished message, and it has taken all that was answered.
+    /// There is no room for more of an unfinished message, or no memory for its next bytes, and it has taken all that was answered.
     Full,
     /// It failed, or no session was had.
     Failed,
@@ -44,7 +44,7 @@ pub(crate) struct Link<C> {
     /// How many bytes of an unfinished message the session keeps.
     pub(crate) unfinished: usize,
     /// Whether as many bytes came as there was room for, when some came last.
-    pub(crate) full: bool,
+    pub(crate) filled: bool,
     ghost sent_within: { sent ≤ vec_len out },
     ghost heard_within: { heard ≤ vec_len rest },
     ghost few: { vec_len rest ≤ 65536 },

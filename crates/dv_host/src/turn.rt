@@ -2,8 +2,8 @@
 
 ghost use Rattle.std.specs.Prelude.{◌≡◌, ◌≤◌, ◌<◌, ◌+◌, ◌++◌, [], None, true, length, vec_capacity, vec_len, IfErr};
 ghost use Rattle.dv_host.specs.Schedule.{PlaysBy, HappensBy, closed_by};
-ghost use Rattle.dv_host.specs.View.{pending_of, seen_by, unsent_of};
-ghost use Rattle.dv_host.specs.Host.{Fills, Gives, SettlesIn};
+ghost use Rattle.dv_host.specs.Inner.Links.{pending_of, seen_by, unsent_of};
+ghost use Rattle.dv_host.specs.Inner.Moving.{Fills, Gives, SettlesIn};
 ghost use Rattle.dv_host.specs.Inner.Serving.{LinkMoves, opened_link};
 
 use crate::channel::{Channel, Taken, give_on};
@@ -35,7 +35,7 @@ impl<C: Channel> Link<C> {
             heard: 0,
             closing: None,
             unfinished: 0,
-            full: false,
+            filled: false,
         }
     }
 
@@ -46,7 +46,7 @@ impl<C: Channel> Link<C> {
         &mut self,
         sessions: &mut S,
         piece: &mut [u8],
-        full: bool,
+        over_budget: bool,
     ) -> Told
         requires { length piece.old ≡ 65536 }
         ensures moves { LinkMoves (PlaysBy (HappensBy S.opens S.feeds S.ends)) C.remaining C.contents sessions.old sessions.new self.old self.new }
@@ -57,7 +57,7 @@ impl<C: Channel> Link<C> {
         if told != Told::Again {
             return told;
         }
-        match self.fill(piece, full) {
+        match self.fill(piece, over_budget) {
             Err(told) => told,
             Ok(more) => {
                 self.hear(sessions);
@@ -67,7 +67,7 @@ impl<C: Channel> Link<C> {
         }
     }
 
-    // Gives what is unsent, and tells how the connection then stands: `more` where all is given and its session isn't closed.
+    /// Gives what is unsent, and tells how the connection then stands: `more` where all is given and its session isn't closed.
     fn settle(&mut self, more: Told) -> Told
         requires { (fate : _) → more ≡ Told.Over fate → ⊥ }
         ensures gives { Gives (seen_by C.remaining C.contents self.old) (seen_by C.remaining C.contents self.new) }
@@ -88,7 +88,7 @@ impl<C: Channel> Link<C> {
         }
     }
 
-    // Gives what is unsent, until all or none is taken, and answers whether the connection failed.
+    /// Gives what is unsent, until all or none is taken, and returns whether the connection failed.
     fn flush(&mut self) -> bool
         ensures { Gives (seen_by C.remaining C.contents self.old) (seen_by C.remaining C.contents self.new) }
     {
@@ -97,22 +97,22 @@ impl<C: Channel> Link<C> {
         given.failed
     }
 
-    // Whether all answers were taken.
+    /// Whether all answers were taken.
     fn is_given(&self) -> bool
         ensures { result ≡ true → unsent_of self.now ≡ [] }
     {
         self.sent == self.out.len()
     }
 
-    // Whether all bytes that came were fed.
+    /// Whether all bytes that came were fed.
     fn is_heard(&self) -> bool
         ensures { result ≡ true → pending_of self.now ≡ [] }
     {
         self.heard == self.rest.len()
     }
 
-    // Takes a piece where all is fed. Answers whether more may be there; or how the connection stands where nothing came.
-    fn fill(&mut self, piece: &mut [u8], full: bool) -> Result<bool, Told>
+    /// Takes a piece where all is fed. Answers whether more may be there; or how the connection stands where nothing came.
+    fn fill(&mut self, piece: &mut [u8], over_budget: bool) -> Result<bool, Told>
         requires room { length piece.old ≡ 65536 }
         requires given { unsent_of self.old ≡ [] }
         requires open { self.old.closing ≡ None }
@@ -122,7 +122,7 @@ impl<C: Channel> Link<C> {
         if !self.drop_heard() {
             return Ok(true);
         }
-        if full && self.unfinished > SHARE {
+        if over_budget && self.unfinished > SHARE {
             return Err(Told::Over(Fate::Full));
         }
         if !self.make_room(piece.len()) {
@@ -137,14 +137,14 @@ impl<C: Channel> Link<C> {
             }
             Ok(Taken::Bytes(count)) => {
                 self.keep(&piece[..count]);
-                let more = self.full;
-                self.full = count == piece.len();
-                Ok(more || self.full)
+                let more = self.filled;
+                self.filled = count == piece.len();
+                Ok(more || self.filled)
             }
         }
     }
 
-    // Makes room for so many bytes to come, and answers whether there is such.
+    /// Makes room for so many bytes to come, and returns whether there is such.
     fn make_room(&mut self, size: usize) -> bool
         ensures same { seen_by C.remaining C.contents self.new ≡ seen_by C.remaining C.contents self.old }
         ensures len { vec_len self.new.rest ≡ vec_len self.old.rest }
@@ -153,7 +153,7 @@ impl<C: Channel> Link<C> {
         self.rest.reserve(size).is_ok()
     }
 
-    // Puts bytes behind those that came.
+    /// Puts bytes behind those that came.
     fn keep(&mut self, bytes: &[u8])
         requires room { vec_len self.old.rest + length bytes.now ≤ vec_capacity self.old.rest }
         requires few { vec_len self.old.rest + length bytes.now ≤ 65536 }
@@ -163,7 +163,7 @@ impl<C: Channel> Link<C> {
         let _ = self.rest.extend_from_slice(bytes);
     }
 
-    // Drops the answers, which were all given.
+    /// Drops the answers, which were all given.
     fn drop_given(&mut self)
         requires { unsent_of self.old ≡ [] }
         ensures { seen_by C.remaining C.contents self.new ≡ seen_by C.remaining C.contents self.old }
@@ -173,7 +173,7 @@ impl<C: Channel> Link<C> {
         self.out.shrink_to(ROOM_KEPT);
     }
 
-    // Drops the bytes that were fed, and their room, where all were. Answers whether that was so.
+    /// Drops the bytes that were fed, and their room, where all were. Answers whether that was so.
     fn drop_heard(&mut self) -> bool
         ensures same { seen_by C.remaining C.contents self.new ≡ seen_by C.remaining C.contents self.old }
         ensures heard { result ≡ true → vec_len self.new.rest ≡ 0 }
@@ -187,7 +187,7 @@ impl<C: Channel> Link<C> {
         true
     }
 
-    // Feeds the bytes that came, message by message, until all are fed, the session is closed, or enough is to be given.
+    /// Feeds the bytes that came, message by message, until all are fed, the session is closed, or enough is to be given.
     fn hear<S: Sessions>(&mut self, sessions: &mut S)
         requires given { unsent_of self.old ≡ [] }
         ensures moves { LinkMoves (PlaysBy (HappensBy S.opens S.feeds S.ends)) C.remaining C.contents sessions.old sessions.new self.old self.new }
@@ -201,7 +201,7 @@ impl<C: Channel> Link<C> {
         self.unfinished = sessions.unfinished(self.session);
     }
 
-    // Whether some bytes are to be fed now.
+    /// Whether some bytes are to be fed now.
     fn has_more(&self) -> bool
         ensures some { result ≡ true → 0 < length (pending_of self.now) }
         ensures few { result ≡ true → length (unsent_of self.now) < 65536 }
@@ -211,7 +211,7 @@ impl<C: Channel> Link<C> {
             && self.out.len() - self.sent < ENOUGH
     }
 
-    // Feeds the bytes up to the end of the next message.
+    /// Feeds the bytes up to the end of the next message.
     fn hear_front<S: Sessions>(&mut self, sessions: &mut S)
         requires some { 0 < length (pending_of self.old) }
         requires few { length (unsent_of self.old) < 65536 }
@@ -226,7 +226,7 @@ impl<C: Channel> Link<C> {
         self.closing = closing_by(fed, self.closing);
     }
 
-    // What is told where all is given, of a connection that may have more bytes or none.
+    /// What is told where all is given, of a connection that may have more bytes or none.
     fn told_next(&self, more: bool) -> Told
         ensures { (fate : _) → result ≡ Told.Over fate → ⊥ }
     {
@@ -238,7 +238,7 @@ impl<C: Channel> Link<C> {
     }
 }
 
-// The fault that closed a session, behind a piece of which this is told.
+/// The fault that closed a session, behind a piece of which this is told.
 fn closing_by(fed: Fed, before: Option<u8>) -> Option<u8>
     ensures { result ≡ closed_by fed before }
 {

@@ -1,5 +1,5 @@
 -- Lists of indexes that change, and an index that is built of all documents.
-use Rattle.std.proofs.Common.{◌≡◌, ◌∙◌, ◌++◌, ℕ, List, [], ◌∷◌, length, is_some, map, take, refl, ap, sym, subst, Bool, true, false, cond, not, ◌||◌, ◌&&◌, filter, Option, None, Some}
+use Rattle.std.proofs.Common.{◌≡◌, ◌∙◌, ◌++◌, ℕ, List, [], ◌∷◌, length, is_some, map, refl, ap, sym, subst, Bool, true, false, cond, not, ◌||◌, ◌&&◌, filter, Option, None, Some}
 use Rattle.std.specs.List.{AllByRecursion, list_any}
 use Rattle.std.proofs.lemmas.List.{length-map}
 use Rattle.std.specs.Option.{option_map}
@@ -22,24 +22,6 @@ use Rattle.dv_path.specs.LeafKeys.{is_leaf_key}
 use Rattle.dv_keyed.specs.Inner.Pairs.{Pair, has_pair}
 use Rattle.dv_index.specs.Inner.Search.{IsIndexOf, is_key_under}
 use Rattle.dv_index.proofs.Picked.{Before, head-before, tail-ascends}
-
--- ---- lists of indexes
-pub alone : (xs : List IndexTree) (f : IndexForm) (ds : List (List Field)) → map form_of xs ≡ f ∷ [] → AreIndexesOf xs ds
-alone [] f ds e = tt
-alone (x ∷ []) f ds e = tt
-alone (x ∷ y ∷ ys) f ds e = absurd cc
-
-all-more : (P : IndexTree → Type 0) (xs ys : List IndexTree) → AllByRecursion P xs → AllByRecursion P ys → AllByRecursion P (xs ++ ys)
-all-more P [] ys h p = p
-all-more P (x ∷ xs) ys h p = (h.0, all-more P xs ys h.1 p)
-
-pub indexes-more : (xs ys : List IndexTree) (ds : List (List Field)) → BeginsWithId xs → AreIndexesOf xs ds → AllByRecursion (λ y. IsIndexOf y ds) ys → AreIndexesOf (xs ++ ys) ds
-indexes-more [] ys ds b h p = absurd b
-indexes-more (x ∷ xs) ys ds b h p = all-more (λ z. IsIndexOf z ds) xs ys h p
-
-pub still-begins : (xs ys : List IndexTree) → BeginsWithId xs → BeginsWithId (xs ++ ys)
-still-begins [] ys b = absurd b
-still-begins (x ∷ xs) ys b = b
 
 module _ (name : List ℕ) where
   stays : IndexTree → Bool
@@ -89,14 +71,6 @@ module _ (name : List ℕ) where
         at : (b : Bool) → bytes_eq x.name name ≡ b → b || list_any (λ y. bytes_eq y.name name) xs ≡ false → (list_any (λ y. bytes_eq y.name name) xs ≡ false → with-last xs ≡ xs) → with-last (x ∷ xs) ≡ x ∷ xs
         at true e f rest = absurd cc
         at false e f rest = ap (λ b. cond (not (b && not (bytes_eq x.name id_form.name))) (x ∷ with-last xs) (with-last xs)) e ∙ ap (λ ys. x ∷ ys) (rest f)
-
-pub first-begins : (xs : List IndexTree) → BeginsWithId xs → BeginsWithId (take 1 xs)
-first-begins [] b = absurd b
-first-begins (x ∷ xs) b = b
-
-pub first-alone : (xs : List IndexTree) → BeginsWithId xs → map form_of (take 1 xs) ≡ id_form ∷ []
-first-alone [] b = absurd b
-first-alone (x ∷ xs) b = ap (λ f. f ∷ []) b
 
 pub none_dropped : (xs : List IndexForm) → without_index id_form.name xs ≡ xs
 none_dropped [] = refl

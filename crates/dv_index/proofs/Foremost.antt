@@ -14,7 +14,7 @@ use Rattle.dv_order.specs.Inner.KeyLaws.{key_order_total}
 use Rattle.dv_path.specs.declared.direction.Direction.{Direction}
 use Rattle.dv_candidates.specs.Candidates.{Candidate, leaves, or_null, whole, with_elements}
 use Rattle.dv_path.specs.LeafKeys.{is_key_of, is_leaf_key, is_some_key, leaf_values}
-use Rattle.dv_path.specs.SortKey.{earliest, keys_of, sort_key, stands_first}
+use Rattle.dv_path.specs.SortKey.{earliest, sort_keys_of, sort_key, stands_first}
 use Rattle.dv_coll.specs.Collection.{IsAscending, found, id_key}
 use Rattle.dv_keyed.specs.declared.before.Bar.{Bar}
 use Rattle.dv_keyed.specs.Inner.Ahead.{leaf_sorted_by, stands_ahead}
@@ -70,7 +70,7 @@ as-found : (vs : List Tree) → map or_null (map Some vs) ≡ vs
 as-found [] = refl
 as-found (v ∷ vs) = ap (λ ws. v ∷ ws) (as-found vs)
 
-of-one : (c : Candidate) → AllByRecursion (IsLeaf (map or_null (with_elements c))) (keys_of c)
+of-one : (c : Candidate) → AllByRecursion (IsLeaf (map or_null (with_elements c))) (sort_keys_of c)
 of-one None = ((null, refl, only null), tt)
 of-one (Some (array no_elements)) = ((array no_elements, refl, only (array no_elements)), tt)
 of-one (Some (array (element v vs))) =
@@ -79,27 +79,27 @@ of-one (Some (array (element v vs))) =
     of-each (whole-array ∷ elements) (v ∷ list_of_elements vs) (λ k e. or_right (is_key_of k whole-array) (is_some_key k elements) (ap (is_some_key k) (as-found (v ∷ list_of_elements vs)) ∙ e))
 of-one (Some v) = ((v, refl, only v), tt)
 
-of-all : (cs : List Candidate) → AllByRecursion (IsLeaf (map or_null (flat_map with_elements cs))) (flat_map keys_of cs)
+of-all : (cs : List Candidate) → AllByRecursion (IsLeaf (map or_null (flat_map with_elements cs))) (flat_map sort_keys_of cs)
 of-all [] = tt
 of-all (c ∷ cs) =
     let first = map or_null (with_elements c) in
     let others = map or_null (flat_map with_elements cs) in
     let all = map or_null (with_elements c ++ flat_map with_elements cs) in
     let joined : (k : KeyTree) → is_some_key k all ≡ is_some_key k first || is_some_key k others = λ k. ap (is_some_key k) (map-append or_null (with_elements c) (flat_map with_elements cs)) ∙ list_any-append (is_key_of k) first others in
-    all-joined (IsLeaf all) (keys_of c) (flat_map keys_of cs)
-    (all-weaker (IsLeaf first) (IsLeaf all) (leaf-among first all (λ k e. joined k ∙ or_left (is_some_key k first) (is_some_key k others) e)) (keys_of c) (of-one c))
-    (all-weaker (IsLeaf others) (IsLeaf all) (leaf-among others all (λ k e. joined k ∙ or_right (is_some_key k first) (is_some_key k others) e)) (flat_map keys_of cs) (of-all cs))
+    all-joined (IsLeaf all) (sort_keys_of c) (flat_map sort_keys_of cs)
+    (all-weaker (IsLeaf first) (IsLeaf all) (leaf-among first all (λ k e. joined k ∙ or_left (is_some_key k first) (is_some_key k others) e)) (sort_keys_of c) (of-one c))
+    (all-weaker (IsLeaf others) (IsLeaf all) (leaf-among others all (λ k e. joined k ∙ or_right (is_some_key k first) (is_some_key k others) e)) (flat_map sort_keys_of cs) (of-all cs))
 
 -- each candidate gives a key
-gives-some : (c : Candidate) (rest : List KeyTree) → keys_of c ++ rest ≡ [] → ⊥
+gives-some : (c : Candidate) (rest : List KeyTree) → sort_keys_of c ++ rest ≡ [] → ⊥
 gives-some None rest e = absurd cc
 gives-some (Some (array no_elements)) rest e = absurd cc
 gives-some (Some (array (element v vs))) rest e = absurd cc
 gives-some (Some v) rest e = absurd cc
 
-none-given : (cs : List Candidate) → flat_map keys_of cs ≡ [] → cs ≡ []
+none-given : (cs : List Candidate) → flat_map sort_keys_of cs ≡ [] → cs ≡ []
 none-given [] e = refl
-none-given (c ∷ cs) e = absurd (gives-some c (flat_map keys_of cs) e)
+none-given (c ∷ cs) e = absurd (gives-some c (flat_map sort_keys_of cs) e)
 
 earliest-has : (P : KeyTree → Type 0) (direction : Direction) (ks : List KeyTree) → (ks ≡ [] → ⊥) → AllByRecursion P ks → P (earliest direction ks)
 earliest-has P direction [] some all = absurd (some refl)
@@ -110,7 +110,7 @@ leaf-sorted : (d : List Field) (path : List (List ℕ)) (direction : Direction) 
 unfolding sort_key leaves leaf_values is_leaf_key
 leaf-sorted d path direction some =
     let cs = whole d path in
-    earliest-has (IsLeaf (map or_null (flat_map with_elements cs))) direction (flat_map keys_of cs) (λ e. some (none-given cs e)) (of-all cs)
+    earliest-has (IsLeaf (map or_null (flat_map with_elements cs))) direction (flat_map sort_keys_of cs) (λ e. some (none-given cs e)) (of-all cs)
 
 -- ---- so the `_id`s that stand beside the keys ahead of a bar are those of all documents that the path sorts ahead of it
 -- what passes one test and another passes both
@@ -156,7 +156,7 @@ no-leaf l path d nowhere = ap (λ cs. is_some_key l (map or_null (flat_map with_
 
 sorted-as-null : (d : List Field) (path : List (List ℕ)) (direction : Direction) → whole d path ≡ [] → sort_key d path direction ≡ value (canon null)
 unfolding sort_key
-sorted-as-null d path direction nowhere = ap (λ cs. earliest direction (flat_map keys_of cs)) nowhere
+sorted-as-null d path direction nowhere = ap (λ cs. earliest direction (flat_map sort_keys_of cs)) nowhere
 
 pub leads-behind : OnlyKeysAreWithin → (ms : Members) (path : List (List ℕ)) (direction : Direction) (bar : Bar) → (is_in_all (value (canon null)) path ms ≡ true → (i : KeyTree) → stands_ahead direction bar (value (canon null)) i ≡ false) → LeadsSomewhere ms (path, direction) bar
 leads-behind law ms path direction bar never d match ahead nowhere =

@@ -9,9 +9,8 @@ use Rattle.dv_value.specs.Tree.{Field}
 use Rattle.dv_order.specs.Key.{KeyTree, key_order}
 use Rattle.dv_path.specs.LeafKeys.{is_leaf_key}
 use Rattle.dv_coll.specs.Collection.{AreStanding, HasId, IsAscending, found, id_key, replaced}
-use Rattle.dv_index.specs.Inner.Change.{AreIndexesOf, UniqueAreIndexesOf}
 use Rattle.dv_keyed.specs.Index.{IndexForm}
-use Rattle.dv_keyed.specs.Inner.Index.{BeginsWithId, IndexTree, form_of}
+use Rattle.dv_keyed.specs.Inner.Index.{IndexTree, form_of}
 use Rattle.dv_keyed.specs.Inner.Keys.{has_key}
 use Rattle.dv_keyed.specs.Inner.Pairs.{Pair, has_pair, is_pair_of, is_under_another, pairs_without}
 use Rattle.dv_keyed.specs.Inner.PairLaws.{none-gone}
@@ -38,15 +37,6 @@ none-clashes (a ∷ es) ds = none-clashes es (replaced a ds)
 pub not-unique : (x : IndexForm) (es ds : List (List Field)) → x.unique ≡ false → replacing_clashes (x ∷ []) es ds ≡ false
 not-unique x [] ds e = refl
 not-unique x (a ∷ es) ds e = ap (λ u. ((u && is_key_taken x.path a ds) || false) || replacing_clashes (x ∷ []) es (replaced a ds)) e ∙ not-unique x es (replaced a ds) e
-
--- ---- those that are unique have the keys of the documents; the one on `_id` isn't
-behind-first : (xs : List IndexTree) (ds : List (List Field)) → AllByRecursion (λ y. IsIndexOf y ds) xs → UniqueAreIndexesOf xs ds
-behind-first [] ds h = tt
-behind-first (x ∷ xs) ds h = (λ e. h.0, behind-first xs ds h.1)
-
-pub unique-indexed : (xs : List IndexTree) (ds : List (List Field)) → BeginsWithId xs → AreIndexesOf xs ds → UniqueAreIndexesOf xs ds
-unique-indexed [] ds begins h = tt
-unique-indexed (x ∷ xs) ds begins h = ((λ e. let no : false ≡ true = sym (ap (λ (f : IndexForm). f.unique) begins) ∙ e in absurd cc), behind-first xs ds h)
 
 -- ---- what dv_coll's laws say of a document that comes in place of another
 abbrev pub ReplacedAscend : Type 0
@@ -182,7 +172,3 @@ module _ (form : IndexForm) (unique : form.unique ≡ true) (held gone come : Li
           still-apart b bs turn.standing.1 come turn.apart (has_key k new && not (has_key k old)) k i
           (ap (λ c. has_pair k i come || c) (swapped (is_eq (key_order i (id_key b))) (has_key k new && not (has_key k old)) ∙ ap (λ l. (has_key k new && not (has_key k old)) && is_eq (key_order i l)) (sym (is-id ∙ same-id))) ∙ sym (gained k i) ∙ there);
     }
-
--- after the last
-pub at-last : (form : IndexForm) (held gone come : List Pair) (bs es : List (List Field)) (all : Bool) → InTurn form held gone come bs es all → es ≡ [] → false ≡ all
-at-last form held gone come bs es all turn none = sym (ap (λ xs. replacing_clashes (form ∷ []) xs turn.now) none) ∙ turn.left

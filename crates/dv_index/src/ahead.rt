@@ -90,8 +90,8 @@ fn first_on<'i>(indexes: &'i [Index], path: &Path) -> Option<&'i Index>
 }
 
 /// Whether the path leads to something in each document that matches the filter and that it sorts ahead of the bar. Where it
-/// leads nowhere, a document has no key, and is sorted as null: only a path of several components does that, as through an
-/// empty array. Fails where memory is wanting.
+/// leads nowhere, a document has no key, and is sorted as null: only a path of several components does that, as through an empty
+/// array. Fails when memory runs out.
 pub(crate) fn leads_somewhere(
     alloc: Global,
     filter: &Filter,
@@ -109,7 +109,7 @@ pub(crate) fn leads_somewhere(
 }
 
 /// The documents among which are all that match the filter and that the path sorts ahead of the bar, in the order of their
-/// `_id`s, by the index on it, unless there are more than `most`. Fails where memory is wanting.
+/// `_id`s, by the index on it, unless there are more than `most`. Fails when memory runs out.
 pub(crate) fn candidates_ahead<'c>(
     alloc: Global,
     index: &Index,

@@ -28,9 +28,9 @@ pub(crate) enum Change<'k> {
     Remove(&'k Key),
 }
 
-/// Changes one document, and with it the indexes: first the keys that it gains are added to one index after the other,
-/// then the document is changed, which takes out of the indexes the keys that it has lost. Refused as the change of the
-/// document is, and where memory is wanting; then what was added is taken out again, and nothing is changed.
+/// Changes one document, and with it the indexes: first the keys that it gains are added to one index after the other, then the
+/// document is changed, which takes out of the indexes the keys that it has lost. Refused as the change of the document is, and
+/// when memory runs out; then what was added is taken out again, and nothing is changed.
 pub(crate) fn carry_out(
     alloc: Global,
     indexes: &mut [Index],
@@ -91,7 +91,7 @@ fn change_document(documents: &mut Collection, change: Change<'_>) -> Result<(),
     Ok(())
 }
 
-/// The keys that the change moves. Fails where memory is wanting.
+/// The keys that the change moves. Fails when memory runs out.
 fn keys_moved(
     alloc: Global,
     path: &Path,
@@ -109,7 +109,7 @@ fn keys_moved(
     Ok(Moved { id, old, new })
 }
 
-/// The keys of a document, where there is one. Fails where memory is wanting.
+/// The keys of a document, where there is one. Fails when memory runs out.
 fn keys_under(alloc: Global, path: &Path, document: Option<&Document>) -> Result<Keys, NoMemory>
     ensures { IfOk result (λ keys. (k : KeyTree) → has_key k keys ≡ is_key_under k path.now (option_map (λ d. d.now) document.entry)) }
 {
@@ -129,7 +129,7 @@ fn after<'c>(change: &'c Change<'_>) -> Option<&'c Document>
     }
 }
 
-/// The key of the `_id` of the document that is changed. Fails where memory is wanting.
+/// The key of the `_id` of the document that is changed. Fails when memory runs out.
 fn id_of(change: &Change<'_>) -> Result<Key, NoMemory>
     requires { HasIdFirst change.now }
     ensures { IfOk result (λ id. id ≡ changed_id change.now) }

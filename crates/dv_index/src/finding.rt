@@ -20,7 +20,7 @@ use dv_value::{Document, NoMemory};
 
 /// Of so many documents not more than one is looked up where the order of an index serves: that costs about as much as going
 /// through them.
-const FEW: usize = 16;
+const DOCUMENTS_PER_LOOKUP: usize = 16;
 
 impl IndexedCollection {
     /// The documents that match the filter, in the order of their `_id`s, whatever indexes there are. Fails with `NoMemory` when
@@ -108,7 +108,7 @@ impl IndexedCollection {
         let Some(index) = index_in_order(&self.indexes, &plan, &by.path) else {
             return Ok(None);
         };
-        let most = self.documents.len() / FEW;
+        let most = self.documents.len() / DOCUMENTS_PER_LOOKUP;
         let Some(bar) = bar_behind(alloc, index, filter, by.direction, ties, least, most)? else {
             return Ok(None);
         };

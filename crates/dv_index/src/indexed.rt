@@ -304,7 +304,7 @@ impl IndexedCollection {
         })
     }
 
-    /// Changes a document that is no new one, and with it the indexes. Fails where memory is wanting; then nothing is changed.
+    /// Changes a document that is no new one, and with it the indexes. Fails when memory runs out; then nothing is changed.
     fn change(&mut self, change: Change<'_>) -> Result<(), NoMemory>
         requires possible { IsChangeOf change self.old.documents }
         requires known { IsTaken change self.old.documents → ⊥ }

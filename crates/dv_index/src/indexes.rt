@@ -53,7 +53,7 @@ impl Indexes {
     }
 
     /// The index at a place in creation order, counted from 0, if there is one.
-    pub fn get(&self, place: usize) -> Option<&Index>
+    pub(crate) fn get(&self, place: usize) -> Option<&Index>
         ensures index { option_copied result ≡ slice_get self.now place }
         ensures id_first { BeginsWithId self.now }
     {
@@ -69,21 +69,21 @@ impl Indexes {
     }
 
     /// The path of the first one, which is `_id`. Takes no memory.
-    pub(crate) fn id_path(&self) -> &Path
+    pub fn id_path(&self) -> &Path
         ensures { result.now ≡ id_form.path }
     {
         id_path_in(self.indexes.as_slice())
     }
 
     /// Whether one of them is unique. Takes no memory.
-    pub fn has_unique(&self) -> bool
+    pub(crate) fn has_unique(&self) -> bool
         ensures { result ≡ list_any (λ x. x.unique) (map form_of self.now) }
     {
         has_unique(self.indexes.as_slice())
     }
 
     /// Whether the path of one of them, except for the one on `_id`, begins with the name. Takes no memory.
-    pub fn have_path_through(&self, name: &str) -> bool
+    pub(crate) fn have_path_through(&self, name: &str) -> bool
         ensures { result ≡ any_leads_through name.now (map form_of self.now) }
     {
         match self.indexes.as_slice().split_first() {
@@ -93,7 +93,7 @@ impl Indexes {
     }
 
     /// Puts indexes after the others. If memory runs out, nothing changes, and they are dropped.
-    pub fn append(&mut self, mut more: Vec<Index>) -> Result<(), NoMemory>
+    pub(crate) fn append(&mut self, mut more: Vec<Index>) -> Result<(), NoMemory>
         ensures ok { OnOk result (self.new ≡ self.old ++ more.items) }
         ensures err { OnErr result (self.new ≡ self.old) }
         ensures id_first { BeginsWithId self.old }
@@ -102,7 +102,7 @@ impl Indexes {
     }
 
     /// Takes out the indexes of a name, but never the one on `_id`, and returns whether there is one. Takes no memory.
-    pub fn remove(&mut self, name: &str) -> bool
+    pub(crate) fn remove(&mut self, name: &str) -> bool
         ensures found { result ≡ list_any (is_dropped name.now) (map form_of self.old) }
         ensures indexes { self.new ≡ filter (λ x. not (is_dropped name.now (form_of x))) self.old }
         ensures id_first { BeginsWithId self.old }
@@ -113,14 +113,14 @@ impl Indexes {
     }
 
     /// Takes out all indexes but the one on `_id`. Takes no memory.
-    pub fn clear(&mut self)
+    pub(crate) fn clear(&mut self)
         ensures { map form_of self.new ≡ id_form ∷ [] }
     {
         self.indexes.truncate(1);
     }
 
-    /// Changes one document, and with it the indexes. Refused as the change of the document is, and where memory is
-    /// wanting; then nothing is changed.
+    /// Changes one document, and with it the indexes. Refused as the change of the document is, and when memory runs out; then
+    /// nothing is changed.
     pub(crate) fn change(
         &mut self,
         alloc: Global,
@@ -176,7 +176,7 @@ fn id_path_in(indexes: &[Index]) -> &Path
     by_id.path()
 }
 
-/// The path `_id`. Fails where memory is wanting.
+/// The path `_id`. Fails when memory runs out.
 #[tactic(auto, unfolding(dv_candidates::specs::Path::path_of))]
 fn id_path(alloc: Global) -> Result<Path, NoMemory>
     ensures { IfOk result (λ path. path ≡ id_form.path) }

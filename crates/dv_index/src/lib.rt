@@ -20,5 +20,5 @@ pub use dv_keyed::{
 };
 pub use indexed::{Explanation, IndexedCollection};
 pub use indexes::Indexes;
-pub use search::run;
+pub use search::{all_matching, run};
 pub use unique::Replacing;

@@ -19,7 +19,7 @@ use dv_value::Document;
 use std::alloc::Global;
 
 /// Indexes over all documents, in the order in which they are wanted. Refused with `Duplicate` where one is unique and two
-/// documents share a key under its path, and with `NoMemory` where memory is wanting.
+/// documents share a key under its path, and with `NoMemory` when memory runs out.
 pub(crate) fn indexes_over(
     alloc: Global,
     wanted: Vec<NewIndex>,
@@ -49,8 +49,8 @@ fn index_over(alloc: Global, wanted: NewIndex, documents: &Collection) -> Result
     Ok(Index::of(name, path, unique, pairs))
 }
 
-/// The pairs of the keys of all documents under a path, each with its document's `_id`. Refused with `Duplicate` where they
-/// are those of a unique index and two documents share a key, and with `NoMemory` where memory is wanting.
+/// The pairs of the keys of all documents under a path, each with its document's `_id`. Refused with `Duplicate` where they are
+/// those of a unique index and two documents share a key, and with `NoMemory` when memory runs out.
 fn pairs_of(
     alloc: Global,
     path: &Path,
@@ -69,8 +69,8 @@ fn pairs_of(
 }
 
 /// Adds the pairs of the keys of a document that has none yet. Refused with `Duplicate` where the pairs are those of a unique
-/// index and one of the keys stands under another `_id`, and with `NoMemory` where memory is wanting; then the pairs are
-/// those that there were.
+/// index and one of the keys stands under another `_id`, and with `NoMemory` when memory runs out; then the pairs are those that
+/// there were.
 fn add_keys(
     alloc: Global,
     pairs: &mut MultiIndex,

@@ -166,11 +166,8 @@ fn first(mut documents: Vec<&Document>, most: usize) -> Vec<&Document>
     documents
 }
 
-/// Those of the documents that match the filter.
-pub(crate) fn all_matching<'c>(
-    mut documents: Vec<&'c Document>,
-    filter: &Filter,
-) -> Vec<&'c Document>
+/// Those of the documents that match the filter. Takes no memory.
+pub fn all_matching<'c>(mut documents: Vec<&'c Document>, filter: &Filter) -> Vec<&'c Document>
     ensures { result.items ≡ kept (λ d. matches filter.now d.now) documents.entry.items }
 {
     documents.retain(|document| filter.matches(document));
@@ -217,7 +214,7 @@ fn tried<'c>(
     }
 }
 
-/// The same of an index that has pairs.
+/// What `tried` finds by an index that has pairs.
 fn tried_by_key<'c>(
     alloc: Global,
     index: &Index,
@@ -329,7 +326,7 @@ fn documents_between(
     collection.between(low, high).collect(alloc)
 }
 
-/// The same of an index that has pairs.
+/// What `candidates` finds by an index that has pairs.
 fn candidates_by_key<'c>(
     alloc: Global,
     index: &Index,

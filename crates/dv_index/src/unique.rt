@@ -26,7 +26,7 @@ pub struct Replacing<'d> {
 }
 
 /// Whether the document can't stand among the documents, since another `_id` than its own has one of its keys in one of the
-/// indexes that is unique. Fails where memory is wanting.
+/// indexes that is unique. Fails when memory runs out.
 pub(crate) fn clashes(
     alloc: Global,
     indexes: &[Index],
@@ -66,8 +66,8 @@ fn clashes_in(
     Ok(index.pairs().clash(&keys, &id))
 }
 
-/// Whether one of the documents that come can't stand among the documents, each put in place of the one that it replaces,
-/// one after the other. Fails where memory is wanting for the keys that come and go.
+/// Whether one of the documents that come can't stand among the documents, each put in place of the one that it replaces, one
+/// after the other. Fails when memory runs out for the keys that come and go.
 pub(crate) fn replacing_clashes(
     alloc: Global,
     indexes: &[Index],
@@ -138,7 +138,7 @@ fn clash_in_turn(
     Ok(false)
 }
 
-/// The keys under a path of the document that is there, and of the one that comes. Fails where memory is wanting.
+/// The keys under a path of the document that is there, and of the one that comes. Fails when memory runs out.
 fn keys_moved(alloc: Global, path: &Path, replacing: &Replacing<'_>) -> Result<Moved, NoMemory>
     requires { HasId replacing.now.after.now }
     ensures id { IfOk result (λ moved. moved.id ≡ id_key replacing.now.after.now) }

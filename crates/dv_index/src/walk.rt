@@ -33,8 +33,8 @@ pub(crate) fn is_range(bounds: &Bounds<'_>) -> bool {
     }
 }
 
-/// The first documents that match the filter, in a direction of their `_id`s, and not more than `most`. Those are looked at
-/// whose `_id`s are in all ranges that the filter sets, up to the last of these. Fails where memory is wanting.
+/// The first documents that match the filter, in a direction of their `_id`s, and not more than `most`. Those are looked at whose
+/// `_id`s are in all ranges that the filter sets, up to the last of these. Fails when memory runs out.
 pub(crate) fn walked<'c>(
     alloc: Global,
     filter: &Filter,

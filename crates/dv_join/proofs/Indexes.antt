@@ -21,7 +21,7 @@ use Rattle.dv_change.specs.declared.change.Change.{Change}
 use Rattle.dv_change.specs.Changes.{Positioned, at, with_change}
 use Rattle.dv_change.specs.Inner.Changes.{IsExactChange, IsPositioned, position_changed, row_in}
 use Rattle.dv_change.specs.Positions.{PosTree}
-use Rattle.dv_join.specs.declared.index.Index.{Index}
+use Rattle.dv_join.specs.declared.index.RowsByKey.{RowsByKey}
 use Rattle.dv_join.specs.Inner.Indexed.{IsJoinIndexOf, has_any, moved_in_index, under}
 use Rattle.dv_join.specs.Inner.Listed.{with_each_row}
 use Rattle.dv_join.specs.Inner.Turning.{if_any}
@@ -56,7 +56,7 @@ exchanged-under goes comes old between new false true went came = came ∙ ap co
 exchanged-under goes comes old between new false false went came = came ∙ went
 
 -- under equal keys stands the same
-pub under-like : (k l : KeyTree) (index : Index) → is_eq (key_order k l) ≡ true → under k index ≡ under l index
+pub under-like : (k l : KeyTree) (index : RowsByKey) → is_eq (key_order k l) ≡ true → under k index ≡ under l index
 under-like k l index same = ap (λ o. unwrap_or o []) (there index.under.entries)
   where
     there : (es : List (KeyTree × Positioned)) → lookup (is_at (key_order k)) es ≡ lookup (is_at (key_order l)) es
@@ -94,13 +94,13 @@ set-some f true old own taken new like e put = put ∙ sym (ap f (like refl))
 set-some f false old own taken new like e put = put ∙ e
 
 -- a tree that is built of entries in their order has the same under each key
-pub under-packed : (old new : Index) → IsStrictlySortedBy key_order (keys_of old.under.entries) → IsFromIterResult key_order old.under.entries new.under → (k : KeyTree) → under k new ≡ under k old
+pub under-packed : (old new : RowsByKey) → IsStrictlySortedBy key_order (keys_of old.under.entries) → IsFromIterResult key_order old.under.entries new.under → (k : KeyTree) → under k new ≡ under k old
 under-packed old new sorted made k =
     ap (λ o. unwrap_or o []) (made.0 k ∙ update_all_none (eq_by_cmp_equiv key_order_total) (eq_by_cmp key_order) (λ x y. refl) old.under.entries k (IsDistinct-from_sorted key_order (keys_of old.under.entries) sorted))
 
 -- ---- a change
 
-pub index-changed : (has : KeyTree → List Field → Bool) (rows : Positioned) (change : Change) (before after : Index) (pos : PosTree) (old new : Option (List Field)) (had now : KeyTree → Bool)
+pub index-changed : (has : KeyTree → List Field → Bool) (rows : Positioned) (change : Change) (before after : RowsByKey) (pos : PosTree) (old new : Option (List Field)) (had now : KeyTree → Bool)
     → IsPositioned rows → IsExactChange change → pos ≡ position_changed change → old ≡ at (position_changed change) rows → new ≡ row_in change
     → ((k : KeyTree) → had k ≡ if_any (has k) old) → ((k : KeyTree) → now k ≡ if_any (has k) new)
     → ((k : KeyTree) → under k after ≡ moved_in_index pos (had k) new (now k) (under k before))
@@ -157,5 +157,5 @@ module _ (has : KeyTree → List Field → Bool) (rows : Positioned) where
   pub having-none : (ks : List KeyTree) → ks ≡ [] → [] ≡ filter (λ e. has_any has ks e.1) rows
   having-none ks none = none-passing rows ∙ ap (λ ms. filter (λ e. has_any has ms e.1) rows) (sym none)
 
-  pub having-one : (ks : List KeyTree) (k : KeyTree) (index : Index) → IsJoinIndexOf has rows index → ks ≡ k ∷ [] → under k index ≡ filter (λ e. has_any has ks e.1) rows
+  pub having-one : (ks : List KeyTree) (k : KeyTree) (index : RowsByKey) → IsJoinIndexOf has rows index → ks ≡ k ∷ [] → under k index ≡ filter (λ e. has_any has ks e.1) rows
   having-one ks k index is one = is k ∙ filter_agree (λ e. has k e.1) (λ e. has k e.1 || false) (λ e. or-false (has k e.1)) rows ∙ ap (λ ms. filter (λ e. has_any has ms e.1) rows) (sym one)

@@ -13,7 +13,7 @@ use Rattle.dv_order.specs.Inner.KeyLaws.{key_order_total}
 use Rattle.dv_order.specs.Inner.SameOrder.{order_of_canon}
 use Rattle.dv_path.specs.LeafKeys.{is_key_of, is_some_key, leaf_values}
 use Rattle.dv_gather.specs.declared.lookup.Lookup.{Lookup}
-use Rattle.dv_gather.specs.Joining.{as_value, is_equal_to_one, is_joined, joined_by, matches}
+use Rattle.dv_gather.specs.Joining.{as_value, is_equal_to_one, is_joined, joined_by, joined_with}
 use Rattle.dv_gather.specs.Lookups.{joined_row, set_field}
 use Rattle.dv_gather.specs.Inner.KeyLaws.{alike, any-same}
 use Rattle.dv_change.specs.Changes.{Positioned, forget}
@@ -110,7 +110,7 @@ same-joined l d some others same =
     ap (λ fs. set_field l.target (array (elements_of (map as_value fs))) d) (sym (forget-filter test some) ∙ ap forget same ∙ forget-filter test others)
 
 -- what is found by the keys of a row is what it is joined with
-pub found-joined : (l : Lookup) (d : List Field) (documents : Positioned) (keys : List KeyTree) → ((k : KeyTree) → is_one_of keys k ≡ has_local l k d) → map as_value (forget (filter (λ e. has_any (has_foreign l) keys e.1) documents)) ≡ map as_value (matches l.local l.foreign (forget documents) d)
+pub found-joined : (l : Lookup) (d : List Field) (documents : Positioned) (keys : List KeyTree) → ((k : KeyTree) → is_one_of keys k ≡ has_local l k d) → map as_value (forget (filter (λ e. has_any (has_foreign l) keys e.1) documents)) ≡ map as_value (joined_with l.local l.foreign (forget documents) d)
 found-joined l d documents keys own =
     ap (λ es. map as_value (forget es)) (filter_agree (λ e. has_any (has_foreign l) keys e.1) (λ e. is_joined l.local l.foreign d e.1) (λ e. found-by-local l d e.1 keys own) documents)
     ∙ ap (map as_value) (forget-filter (is_joined l.local l.foreign d) documents)

@@ -19,24 +19,24 @@ use std::mem::replace;
 
 /// Rows by keys: under each key those that have it, in the order of their positions.
 #[derive(Drop)]
-pub(crate) struct Index {
+pub(crate) struct RowsByKey {
     alloc: Global,
     under: BTreeMap<Key, Ordered<Document>>,
 }
 
-impl Index {
+impl RowsByKey {
     /// No rows, which take no memory.
     pub(crate) fn new(alloc: Global) -> Self
         ensures { (k : KeyTree) → under k result ≡ [] }
     {
-        Index {
+        RowsByKey {
             alloc,
             under: BTreeMap::new(alloc),
         }
     }
 
     /// Takes out the row at the position, which has the first keys, and puts another one there, which has the second. Under a key
-    /// that both have, the one comes in place of the other. Fails where memory is wanting.
+    /// that both have, the one comes in place of the other. Fails when memory runs out.
     pub(crate) fn exchange(
         &mut self,
         pos: &Pos,
@@ -107,7 +107,7 @@ impl Index {
     }
 
     /// Stores the rows in as few nodes of a tree as hold them: keys that came in ascending order left each node half empty. Fails
-    /// where memory is wanting.
+    /// when memory runs out.
     pub(crate) fn pack(&mut self) -> Result<(), NoMemory>
         ensures { OnOk result ((k : KeyTree) → under k self.new ≡ under k self.old) }
     {
@@ -116,7 +116,7 @@ impl Index {
         Ok(())
     }
 
-    /// The rows that have any of the keys or of the others. Fails where memory is wanting.
+    /// The rows that have any of the keys or of the others. Fails when memory runs out.
     pub(crate) fn rows_under(
         &self,
         keys: &BTreeSet<Key>,
@@ -134,7 +134,7 @@ impl Index {
         Ok(found)
     }
 
-    /// The rows that have any of the keys, as values in the order of their positions. Fails where memory is wanting.
+    /// The rows that have any of the keys, as values in the order of their positions. Fails when memory runs out.
     pub(crate) fn values_under(&self, keys: &BTreeSet<Key>) -> Result<List, NoMemory>
         ensures { IfOk result (λ values. AreValuesUnder self.now keys.now.keys values) }
     {
@@ -152,7 +152,7 @@ impl Index {
     }
 }
 
-/// The rows by keys in a tree that is built of all of them at once. Fails where memory is wanting.
+/// The rows by keys in a tree that is built of all of them at once. Fails when memory runs out.
 fn built_anew(
     alloc: Global,
     under: BTreeMap<Key, Ordered<Document>>,

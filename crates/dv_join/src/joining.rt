@@ -7,7 +7,7 @@ ghost use Rattle.dv_gather.specs.Joining.{as_value};
 ghost use Rattle.dv_join.specs.Inner.Joined.{AddsJoined, AreJoined, IsCopyJoined};
 ghost use Rattle.dv_join.specs.Inner.Listed as listed;
 
-use crate::index::Index;
+use crate::index::RowsByKey;
 use dv_change::{Ordered, Pos};
 use dv_gather::Lookup;
 use dv_order::Key;
@@ -15,12 +15,13 @@ use dv_value::{Document, List, NoMemory, Value};
 use std::alloc::Global;
 use std::collections::BTreeSet;
 
-/// Each of the rows with the documents that it is joined with, which are found in the index. Copied are these rows, or what was made
-/// of them before: the two differ by their arrays. A row that was made before may lend its names. Fails where memory is wanting.
+/// Each of the rows with the documents that it is joined with, which are found in the index. Copied are these rows, or what was
+/// made of them before: the two differ by their arrays. A row that was made before may lend its names. Fails when memory runs
+/// out.
 pub(crate) fn joined_rows(
     alloc: Global,
     lookup: &Lookup,
-    foreign: &Index,
+    foreign: &RowsByKey,
     rows: &Ordered<Document>,
     copied: &Ordered<Document>,
     last: Option<&Document>,
@@ -55,7 +56,7 @@ fn document_or<'a>(there: Option<(&Pos, &'a Document)>, other: &'a Document) -> 
 fn with_joined(
     alloc: Global,
     lookup: &Lookup,
-    foreign: &Index,
+    foreign: &RowsByKey,
     joined: Ordered<Document>,
     pos: &Pos,
     row: &Document,
@@ -74,7 +75,7 @@ fn with_joined(
 pub(crate) fn joined_row(
     alloc: Global,
     lookup: &Lookup,
-    foreign: &Index,
+    foreign: &RowsByKey,
     keys: &BTreeSet<Key>,
     copied: &Document,
     last: Option<&Document>,

@@ -10,7 +10,7 @@ ghost use Rattle.dv_join.specs.Turning.{first_input};
 ghost use Rattle.dv_join.specs.Inner.Turning.{AreLocalKeys, HoldsJoin, has_foreign, if_any, join_positioned};
 ghost use Rattle.dv_order.specs.Key.{KeyTree, key_order};
 
-use crate::index::Index;
+use crate::index::RowsByKey;
 use crate::joining::{joined_row, joined_rows};
 use dv_change::{Input, Operator, Ordered, Pos, Taken, Ticks, hand_over, row_alone};
 use dv_gather::Lookup;
@@ -26,9 +26,9 @@ pub struct LookupOperator {
     alloc: Global,
     lookup: Lookup,
     /// The rows by the keys by which they are looked up.
-    left_by: Index,
+    left_by: RowsByKey,
     /// The documents by the keys under which they are found.
-    foreign_by: Index,
+    foreign_by: RowsByKey,
     /// A row that it made, which lends its names.
     last: Option<Document>,
 }
@@ -42,8 +42,8 @@ impl LookupOperator {
         Ok(LookupOperator {
             alloc,
             lookup: lookup.try_clone()?,
-            left_by: Index::new(alloc),
-            foreign_by: Index::new(alloc),
+            left_by: RowsByKey::new(alloc),
+            foreign_by: RowsByKey::new(alloc),
             last: None,
         })
     }

@@ -1,5 +1,5 @@
 -- One key or another, and keys before a bar.
-use Rattle.std.proofs.Common.{Bor, ◌≡◌, ◌∙◌, ◌&&◌, ◌||◌, Bool, List, Option, None, Some, is_some, refl, ap, sym, true, false, not}
+use Rattle.std.proofs.Common.{◌≡◌, ◌∙◌, ◌&&◌, ◌||◌, Bool, List, refl, ap, sym, true, false, not}
 use Rattle.std.specs.List.{list_any}
 use Rattle.std.specs.Ordering.{is_eq, is_le, is_lt, ordering_reverse}
 use Rattle.std.specs.declared.cmp.Ordering.{Ordering}
@@ -33,18 +33,6 @@ by-bar P direction bar k i e before tied = at (stands_first direction k bar.key.
     at true b f first later = first refl
     at false true f first later = later refl f
     at false false f first later = absurd cc
-
-no-until : (i : KeyTree) (until : Option (Bor KeyTree)) → is_some until ≡ false → is_until i until ≡ false
-no-until i None e = refl
-no-until i (Some end) e = absurd cc
-
-pub none-ahead : (direction : Direction) (bar : Bar) (k i : KeyTree) → stands_first direction k bar.key.now || (is_eq (key_order k bar.key.now) && is_some bar.until) ≡ false → stands_ahead direction bar k i ≡ false
-none-ahead direction bar k i e = at (stands_first direction k bar.key.now) (is_eq (key_order k bar.key.now)) (is_some bar.until) e (no-until i bar.until)
-  where
-    at : (a b c : Bool) → a || (b && c) ≡ false → (c ≡ false → is_until i bar.until ≡ false) → a || (b && is_until i bar.until) ≡ false
-    at true b c f none = absurd cc
-    at false true c f none = none f
-    at false false c f none = refl
 
 -- ---- pairs of equal keys
 pub pair-of-equal : (k l i : KeyTree) (ps : List Pair) → is_eq (key_order k l) ≡ true → has_pair k i ps ≡ has_pair l i ps

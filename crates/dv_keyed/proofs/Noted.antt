@@ -15,9 +15,6 @@ either-way : {T E P Q G : Type 0} (r : Result T E) → OnOk r P → OnErr r Q �
 either-way (Ok x) p q f g = f p
 either-way (Err e) p q f g = g q
 
-pub none-noted : AreNoted [] []
-none-noted i out k there l also = absurd cc
-
 -- two keys of a list that has one
 one-of : (k l : KeyTree) (ks : List KeyTree) → length ks ≤ 1 → has_key k ks ≡ true → has_key l ks ≡ true → is_eq (key_order l k) ≡ true
 one-of k l [] few e f = absurd cc
@@ -71,7 +68,7 @@ noted-added several more ks ps qs id b h noted added alone i out k there l also 
     at true false e f = one-of k l ks (alone f).0 (new k e ((alone f).1 k) there) (new l e ((alone f).1 l) also)
     at false c e f = h i (not-first (has_key i several) (b && is_eq (key_order i id)) outside) k (old k e there) l (old l e also)
 
--- whether they are added or memory is wanting
+-- whether they are added or memory runs out
 pub noted-either : {T E : Type 0} (r : Result T E) (several more ks : List KeyTree) (ps qs : List Pair) (id : KeyTree) (b : Bool) → AreNoted several ps → ((i : KeyTree) → has_key i more ≡ has_key i several || (b && is_eq (key_order i id))) → OnOk r ((k i : KeyTree) → has_pair k i qs ≡ has_pair k i ps || (has_key k ks && is_eq (key_order i id)))
     → OnErr r ((k i : KeyTree) → has_pair k i qs ≡ has_pair k i ps) → (b ≡ false → (length ks ≤ 1) × ((k : KeyTree) → has_pair k id ps ≡ false)) → AreNoted more qs
 noted-either r several more ks ps qs id b h noted ok err alone =

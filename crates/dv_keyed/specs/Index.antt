@@ -1,5 +1,5 @@
--- Indexes: each has a name, a path, whether it is unique, and entries: a key under the path, and the `_id` of a document that has it.
--- The first index of a collection is on `_id`; it has no entries, since the documents themselves are in the order of `_id`.
+-- An index: its name, its path, and whether it is unique. What it holds isn't part of it: that is defined by the documents (`Search` of
+-- `dv_index`).
 use Rattle.std.specs.Prelude.{ℕ, Bool, false, List, [], ◌∷◌, codes}
 
 -- what users see of an index; in a unique one no two documents have the same key
@@ -8,6 +8,6 @@ pub record IndexForm : Type 0 where
   pub path : List (List ℕ)
   pub unique : Bool
 
--- the index `_id_`, which every collection has; that no two documents have the same `_id` isn't part of it
+-- the index `_id_`, which every collection has; `unique` is false: that no two documents have the same `_id` is the collection's own rule
 abbrev pub id_form : IndexForm
 id_form = record { name = codes "_id_"; path = codes "_id" ∷ []; unique = false }

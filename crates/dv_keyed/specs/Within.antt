@@ -7,7 +7,7 @@ use Rattle.dv_candidates.specs.Candidates.{Candidate, leaves}
 use Rattle.dv_match.specs.Filter.{Condition, equal, among, in_range}
 use Rattle.dv_match.specs.Match.{is_equal, is_among, is_in_range}
 
--- whether the candidate is within the bounds of a condition; conditions other than equalities, `$in` and ranges set no bounds
+-- whether the candidate is within the bounds of a condition: an equality, `$in` or a range; nothing is within any other condition
 abbrev pub is_within : Condition → Candidate → Bool
 is_within (equal v) c = is_equal v c
 is_within (among vs) c = is_among vs c

@@ -41,7 +41,7 @@ pub struct Bar<'i> {
 }
 
 impl Bar<'_> {
-    /// Whether a document is ahead of the bar in a direction that is sorted by a key and has this `_id`'s key.
+    /// Whether the bar is behind a document, in a direction: one that is sorted by `key`, and whose `_id` has the key `id`.
     pub fn is_behind(&self, direction: Direction, key: &Key, id: &Key) -> bool
         ensures { result ≡ stands_ahead direction self.now key.now id.now }
     {
@@ -76,9 +76,9 @@ fn stands_first(direction: Direction, key: &Key, other: &Key) -> bool
     }
 }
 
-/// In a direction, a bar behind `least` `_id`s of those in all ranges which the filter sets: among those under one key where ties
-/// are decided by `_id`s, else before the first key after so many, unless more than `most` come before it. Fails with `NoMemory`
-/// when memory runs out.
+/// A bar with `least` `_id`s of those in all ranges that the filter sets ahead of it, in a direction: between `_id`s under one key if
+/// these decide ties, else before the first key after so many. `None` if more than `most` are ahead of it, or no key follows. Fails
+/// with `NoMemory` when memory runs out.
 pub fn bar_behind<'i>(
     alloc: Global,
     index: &'i Index,
@@ -165,7 +165,7 @@ fn add_tied<'i>(index: &'i Pairs, bar: &Bar<'_>, ids: &mut Vec<&'i Key>) -> Resu
     }
 }
 
-/// The ends between which those of the keys stand that are before the bar in a direction. Fails where memory is wanting.
+/// The ends between which those of the keys stand that are before the bar in a direction. Fails when memory runs out.
 fn cut(mut ends: Interval, direction: Direction, bar: &Key) -> Result<Interval, NoMemory>
     ensures { IfOk result (λ left. (k : KeyTree) → is_between ends k ≡ true → sorting.stands_first direction k bar.now ≡ true → is_between left k ≡ true) }
 {
@@ -193,7 +193,7 @@ fn add_empty_before<'i>(
     index.add_ids_at(&key, ids)
 }
 
-/// The ends between which the keys stand that are before the bar in a direction. Fails where memory is wanting.
+/// The ends between which the keys stand that are before the bar in a direction. Fails when memory runs out.
 fn ends_before(direction: Direction, bar: &Key) -> Result<(Bound<Key>, Bound<Key>), NoMemory>
     ensures forward { IfOk result (λ ends. IsForward (IsLeBy key_order) (IsLtBy key_order) ends.0 ends.1) }
     ensures holds { IfOk result (λ ends. (k : KeyTree) → sorting.stands_first direction k bar.now ≡ true → range_contains key_order ends.0 ends.1 k ≡ true) }

@@ -19,7 +19,7 @@ use std::mem::replace;
 use std::ops::Bound;
 
 /// How many keys may be in a list, in which each is looked at.
-const FEW: usize = 16;
+const MOST_LISTED: usize = 16;
 
 /// A set of keys of `_id`s.
 #[derive(Debug, Drop)]
@@ -126,7 +126,7 @@ impl Ids {
         }
     }
 
-    /// Adds one. Where memory is wanting, nothing changes.
+    /// Adds one. If memory runs out, nothing changes.
     pub(crate) fn add(&mut self, id: &Key) -> Result<(), NoMemory>
         ensures ok { OnOk result ((i : KeyTree) → has_key i self.new ≡ (has_key i self.old || is_eq (key_order i id.now))) }
         ensures err { OnErr result ((i : KeyTree) → has_key i self.new ≡ has_key i self.old) }
@@ -144,7 +144,7 @@ impl Ids {
                 if is_among(ids, id) {
                     return Ok(());
                 }
-                if ids.len() < FEW {
+                if ids.len() < MOST_LISTED {
                     return push_copy(ids, id);
                 }
                 let many = Kept::Many(set_with(self.alloc, ids, id)?);
@@ -173,7 +173,7 @@ impl Ids {
         }
     }
 
-    /// A copy of its own. Fails where memory is wanting.
+    /// A copy of its own. Fails when memory runs out.
     pub(crate) fn try_clone(&self, alloc: Global) -> Result<Self, NoMemory>
         ensures { IfOk result (λ copy. copy ≡ self.now) }
     {
@@ -185,7 +185,7 @@ impl Ids {
         Ok(Ids { alloc, kept })
     }
 
-    /// Adds all of them to a list. Where memory is wanting, some of them are added.
+    /// Adds all of them to a list. If memory runs out, some of them are added.
     pub(crate) fn add_to<'i>(&'i self, found: &mut Vec<&'i Key>) -> Result<(), NoMemory>
         ensures { OnOk result (map (λ i. i.now) found.new.items ≡ map (λ i. i.now) found.old.items ++ self.now) }
     {
@@ -199,7 +199,7 @@ impl Ids {
         }
     }
 
-    /// Adds to a list those that are less than an end. Where memory is wanting, some of them are added.
+    /// Adds to a list those that are less than an end. If memory runs out, some of them are added.
     pub(crate) fn add_until<'i>(
         &'i self,
         until: &Key,
@@ -244,7 +244,7 @@ fn is_in(ids: Option<&Ids>, id: &Key) -> bool
     }
 }
 
-/// A copy of the set. Fails where memory is wanting.
+/// A copy of the set. Fails when memory runs out.
 fn copy_of_set(alloc: Global, ids: &BTreeSet<Key>) -> Result<BTreeSet<Key>, NoMemory>
     ensures { IfOk result (λ copy. copy.keys ≡ ids.now.keys) }
 {
@@ -255,7 +255,7 @@ fn copy_of_set(alloc: Global, ids: &BTreeSet<Key>) -> Result<BTreeSet<Key>, NoMe
     Ok(copy)
 }
 
-/// The two keys. Fails where memory is wanting.
+/// The two keys. Fails when memory runs out.
 fn both(alloc: Global, first: &Key, second: &Key) -> Result<Vec<Key>, NoMemory>
     ensures { IfOk result (λ keys. keys.items ≡ first.now ∷ second.now ∷ []) }
 {
@@ -265,7 +265,7 @@ fn both(alloc: Global, first: &Key, second: &Key) -> Result<Vec<Key>, NoMemory>
     Ok(keys)
 }
 
-/// The set of the keys and of one more. Fails where memory is wanting.
+/// The set of the keys and of one more. Fails when memory runs out.
 fn set_with(alloc: Global, ids: &[Key], id: &Key) -> Result<BTreeSet<Key>, NoMemory>
     ensures { IfOk result (λ set. (i : KeyTree) → contains key_order set i ≡ (has_key i ids.now || is_eq (key_order i id.now))) }
 {
@@ -277,7 +277,7 @@ fn set_with(alloc: Global, ids: &[Key], id: &Key) -> Result<BTreeSet<Key>, NoMem
     Ok(set)
 }
 
-/// Puts a copy of the key behind the others. Where memory is wanting, nothing changes.
+/// Puts a copy of the key behind the others. If memory runs out, nothing changes.
 fn push_copy(ids: &mut Vec<Key>, id: &Key) -> Result<(), NoMemory>
     ensures ok { OnOk result ((i : KeyTree) → has_key i ids.new.items ≡ (has_key i ids.old.items || is_eq (key_order i id.now))) }
     ensures err { OnErr result (ids.new.items ≡ ids.old.items) }
@@ -293,7 +293,7 @@ fn drop_equal(ids: &mut Vec<Key>, id: &Key)
     ids.retain(|other| id != other);
 }
 
-/// A copy of the list. Fails where memory is wanting.
+/// A copy of the list. Fails when memory runs out.
 fn copy_of_list(alloc: Global, ids: &[Key]) -> Result<Vec<Key>, NoMemory>
     ensures { IfOk result (λ copy. copy.items ≡ ids.now) }
 {
@@ -304,7 +304,7 @@ fn copy_of_list(alloc: Global, ids: &[Key]) -> Result<Vec<Key>, NoMemory>
     Ok(copy)
 }
 
-/// Adds each of the ids to a list. Where memory is wanting, some of them are added.
+/// Adds each of the ids to a list. If memory runs out, some of them are added.
 fn add_each_to<'i>(found: &mut Vec<&'i Key>, ids: &'i [Key]) -> Result<(), NoMemory>
     ensures { OnOk result (map (λ i. i.now) found.new.items ≡ map (λ i. i.now) found.old.items ++ ids.now) }
 {
@@ -314,7 +314,7 @@ fn add_each_to<'i>(found: &mut Vec<&'i Key>, ids: &'i [Key]) -> Result<(), NoMem
     Ok(())
 }
 
-/// Adds all of the ids to a list. Where memory is wanting, some of them are added.
+/// Adds all of the ids to a list. If memory runs out, some of them are added.
 fn add_all_to<'i>(found: &mut Vec<&'i Key>, ids: &'i BTreeSet<Key>) -> Result<(), NoMemory>
     ensures { OnOk result (map (λ i. i.now) found.new.items ≡ map (λ i. i.now) found.old.items ++ ids.now.keys) }
 {
@@ -324,7 +324,7 @@ fn add_all_to<'i>(found: &mut Vec<&'i Key>, ids: &'i BTreeSet<Key>) -> Result<()
     Ok(())
 }
 
-/// Adds the id to a list if it is less than an end. Where memory is wanting, nothing changes.
+/// Adds the id to a list if it is less than an end. If memory runs out, nothing changes.
 fn add_if_less<'i>(found: &mut Vec<&'i Key>, id: &'i Key, until: &Key) -> Result<(), NoMemory>
     ensures { OnOk result (map (λ i. i.now) found.new.items ≡ map (λ i. i.now) found.old.items ++ (if is_lt (key_order id.now until.now) then id.now ∷ [] else [])) }
 {
@@ -334,7 +334,7 @@ fn add_if_less<'i>(found: &mut Vec<&'i Key>, id: &'i Key, until: &Key) -> Result
     Ok(())
 }
 
-/// Adds each of the ids to a list that is less than an end. Where memory is wanting, some of them are added.
+/// Adds each of the ids to a list that is less than an end. If memory runs out, some of them are added.
 fn add_less<'i>(found: &mut Vec<&'i Key>, ids: &'i [Key], until: &Key) -> Result<(), NoMemory>
     ensures { OnOk result (map (λ i. i.now) found.new.items ≡ map (λ i. i.now) found.old.items ++ filter (λ i. is_lt (key_order i until.now)) ids.now) }
 {
@@ -359,7 +359,7 @@ fn add_front<'i>(
     Ok(())
 }
 
-/// Adds a copy of the id to a set. Where memory is wanting, nothing changes.
+/// Adds a copy of the id to a set. If memory runs out, nothing changes.
 pub(crate) fn insert_into(found: &mut BTreeSet<Key>, id: &Key) -> Result<(), NoMemory>
     ensures ok { OnOk result ((i : KeyTree) → contains key_order found.new i ≡ (contains key_order found.old i || is_eq (key_order i id.now))) }
     ensures err { OnErr result ((i : KeyTree) → contains key_order found.new i ≡ contains key_order found.old i) }

@@ -74,8 +74,8 @@ impl MultiIndex {
         self.pairs.add(keys, id)
     }
 
-    /// Adds a pair for each key, none of which is there, to an `_id` that has no keys but those that it holds. Where memory
-    /// is wanting, the pairs are those that there were.
+    /// Adds a pair for each key, none of which is there, to an `_id` that has no keys but those that it holds. If memory runs
+    /// out, the pairs are those that there were.
     pub(crate) fn add_fresh(
         &mut self,
         fresh: &[&Key],
@@ -168,8 +168,8 @@ impl MultiIndex {
         !self.several.is_empty()
     }
 
-    /// Adds to a list the `_id`s' keys that have several keys: then each is there that is there if its key is the only one.
-    /// Where memory is wanting, some of them are added.
+    /// Adds to a list the `_id`s' keys that have several keys: then each is there that is there if its key is the only one. If
+    /// memory runs out, some of them are added.
     pub(crate) fn add_several<'i>(&'i self, ids: &mut Vec<&'i Key>) -> Result<(), NoMemory>
         ensures { OnOk result ((k i : KeyTree) → has_pair k i self.now ≡ true → (IsOnlyKey k i self.now → refers_to ids.old.items i ≡ true) → refers_to ids.new.items i ≡ true) }
     {
@@ -205,7 +205,7 @@ fn are_several(fresh: &[&Key], held: &Keys) -> bool
     fresh.len() > 1 || held.len() > 0
 }
 
-/// Notes an `_id` where it has several keys. Where memory is wanting, nothing changes.
+/// Notes an `_id` where it has several keys. If memory runs out, nothing changes.
 fn note(several: &mut Ids, id: &Key, has_several: bool) -> Result<(), NoMemory>
     ensures ok { OnOk result ((i : KeyTree) → has_key i several.new ≡ (has_key i several.old || (has_several && is_eq (key_order i id.now)))) }
     ensures err { OnErr result ((i : KeyTree) → has_key i several.new ≡ has_key i several.old) }

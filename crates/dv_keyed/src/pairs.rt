@@ -63,17 +63,17 @@ impl Pairs {
         }
     }
 
-    /// Adds the pair of each of the keys and the `_id`'s key. Where memory is wanting, the pairs are those that there were.
+    /// Adds the pair of each of the keys and the `_id`'s key. If memory runs out, the pairs are those that there were.
     pub(crate) fn add(&mut self, keys: &Keys, id: &Key) -> Result<(), NoMemory>
         ensures ok { OnOk result ((k i : KeyTree) → has_pair k i self.new ≡ (has_pair k i self.old || (has_key k keys.now && is_eq (key_order i id.now)))) }
         ensures err { OnErr result ((k i : KeyTree) → has_pair k i self.new ≡ has_pair k i self.old) }
     {
-        // A pair that was there stays where memory is wanting.
+        // A pair that was there stays when memory runs out.
         let fresh = self.absent(keys, id)?;
         self.add_fresh(fresh.as_slice(), id)
     }
 
-    /// Adds a pair for each key, none of which is there. Where memory is wanting, the pairs are those that there were.
+    /// Adds a pair for each key, none of which is there. If memory runs out, the pairs are those that there were.
     pub(crate) fn add_fresh(&mut self, fresh: &[&Key], id: &Key) -> Result<(), NoMemory>
         requires { (k : KeyTree) → refers_to fresh.now k ≡ true → has_pair k id.now self.old ≡ false }
         ensures ok { OnOk result (AddsPairs (refers_to fresh.now) id.now self.old self.new) }
@@ -123,7 +123,7 @@ impl Pairs {
         }
     }
 
-    /// The same pairs, in as few nodes as hold them. Fails where memory is wanting.
+    /// The same pairs, in as few nodes as hold them. Fails when memory runs out.
     pub(crate) fn packed(self) -> Result<Self, NoMemory>
         ensures { IfOk result (λ packed. (k i : KeyTree) → has_pair k i packed ≡ has_pair k i self) }
     {
@@ -134,7 +134,7 @@ impl Pairs {
         })
     }
 
-    /// A copy of its own. Fails where memory is wanting.
+    /// A copy of its own. Fails when memory runs out.
     pub(crate) fn try_clone(&self) -> Result<Self, NoMemory>
         ensures { IfOk result (λ copy. copy ≡ self.now) }
     {
@@ -144,7 +144,7 @@ impl Pairs {
         })
     }
 
-    /// Adds to a list the `_id`s' keys that stand under a key. Where memory is wanting, some of them are added.
+    /// Adds to a list the `_id`s' keys that stand under a key. If memory runs out, some of them are added.
     pub(crate) fn add_ids_at<'i>(
         &'i self,
         key: &Key,
@@ -158,8 +158,8 @@ impl Pairs {
         }
     }
 
-    /// Adds to a list the `_id`s' keys that stand under a key and are less than an end. Where memory is wanting, some of them
-    /// are added.
+    /// Adds to a list the `_id`s' keys that stand under a key and are less than an end. If memory runs out, some of them are
+    /// added.
     pub(crate) fn add_ids_until<'i>(
         &'i self,
         key: &Key,
@@ -174,8 +174,8 @@ impl Pairs {
         }
     }
 
-    /// Adds to a list the `_id`s' keys of the pairs whose keys stand between two ends. Where memory is wanting, some of
-    /// them are added.
+    /// Adds to a list the `_id`s' keys of the pairs whose keys stand between two ends. If memory runs out, some of them are
+    /// added.
     pub(crate) fn add_ids_between<'i>(
         &'i self,
         low: Bound<Key>,
@@ -191,8 +191,8 @@ impl Pairs {
         Ok(())
     }
 
-    /// Adds to a list the `_id`s' keys of the pairs whose keys stand between two ends, whichever way round these are. Where
-    /// memory is wanting, some of them are added.
+    /// Adds to a list the `_id`s' keys of the pairs whose keys stand between two ends, whichever way round these are. If memory
+    /// runs out, some of them are added.
     pub(crate) fn add_ids_inside<'i>(
         &'i self,
         ends: Interval,
@@ -265,7 +265,7 @@ impl Pairs {
         }
     }
 
-    /// Adds a pair for each key. Where memory is wanting, some of them are added.
+    /// Adds a pair for each key. If memory runs out, some of them are added.
     pub(crate) fn add_each(&mut self, keys: &[&Key], id: &Key) -> Result<(), NoMemory>
         ensures ok { OnOk result (AddsPairs (refers_to keys.now) id.now self.old self.new) }
         ensures err { OnErr result (AreSameBut (refers_to keys.now) id.now self.old self.new) }
@@ -295,7 +295,7 @@ impl Pairs {
         }
     }
 
-    /// Adds a key that isn't there, with one `_id`. Where memory is wanting, nothing changes.
+    /// Adds a key that isn't there, with one `_id`. If memory runs out, nothing changes.
     fn add_key(&mut self, key: &Key, id: &Key) -> Result<(), NoMemory>
         requires { (i : KeyTree) → has_pair key.now i self.old ≡ false }
         ensures ok { OnOk result ((k i : KeyTree) → has_pair k i self.new ≡ (has_pair k i self.old || (is_eq (key_order k key.now) && is_eq (key_order i id.now)))) }
@@ -360,14 +360,14 @@ fn end_behind(ids: &Ids, ties: Ties, many: usize) -> Option<&Key>
     }
 }
 
-/// The same entries, in nodes that are filled one after the other. Fails where memory is wanting.
+/// The same entries, in nodes that are filled one after the other. Fails when memory runs out.
 fn built_anew(alloc: Global, entries: BTreeMap<Key, Ids>) -> Result<BTreeMap<Key, Ids>, NoMemory>
     ensures { IfOk result (IsFromIterResult key_order entries.entries) }
 {
     entries.into_iter().collect(alloc)
 }
 
-/// A copy of the entries. Fails where memory is wanting.
+/// A copy of the entries. Fails when memory runs out.
 fn copy_of(alloc: Global, entries: &BTreeMap<Key, Ids>) -> Result<BTreeMap<Key, Ids>, NoMemory>
     ensures same { IfOk result (λ copy. copy.entries ≡ entries.now.entries) }
     ensures sorted { IfOk result (λ copy. IsStrictlySortedBy key_order (keys_of copy.entries)) }

@@ -20,7 +20,7 @@ pub enum Bounds<'f> {
     Equal(&'f Value),
     /// Those that compare equal to that of one of the values.
     Among(&'f Choices),
-    /// Those of the value's class that compare so to it.
+    /// Those of the value's class that are above, at least, below or at most it, as the `Range` says.
     Within(Range, &'f Value),
 }
 

@@ -17,12 +17,13 @@ use dv_streams::ByteIn;
 use dv_value::BsonFault;
 use std::alloc::Global;
 
-/// The code of a document that is refused for want of memory.
+/// The code of a document that is refused because memory ran out.
 const WANT_OF_MEMORY: i32 = 900;
 
 /// Loads the documents of a file, one after the other, under a namespace: each as an insert of only that document, in order. The
-/// first fault ends it, and the documents before it stay. The file is read to its end first. So if the reader fails, or if the file
-/// is too large, the store is as it was.
+/// first fault ends it, and the documents before it stay: `Document` or `Refused` with the document's number and its offset in bytes.
+/// Fails with `Read` if the reader does, with `TooLarge` over 1,073,741,824 bytes, both before anything is loaded, and with
+/// `NoMemory` when memory runs out.
 pub fn load_file<R: ByteIn>(
     alloc: Global,
     store: &mut Store,
@@ -36,7 +37,7 @@ pub fn load_file<R: ByteIn>(
 }
 
 /// Loads a file as `load_file` does, and reports after each document how many are loaded.
-pub fn load_file_telling<R: ByteIn, P: Progress>(
+pub(crate) fn load_file_telling<R: ByteIn, P: Progress>(
     alloc: Global,
     store: &mut Store,
     namespace: &str,
@@ -50,7 +51,7 @@ pub fn load_file_telling<R: ByteIn, P: Progress>(
     load_documents(alloc, store, namespace, bytes.as_slice(), progress)
 }
 
-// Loads the documents that the bytes are.
+/// Loads the documents that the bytes are.
 fn load_documents<P: Progress>(
     alloc: Global,
     store: &mut Store,
@@ -75,8 +76,8 @@ fn load_documents<P: Progress>(
     Ok(())
 }
 
-// Loads the first document of the bytes, which has this number and stands at this place of the file, and answers what
-// stands behind it. Otherwise nothing is changed.
+/// Loads the first document of the bytes, which has this number and stands at this place of the file, and returns what stands
+/// behind it. Otherwise nothing is changed.
 fn load_first<'a>(
     alloc: Global,
     store: &mut Store,
@@ -99,7 +100,7 @@ fn load_first<'a>(
     }
 }
 
-// What a fault of the document of this number, which begins at this byte, comes to.
+/// What a fault of the document of this number, which begins at this byte, comes to.
 fn fault_of_document(number: usize, at: usize, fault: BsonFault) -> LoadFault
     ensures memory { fault ≡ BsonFault.NoMemory → result ≡ LoadFault.NoMemory }
     ensures other { fault ≢ BsonFault.NoMemory → result ≡ LoadFault.Document number at fault }
@@ -111,7 +112,7 @@ fn fault_of_document(number: usize, at: usize, fault: BsonFault) -> LoadFault
     }
 }
 
-// What the code with which it is refused comes to.
+/// What the code with which it is refused comes to.
 fn fault_of_code(number: usize, at: usize, code: i32) -> LoadFault
     ensures memory { code ≡ pos 900 → result ≡ LoadFault.NoMemory }
     ensures either { (result ≡ LoadFault.NoMemory) ⊎ ((result ≡ LoadFault.Refused number at code) × (code ≢ pos 900)) }

@@ -33,8 +33,8 @@ where
     Ok(store)
 }
 
-/// Writes how many documents a file holds to standard output, as `check` does. `CannotRead` if it can't be opened or not be read to
-/// its end, and else the fault of the check.
+/// Writes how many documents a file holds to standard output, as `check` does. Fails with `CannotRead` if it can't be opened or not
+/// be read to its end, with `NoMemory` if there is no memory for the writer's buffer, and else with the fault of the check.
 pub fn check_file<R: Files + Print + AllocGlobal>(rt: &R, file: String) -> Result<(), DocdFault> {
     let alloc = rt.alloc();
     let writer = BufWriter::new(alloc, io::writer(rt)).map_err(|_| DocdFault::NoMemory)?;

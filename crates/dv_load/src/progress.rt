@@ -3,17 +3,17 @@
 use std::io::IsTerminal;
 
 /// How many documents are loaded from one telling to the next.
-const STEP: usize = 100_000;
+const DOCUMENTS_PER_REPORT: usize = 100_000;
 
 /// What is called to report how far the load of a file is.
-pub trait Progress {
+pub(crate) trait Progress {
     /// So many of its documents are loaded.
     fn loaded(&mut self, count: usize);
 }
 
 /// Reports nothing.
 #[derive(Clone, Copy)]
-pub struct Untold;
+pub(crate) struct Untold;
 
 impl Progress for Untold {
     fn loaded(&mut self, _count: usize) {}
@@ -22,7 +22,7 @@ impl Progress for Untold {
 /// A line of a terminal, written over in place: how many documents of a file are loaded so far, each 100,000 and at the end. If it
 /// isn't a terminal, or takes none, nothing is written.
 #[derive(Drop)]
-pub struct TerminalLine<'a, E> {
+pub(crate) struct TerminalLine<'a, E> {
     terminal: &'a E,
     file: &'a str,
     count: usize,
@@ -31,7 +31,7 @@ pub struct TerminalLine<'a, E> {
 
 impl<'a, E: Eprint + IsTerminal> TerminalLine<'a, E> {
     /// A line that isn't begun.
-    pub fn of(terminal: &'a E, file: &'a str) -> Self {
+    pub(crate) fn of(terminal: &'a E, file: &'a str) -> Self {
         TerminalLine {
             terminal,
             file,
@@ -45,7 +45,7 @@ impl<'a, E: Eprint + IsTerminal> TerminalLine<'a, E> {
     }
 
     /// Ends it with the last count, if it was begun.
-    pub fn end(self) {
+    pub(crate) fn end(self) {
         if self.has_begun {
             self.write();
             let _ = eprint!(self.terminal; "\n");
@@ -56,7 +56,7 @@ impl<'a, E: Eprint + IsTerminal> TerminalLine<'a, E> {
 impl<E: Eprint + IsTerminal> Progress for TerminalLine<'_, E> {
     fn loaded(&mut self, count: usize) {
         self.count = count;
-        if count % STEP == 0 && self.terminal.is_terminal() {
+        if count % DOCUMENTS_PER_REPORT == 0 && self.terminal.is_terminal() {
             self.has_begun = true;
             self.write();
         }

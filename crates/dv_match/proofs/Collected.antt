@@ -49,12 +49,6 @@ module _ {X Y : Type 0} (f : X → Result Y FilterFault) (xs : List X) (i : ℕ)
   pub no-more : slice_get xs i ≡ None → collected f xs ≡ Ok ys
   no-more end = so-far ∙ ap (λ l. after ys (collected f l)) (drop-none xs i end) ∙ ap Ok (append-nil ys)
 
-pub none-yet : {X Y : Type 0} (f : X → Result Y FilterFault) (xs : List X) → collected f xs ≡ after [] (collected f xs)
-none-yet f xs = same (collected f xs) where
-  same : {Y : Type 0} (r : Result (List Y) FilterFault) → r ≡ after [] r
-  same (Ok ys) = refl
-  same (Err e) = refl
-
 tied : {Y Z : Type 0} (a : Result Y FilterFault) (c : Result (List Y) FilterFault) (z : Result Z FilterFault) (more : Y → Z → Z) (of : List Y → Z) → z ≡ (c >>= λ ys. Ok (of ys)) → ((y : Y) (ys : List Y) → more y (of ys) ≡ of (y ∷ ys))
     → (a >>= λ y. z >>= λ rest. Ok (more y rest)) ≡ ((a >>= λ y. c >>= λ ys. Ok (y ∷ ys)) >>= λ ys. Ok (of ys))
 tied (Err e) c z more of same step = refl

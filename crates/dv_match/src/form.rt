@@ -228,7 +228,7 @@ impl Filter {
 
 impl Filters {
     /// The list of these filters. Takes no memory.
-    pub fn of(filters: Vec<Filter>) -> Self
+    pub(crate) fn of(filters: Vec<Filter>) -> Self
         ensures { result ≡ filters_of filters.items }
     {
         Filters { filters }

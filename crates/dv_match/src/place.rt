@@ -4,7 +4,7 @@ ghost use Rattle.std.specs.Prelude.{◌≡◌, Bool};
 ghost use Rattle.std.specs.List.{list_any};
 ghost use Rattle.dv_candidates.specs.Candidates.{whole, leaves};
 ghost use Rattle.dv_candidates.specs.Candidates as candidates;
-ghost use Rattle.dv_candidates.specs.Inner.Fold.{Answers};
+ghost use Rattle.dv_candidates.specs.Answering.{Answers};
 ghost use Rattle.dv_candidates.specs.View.{seen};
 ghost use Rattle.dv_match.specs.Inner.Asked.{wholes, parts};
 

@@ -11,34 +11,34 @@ use Rattle.dv_command.specs.Asked.{command_name}
 use Rattle.dv_command.specs.Lists.{CommandLists}
 use Rattle.dv_command.specs.Inner.Needed.{front_needed, needed, needed_of}
 use Rattle.dv_message.specs.Sections.{Section, body, named}
-use Rattle.dv_message.specs.Commands.{fields_in, each_read, Brought, brought_body, brought_list, brought_by, body_among, lists_among, read_in, command_from}
+use Rattle.dv_message.specs.Commands.{fields_in, each_read, SectionRead, read_body, read_list, section_read, body_among, lists_among, read_in, command_from}
 use Rattle.dv_message.specs.Inner.CommandsView.{list_front, needed_read}
 use Rattle.dv_message.proofs.Reading.{read_last, read_stops, reads_last}
 
-body_last : (before : List Field) (brought : List Brought) (fields : List Field) → body_among before (brought ++ brought_body fields ∷ []) ≡ fields
+body_last : (before : List Field) (brought : List SectionRead) (fields : List Field) → body_among before (brought ++ read_body fields ∷ []) ≡ fields
 body_last before [] fields = refl
-body_last before (brought_body other ∷ brought) fields = body_last other brought fields
-body_last before (brought_list name documents ∷ brought) fields = body_last before brought fields
+body_last before (read_body other ∷ brought) fields = body_last other brought fields
+body_last before (read_list name documents ∷ brought) fields = body_last before brought fields
 
-body_past : (before : List Field) (brought : List Brought) (name : List ℕ) (documents : List (List Field)) → body_among before (brought ++ brought_list name documents ∷ []) ≡ body_among before brought
+body_past : (before : List Field) (brought : List SectionRead) (name : List ℕ) (documents : List (List Field)) → body_among before (brought ++ read_list name documents ∷ []) ≡ body_among before brought
 body_past before [] name documents = refl
-body_past before (brought_body other ∷ brought) name documents = body_past other brought name documents
-body_past before (brought_list n ds ∷ brought) name documents = body_past before brought name documents
+body_past before (read_body other ∷ brought) name documents = body_past other brought name documents
+body_past before (read_list n ds ∷ brought) name documents = body_past before brought name documents
 
-lists_last : (brought : List Brought) (name : List ℕ) (documents : List (List Field)) → lists_among (brought ++ brought_list name documents ∷ []) ≡ lists_among brought ++ (name, documents) ∷ []
+lists_last : (brought : List SectionRead) (name : List ℕ) (documents : List (List Field)) → lists_among (brought ++ read_list name documents ∷ []) ≡ lists_among brought ++ (name, documents) ∷ []
 lists_last [] name documents = refl
-lists_last (brought_body other ∷ brought) name documents = lists_last brought name documents
-lists_last (brought_list n ds ∷ brought) name documents = ap (λ (ls : List (List ℕ × List (List Field))). (n, ds) ∷ ls) (lists_last brought name documents)
+lists_last (read_body other ∷ brought) name documents = lists_last brought name documents
+lists_last (read_list n ds ∷ brought) name documents = ap (λ (ls : List (List ℕ × List (List Field))). (n, ds) ∷ ls) (lists_last brought name documents)
 
-lists_past : (brought : List Brought) (fields : List Field) → lists_among (brought ++ brought_body fields ∷ []) ≡ lists_among brought
+lists_past : (brought : List SectionRead) (fields : List Field) → lists_among (brought ++ read_body fields ∷ []) ≡ lists_among brought
 lists_past [] fields = refl
-lists_past (brought_body other ∷ brought) fields = lists_past brought fields
-lists_past (brought_list n ds ∷ brought) fields = ap (λ (ls : List (List ℕ × List (List Field))). (n, ds) ∷ ls) (lists_past brought fields)
+lists_past (read_body other ∷ brought) fields = lists_past brought fields
+lists_past (read_list n ds ∷ brought) fields = ap (λ (ls : List (List ℕ × List (List Field))). (n, ds) ∷ ls) (lists_past brought fields)
 
 -- these sections are read, and bring this body and these lists
 pub record AreRead (sections : List Section) (fields : List Field) (lists : List (List ℕ × List (List Field))) : Type 0 where
-  pub brought : List Brought
-  pub read : each_read brought_by sections ≡ Ok brought
+  pub brought : List SectionRead
+  pub read : each_read section_read sections ≡ Ok brought
   pub body_is : body_among [] brought ≡ fields
   pub lists_are : lists_among brought ≡ lists
 
@@ -51,54 +51,54 @@ module _ (sections : List Section) (fields : List Field) (lists : List (List ℕ
 
   pub body_read : (more : List Section) (document : List ℕ) (now : List Field) → more ≡ sections ++ body document ∷ [] → fields_in document ≡ Ok now → AreRead more now lists
   body_read more document now is e =
-      let one : brought_by (body document) ≡ Ok (brought_body now) = rw e refl in
+      let one : section_read (body document) ≡ Ok (read_body now) = rw e refl in
       record {
-        brought = so_far.brought ++ brought_body now ∷ [];
-        read = ap (each_read brought_by) is ∙ read_last brought_by sections (body document) so_far.brought (brought_body now) so_far.read one;
+        brought = so_far.brought ++ read_body now ∷ [];
+        read = ap (each_read section_read) is ∙ read_last section_read sections (body document) so_far.brought (read_body now) so_far.read one;
         body_is = body_last [] so_far.brought now;
         lists_are = lists_past so_far.brought now ∙ so_far.lists_are;
       }
 
   pub list_read : (more : List Section) (section : Section) (name : List ℕ) (documents : List (List Field)) (now : List (List ℕ × List (List Field))) → more ≡ sections ++ section ∷ []
-      → brought_by section ≡ Ok (brought_list name documents) → now ≡ lists ++ (name, documents) ∷ [] → AreRead more fields now
+      → section_read section ≡ Ok (read_list name documents) → now ≡ lists ++ (name, documents) ∷ [] → AreRead more fields now
   list_read more section name documents now is one grown =
       record {
-        brought = so_far.brought ++ brought_list name documents ∷ [];
-        read = ap (each_read brought_by) is ∙ read_last brought_by sections section so_far.brought (brought_list name documents) so_far.read one;
+        brought = so_far.brought ++ read_list name documents ∷ [];
+        read = ap (each_read section_read) is ∙ read_last section_read sections section so_far.brought (read_list name documents) so_far.read one;
         body_is = body_past [] so_far.brought name documents ∙ so_far.body_is;
         lists_are = lists_last so_far.brought name documents ∙ ap (λ (ls : List (List ℕ × List (List Field))). ls ++ (name, documents) ∷ []) so_far.lists_are ∙ sym grown;
       }
 
-  pub stops : (all behind : List Section) (section : Section) (fault : BsonFault) → all ≡ sections ++ section ∷ behind → brought_by section ≡ Err fault → read_in all ≡ Err fault
+  pub stops : (all behind : List Section) (section : Section) (fault : BsonFault) → all ≡ sections ++ section ∷ behind → section_read section ≡ Err fault → read_in all ≡ Err fault
   stops all behind section fault is e =
-      let read : each_read brought_by all ≡ Err fault = ap (each_read brought_by) is ∙ read_stops brought_by sections section behind so_far.brought fault so_far.read e in
+      let read : each_read section_read all ≡ Err fault = ap (each_read section_read) is ∙ read_stops section_read sections section behind so_far.brought fault so_far.read e in
       rw read refl
 
-pub body_fault : (section : Section) (document : List ℕ) (fault : BsonFault) → section ≡ body document → (fault ≡ NoMemory) ⊎ (fields_in document ≡ Err fault) → (fault ≡ NoMemory) ⊎ (brought_by section ≡ Err fault)
+pub body_fault : (section : Section) (document : List ℕ) (fault : BsonFault) → section ≡ body document → (fault ≡ NoMemory) ⊎ (fields_in document ≡ Err fault) → (fault ≡ NoMemory) ⊎ (section_read section ≡ Err fault)
 body_fault section document fault is (inl want) = inl want
-body_fault section document fault is (inr e) = inr (ap brought_by is ∙ rw e refl)
+body_fault section document fault is (inr e) = inr (ap section_read is ∙ rw e refl)
 
 -- ---- the name of the command
 
 -- if these sections are read, their body begins with this name
 pub record IsNamed (sections : List Section) (name : List ℕ) : Type 0 where
-  pub by : (brought : List Brought) → each_read brought_by sections ≡ Ok brought → name ≡ command_name (body_among [] brought)
+  pub by : (brought : List SectionRead) → each_read section_read sections ≡ Ok brought → name ≡ command_name (body_among [] brought)
 
 pub not_named : IsNamed [] []
-not_named = record { by = λ brought e. let none : [] ≡ brought = cc in ap (λ (all : List Brought). command_name (body_among [] all)) none }
+not_named = record { by = λ brought e. let none : [] ≡ brought = cc in ap (λ (all : List SectionRead). command_name (body_among [] all)) none }
 
-body_of : (read : Result (List Field) BsonFault) (brought : Brought) (name : List ℕ) → ((fields : List Field) → read ≡ Ok fields → name ≡ command_name fields) → (read >>= λ fields. Ok (brought_body fields)) ≡ Ok brought
-    → (before : List Brought) → name ≡ command_name (body_among [] (before ++ brought ∷ []))
+body_of : (read : Result (List Field) BsonFault) (brought : SectionRead) (name : List ℕ) → ((fields : List Field) → read ≡ Ok fields → name ≡ command_name fields) → (read >>= λ fields. Ok (read_body fields)) ≡ Ok brought
+    → (before : List SectionRead) → name ≡ command_name (body_among [] (before ++ brought ∷ []))
 body_of (Ok fields) brought name is e before =
-    let one : brought_body fields ≡ brought = cc in
-    is fields refl ∙ ap command_name (sym (body_last [] before fields)) ∙ ap (λ (b : Brought). command_name (body_among [] (before ++ b ∷ []))) one
+    let one : read_body fields ≡ brought = cc in
+    is fields refl ∙ ap command_name (sym (body_last [] before fields)) ∙ ap (λ (b : SectionRead). command_name (body_among [] (before ++ b ∷ []))) one
 body_of (Err fault) brought name is e before = absurd cc
 
-list_of : (read : Result (List (List Field)) BsonFault) (brought : Brought) (name : List ℕ) → (read >>= λ all. Ok (brought_list name all)) ≡ Ok brought
-    → (before : List Brought) → body_among [] before ≡ body_among [] (before ++ brought ∷ [])
+list_of : (read : Result (List (List Field)) BsonFault) (brought : SectionRead) (name : List ℕ) → (read >>= λ all. Ok (read_list name all)) ≡ Ok brought
+    → (before : List SectionRead) → body_among [] before ≡ body_among [] (before ++ brought ∷ [])
 list_of (Ok all) brought name e before =
-    let one : brought_list name all ≡ brought = cc in
-    sym (body_past [] before name all) ∙ ap (λ (b : Brought). body_among [] (before ++ b ∷ [])) one
+    let one : read_list name all ≡ brought = cc in
+    sym (body_past [] before name all) ∙ ap (λ (b : SectionRead). body_among [] (before ++ b ∷ [])) one
 list_of (Err fault) brought name e before = absurd cc
 
 module _ (sections more : List Section) (name : List ℕ) where
@@ -106,23 +106,23 @@ module _ (sections more : List Section) (name : List ℕ) where
   named_by_body document is first =
       record {
         by = λ brought e.
-            let one = reads_last brought_by sections (body document) brought (ap (each_read brought_by) (sym is) ∙ e) in
-            body_of (fields_in document) one.last name first one.last_is one.before ∙ ap (λ (all : List Brought). command_name (body_among [] all)) one.both;
+            let one = reads_last section_read sections (body document) brought (ap (each_read section_read) (sym is) ∙ e) in
+            body_of (fields_in document) one.last name first one.last_is one.before ∙ ap (λ (all : List SectionRead). command_name (body_among [] all)) one.both;
       }
 
   pub named_before : (list : List ℕ) (documents : List (List ℕ)) → more ≡ sections ++ named list documents ∷ [] → IsNamed sections name → IsNamed more name
   named_before list documents is so_far =
       record {
         by = λ brought e.
-            let one = reads_last brought_by sections (named list documents) brought (ap (each_read brought_by) (sym is) ∙ e) in
+            let one = reads_last section_read sections (named list documents) brought (ap (each_read section_read) (sym is) ∙ e) in
             so_far.by one.before one.before_are ∙ ap command_name (list_of (each_read fields_in documents) one.last list one.last_is one.before)
-            ∙ ap (λ (all : List Brought). command_name (body_among [] all)) one.both;
+            ∙ ap (λ (all : List SectionRead). command_name (body_among [] all)) one.both;
       }
 
-abbrev told : List Brought → Result (List Field × CommandLists) BsonFault
+abbrev told : List SectionRead → Result (List Field × CommandLists) BsonFault
 told brought = Ok (body_among [] brought, lists_among brought)
 
-named_all : (read : Result (List Brought) BsonFault) (name : List ℕ) → ((brought : List Brought) → read ≡ Ok brought → name ≡ command_name (body_among [] brought))
+named_all : (read : Result (List SectionRead) BsonFault) (name : List ℕ) → ((brought : List SectionRead) → read ≡ Ok brought → name ≡ command_name (body_among [] brought))
     → (fields : List Field) (lists : CommandLists) → (read >>= told) ≡ Ok (fields, lists) → name ≡ command_name fields
 named_all (Ok brought) name is fields lists e =
     let both : ◌≡◌ {A = List Field × CommandLists} (body_among [] brought, lists_among brought) (fields, lists) = cc in
@@ -130,7 +130,7 @@ named_all (Ok brought) name is fields lists e =
 named_all (Err fault) name is fields lists e = absurd cc
 
 pub is_named : (sections : List Section) (name : List ℕ) → IsNamed sections name → (fields : List Field) (lists : CommandLists) → read_in sections ≡ Ok (fields, lists) → name ≡ command_name fields
-is_named sections name named_so fields lists e = named_all (each_read brought_by sections) name named_so.by fields lists e
+is_named sections name named_so fields lists e = named_all (each_read section_read sections) name named_so.by fields lists e
 
 -- ---- what is kept of lists
 
@@ -146,8 +146,8 @@ none_kept command = record { lists = []; read = none_read; kept_is = refl }
 abbrev fronts : List ℕ → ℕ → Result (List (List Field)) BsonFault → Result (List ℕ × List (List Field)) BsonFault
 fronts name most read = (read >>= λ all. Ok (take most all)) >>= λ front. let list : Result (List ℕ × List (List Field)) BsonFault = Ok (name, front) in list
 
-abbrev brought_under : List ℕ → Result (List (List Field)) BsonFault → Result Brought BsonFault
-brought_under name read = read >>= λ all. Ok (brought_list name all)
+abbrev brought_under : List ℕ → Result (List (List Field)) BsonFault → Result SectionRead BsonFault
+brought_under name read = read >>= λ all. Ok (read_list name all)
 
 record ListRead (name : List ℕ) (most : ℕ) (documents : List (List ℕ)) (list : List ℕ × List (List Field)) : Type 0 where
   read : List (List Field)
@@ -163,7 +163,7 @@ list_fails : (name : List ℕ) (most : ℕ) (read : Result (List (List Field)) B
 list_fails name most (Ok all) fault e = absurd cc
 list_fails name most (Err f) fault e = let same : f ≡ fault = cc in ap (λ (x : BsonFault). Err x) same
 
-pub list_fault : (name : List ℕ) (most : ℕ) (documents : List (List ℕ)) (fault : BsonFault) → (fault ≡ NoMemory) ⊎ (list_front name most documents ≡ Err fault) → (fault ≡ NoMemory) ⊎ (brought_by (named name documents) ≡ Err fault)
+pub list_fault : (name : List ℕ) (most : ℕ) (documents : List (List ℕ)) (fault : BsonFault) → (fault ≡ NoMemory) ⊎ (list_front name most documents ≡ Err fault) → (fault ≡ NoMemory) ⊎ (section_read (named name documents) ≡ Err fault)
 list_fault name most documents fault (inl want) = inl want
 list_fault name most documents fault (inr e) = inr (list_fails name most (each_read fields_in documents) fault e)
 
@@ -176,7 +176,7 @@ module _ (command : List ℕ) (sections : List Section) (fields : List Field) (k
   list_kept more name documents list now is e grown =
       let front = front_needed (needed_of command) in
       let one = list_reads name (needed_of command name) documents (each_read fields_in documents) list refl e in
-      let brought : brought_by (named name documents) ≡ Ok (brought_list name one.read) = ap (brought_under name) one.read_is in
+      let brought : section_read (named name documents) ≡ Ok (read_list name one.read) = ap (brought_under name) one.read_is in
       record {
         lists = so_far.lists ++ (name, one.read) ∷ [];
         read = list_read sections fields so_far.lists so_far.read more (named name documents) name one.read (so_far.lists ++ (name, one.read) ∷ []) is brought refl;
@@ -184,7 +184,7 @@ module _ (command : List ℕ) (sections : List Section) (fields : List Field) (k
             ∙ ap (λ (l : List ℕ × List (List Field)). kept ++ l ∷ []) one.list_is ∙ sym grown;
       }
 
-  pub stops_needed : (all behind : List Section) (section : Section) (fault : BsonFault) → all ≡ sections ++ section ∷ behind → (fault ≡ NoMemory) ⊎ (brought_by section ≡ Err fault) → (fault ≡ NoMemory) ⊎ (needed_read (read_in all) ≡ Err fault)
+  pub stops_needed : (all behind : List Section) (section : Section) (fault : BsonFault) → all ≡ sections ++ section ∷ behind → (fault ≡ NoMemory) ⊎ (section_read section ≡ Err fault) → (fault ≡ NoMemory) ⊎ (needed_read (read_in all) ≡ Err fault)
   stops_needed all behind section fault is (inl want) = inl want
   stops_needed all behind section fault is (inr e) = inr (ap needed_read (stops sections fields so_far.lists so_far.read all behind section fault is e))
 

@@ -1,5 +1,5 @@
 -- Bytes, and numbers in four of them.
-use Rattle.std.proofs.Common.{◌≡◌, ℕ, zero, suc, ◌+◌, ◌≤◌, ◌<◌, ◌^◌, List, [], ◌∷◌, ◌++◌, length, get_or, take, drop, refl, sym, ap, subst, ◌∙◌, arith}
+use Rattle.std.proofs.Common.{◌≡◌, ℕ, ◌+◌, ◌≤◌, ◌<◌, ◌^◌, List, ◌++◌, length, take, drop, refl, sym, ap, subst, ◌∙◌, arith}
 use Rattle.std.specs.Int.{w32, from_le_bytes, to_le_bytes}
 use Rattle.std.proofs.lemmas.List.{length-take-le, length-drop, take_at, drop_at, drop-append-le, take-append-le}
 use Rattle.std.proofs.lemmas.Nat.{le_bytes_4}
@@ -12,14 +12,6 @@ IsBytes-behind a b h = subst IsBytes (drop_at a b (length a) refl) (IsBytes-drop
 
 pub IsBytes-front : (a b : List ℕ) → IsBytes (a ++ b) → IsBytes a
 IsBytes-front a b h = subst IsBytes (take_at a b (length a) refl) (IsBytes-take (length a) (a ++ b) h)
-
-IsBytes-cons : (b : ℕ) (bytes : List ℕ) → b < 256 → IsBytes bytes → (i : ℕ) → get_or (b ∷ bytes) i 0 < 256
-IsBytes-cons b bytes lt h zero = lt
-IsBytes-cons b bytes lt h (suc i) = h i
-
-pub IsBytes-append : (a b : List ℕ) → IsBytes a → IsBytes b → IsBytes (a ++ b)
-IsBytes-append [] b h k = k
-IsBytes-append (x ∷ a) b h k = IsBytes-cons x (a ++ b) (h 0) (IsBytes-append a b (λ i. h (suc i)) k)
 
 -- four bytes are those of their number
 pub four : (n : ℕ) (s : List ℕ) → IsBytes s → n + 4 ≤ length s → take 4 (drop n s) ≡ to_le_bytes w32 (number_after n s)

@@ -1,5 +1,5 @@
 -- Names: where they end, and whether two are equal.
-use Rattle.std.proofs.Common.{◌≡◌, ℕ, ◌+◌, ◌-◌, Bool, true, false, ◌||◌, not, List, [], ◌∷◌, ◌++◌, Bor, refl, sym, ap, ◌∙◌, arith}
+use Rattle.std.proofs.Common.{◌≡◌, ℕ, ◌+◌, Bool, true, false, ◌||◌, not, List, [], ◌∷◌, ◌++◌, Bor, refl, sym, ap, ◌∙◌, arith}
 use Rattle.std.specs.BTreeMap.{is_at}
 use Rattle.std.specs.BTreeSet.{insert_key}
 use Rattle.std.specs.Cmp.Lexicographic.{slice_cmp}
@@ -105,9 +105,6 @@ pub record AreKept (sections : List Section) (kept : List (Bor (List ℕ))) : Ty
 pub not_new : (b : Bool) → not b ≡ false → b ≡ true
 not_new true e = refl
 not_new false e = absurd cc
-
-pub none_kept : AreKept [] []
-none_kept = record { apart = refl; same = λ name. refl }
 
 pub body_passed : (sections more : List Section) (kept : List (Bor (List ℕ))) (document : List ℕ) → more ≡ sections ++ body document ∷ [] → AreKept sections kept → AreKept more kept
 body_passed sections more kept document is so_far =

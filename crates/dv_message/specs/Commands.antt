@@ -19,30 +19,30 @@ each_read read [] = Ok []
 each_read read (x ∷ xs) = read x >>= λ y. each_read read xs >>= λ ys. Ok (y ∷ ys)
 
 -- a section with its documents as fields: the command's body, or a list with its name
-pub data Brought : Type 0 where
-  brought_body : List Field → Brought
-  brought_list : List ℕ → List (List Field) → Brought
+pub data SectionRead : Type 0 where
+  read_body : List Field → SectionRead
+  read_list : List ℕ → List (List Field) → SectionRead
 
 -- the documents of a section as fields, or the first fault
-abbrev pub brought_by : Section → Result Brought BsonFault
-brought_by (body document) = fields_in document >>= λ fields. Ok (brought_body fields)
-brought_by (named name documents) = each_read fields_in documents >>= λ all. Ok (brought_list name all)
+abbrev pub section_read : Section → Result SectionRead BsonFault
+section_read (body document) = fields_in document >>= λ fields. Ok (read_body fields)
+section_read (named name documents) = each_read fields_in documents >>= λ all. Ok (read_list name all)
 
 -- the body among the sections, or `before` if there is none
-abbrev pub body_among : List Field → List Brought → List Field
+abbrev pub body_among : List Field → List SectionRead → List Field
 body_among before [] = before
-body_among before (brought_body fields ∷ others) = body_among fields others
-body_among before (brought_list name documents ∷ others) = body_among before others
+body_among before (read_body fields ∷ others) = body_among fields others
+body_among before (read_list name documents ∷ others) = body_among before others
 
 -- the lists among the sections, in order
-abbrev pub lists_among : List Brought → List (List ℕ × List (List Field))
+abbrev pub lists_among : List SectionRead → List (List ℕ × List (List Field))
 lists_among [] = []
-lists_among (brought_body fields ∷ others) = lists_among others
-lists_among (brought_list name documents ∷ others) = (name, documents) ∷ lists_among others
+lists_among (read_body fields ∷ others) = lists_among others
+lists_among (read_list name documents ∷ others) = (name, documents) ∷ lists_among others
 
 -- the fields of the body, and the lists in order, or the first fault
 abbrev pub read_in : List Section → Result (List Field × List (List ℕ × List (List Field))) BsonFault
-read_in sections = each_read brought_by sections >>= λ brought. Ok (body_among [] brought, lists_among brought)
+read_in sections = each_read section_read sections >>= λ brought. Ok (body_among [] brought, lists_among brought)
 
 -- the command, or one that is invalid because of the fault
 abbrev pub command_from : Result (List Field × List (List ℕ × List (List Field))) BsonFault → Command

@@ -15,13 +15,14 @@ use itoa::Buffer;
 use std::alloc::AllocError;
 
 /// The most bytes of a document.
-const LONGEST: usize = 2_147_483_647;
+const LONGEST_DOCUMENT: usize = 2_147_483_647;
 
 /// The room that is made at once for a reply. One with more or larger rows takes more as it is written.
 const ROOM: usize = 256;
 
-/// Appends a message whose body is the reply with a batch of rows, as the reply to a request: the rows under the name of the
-/// batch, the cursor that has the others, 0 where there is none, and its namespace. Where memory is wanting nothing is appended.
+/// Appends a message whose body is the reply with a batch of rows, as the reply to the request `request_id`: the rows under `name`, the
+/// id of the cursor that has the other rows (0 if none has), and `namespace`. Fails with `NoMemory` when memory runs out, and if the
+/// reply or a row would have over 2,147,483,647 bytes; then nothing is appended.
 pub fn append_batch(
     request_id: u32,
     name: &str,
@@ -45,8 +46,7 @@ pub fn append_batch(
     appended
 }
 
-/// Appends the same with 0 as the message's length. Where memory is wanting a part of it may be appended, as by all that
-/// follow here.
+/// Appends the same with 0 as the message's length. If memory runs out a part of it may be appended, as by all that follow here.
 fn append_unmeasured(
     request_id: u32,
     name: &str,
@@ -157,7 +157,7 @@ fn append_id(id: u64, namespace: &str, out: &mut Vec<u8>) -> Result<(), NoMemory
     ensures ok { OnOk result (out.new.items ≡ out.old.items ++ id_spelling id namespace.now) }
     ensures err { OnErr result ((part : List ℕ) × (out.new.items ≡ out.old.items ++ part)) }
 {
-    if namespace.len() >= LONGEST {
+    if namespace.len() >= LONGEST_DOCUMENT {
         return Err(AllocError);
     }
     let front = id_front(id, namespace.len() as u32 + 1);
@@ -192,15 +192,15 @@ fn append_three(
     Ok(())
 }
 
-/// Ends the document that begins at `start`, where four bytes are left for its length. Fails where that is over
-/// 2,147,483,647 bytes, and where memory is wanting; then nothing is changed.
+/// Ends the document that begins at `start`, where four bytes are left for its length. Fails where that is over 2,147,483,647
+/// bytes, and when memory runs out; then nothing is changed.
 fn close(out: &mut Vec<u8>, start: usize) -> Result<(), NoMemory>
     requires { start + 4 ≤ vec_len out.old }
     ensures ok { OnOk result (out.new.items ≡ take start out.old.items ++ framed (drop (start + 4) out.old.items)) }
     ensures within { OnOk result (vec_len out.new ≤ start + 2147483647) }
     ensures err { OnErr result (out.new.items ≡ out.old.items) }
 {
-    if out.len() - start >= LONGEST {
+    if out.len() - start >= LONGEST_DOCUMENT {
         return Err(AllocError);
     }
     out.extend_from_slice(b"\0")?;

@@ -4,7 +4,7 @@ ghost use Rattle.std.specs.Prelude.{◌≡◌, ◌⊎◌, ◌∷◌, [], List, m
 ghost use Rattle.dv_value.specs.Tree.{Field};
 ghost use Rattle.dv_command.specs.Asked.{command_name};
 ghost use Rattle.dv_command.specs.Lists.{CommandLists};
-ghost use Rattle.dv_command.specs.Inner.ListsView.{list_seen};
+ghost use Rattle.dv_command.specs.ListsView.{list_seen};
 ghost use Rattle.dv_command.specs.Inner.Needed.{needed};
 ghost use Rattle.dv_message.specs.Commands as brings;
 ghost use Rattle.dv_message.specs.Sections as wire;

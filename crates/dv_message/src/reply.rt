@@ -11,7 +11,8 @@ use dv_bson::write_document;
 use dv_value::{Document, NoMemory};
 use std::alloc::AllocError;
 
-/// Appends a message with this body as the reply to a request. If memory runs out nothing is appended.
+/// Appends a message with this body as the reply to a request. Fails with `NoMemory` when memory runs out, and if the reply would have
+/// over 2,147,483,647 bytes; then nothing is appended.
 pub fn append_reply(request_id: u32, reply: &Document, out: &mut Vec<u8>) -> Result<(), NoMemory>
     ensures ok { OnOk result (out.new.items ≡ out.old.items ++ message_spelling 0 request_id 0 (0 ∷ spelling reply.now)) }
     ensures err { OnErr result (out.new.items ≡ out.old.items) }
@@ -25,7 +26,7 @@ pub fn append_reply(request_id: u32, reply: &Document, out: &mut Vec<u8>) -> Res
     appended
 }
 
-/// Appends the same with 0 as the message's length. Where memory is wanting a part of it may be appended.
+/// Appends the same with 0 as the message's length. If memory runs out a part of it may be appended.
 fn append_unmeasured(request_id: u32, reply: &Document, out: &mut Vec<u8>) -> Result<(), NoMemory>
     ensures ok { OnOk result (out.new.items ≡ out.old.items ++ unmeasured request_id (0 ∷ spelling reply.now)) }
     ensures within { OnOk result (length (spelling reply.now) + 21 < 2 ^ 32) }

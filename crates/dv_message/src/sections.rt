@@ -47,9 +47,9 @@ impl<'a> Sections<'a> {
     }
 }
 
-/// The sections of a message that the bytes are. `BadSection` where they are none: a section of another kind, a size, a
-/// name or a document's length that doesn't fit, not exactly one body, two lists under one name. `NoMemory` where memory
-/// is wanting, which a body alone doesn't take.
+/// The sections of a message that the bytes are. `BadSection` where they are none: a section of another kind, a size, a name or a
+/// document's length that doesn't fit, not exactly one body, two lists under one name. `NoMemory` when memory runs out, which a
+/// body alone doesn't take.
 pub(crate) fn sections_in(alloc: Global, bytes: &[u8]) -> Result<Sections<'_>, CloseFault>
     ensures { FoundAs sections_seen result (wire.sections_in bytes.now) }
 {

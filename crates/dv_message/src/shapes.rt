@@ -4,7 +4,7 @@ use dv_value::{BsonFault, Document, List, Value, size};
 use std::alloc::Global;
 
 /// The most bytes of a document whose shape is kept.
-const LARGEST: u32 = 4_096;
+const LARGEST_SHAPED: u32 = 4_096;
 
 /// How many levels a shape has inside a document. What lies deeper has none.
 const LEVELS: u32 = 8;
@@ -76,8 +76,8 @@ impl Shape {
         }
     }
 
-    /// Looks at a document where it is time to, and takes its shape where it is time for another one. Where memory is wanting
-    /// there is none then.
+    /// Looks at a document where it is time to, and takes its shape where it is time for another one. If memory runs out there is
+    /// none then.
     fn keep(&mut self, alloc: Global, document: &Document) {
         if self.passed < MOST_PASSED && !self.names.is_empty() {
             self.passed += 1;
@@ -140,16 +140,15 @@ fn inner(value: &Value) -> Option<&Document> {
     }
 }
 
-/// The shape of a document; without fields where it is too large. Fails where memory is wanting.
+/// The shape of a document; without fields where it is too large. Fails when memory runs out.
 fn small_shape_of(alloc: Global, document: &Document) -> Result<Document, BsonFault> {
     match size(document) {
-        Some(size) if size <= LARGEST => shape_of(alloc, document, LEVELS),
+        Some(size) if size <= LARGEST_SHAPED => shape_of(alloc, document, LEVELS),
         _ => Ok(Document::new(alloc)),
     }
 }
 
-/// The shape of a document, with so many levels inside: the same names, and null in place of values. Fails where memory is
-/// wanting.
+/// The shape of a document, with so many levels inside: the same names, and null in place of values. Fails when memory runs out.
 #[cycle(making)]
 fn shape_of(alloc: Global, document: &Document, levels: u32) -> Result<Document, BsonFault> {
     let mut shape = Document::expecting(alloc, document)?;
@@ -160,7 +159,7 @@ fn shape_of(alloc: Global, document: &Document, levels: u32) -> Result<Document,
     Ok(shape)
 }
 
-/// The shape of a document, or of an array's first one; null in place of any other value. Fails where memory is wanting.
+/// The shape of a document, or of an array's first one; null in place of any other value. Fails when memory runs out.
 #[cycle(making)]
 fn value_shape(alloc: Global, value: &Value, levels: u32) -> Result<Value, BsonFault> {
     if levels == 0 {

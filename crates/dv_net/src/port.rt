@@ -15,13 +15,13 @@ use std::time::Duration;
 const LISTENER: usize = usize::MAX;
 
 /// The number of no connection.
-const NOBODY: u64 = u64::MAX;
+const NO_CONNECTION: u64 = u64::MAX;
 
-/// How many of what is ready are told at once.
+/// How many events one poll returns at most.
 const EVENTS: usize = 1024;
 
 /// Room for the numbers of all connections that may be open, and of those of which something is told.
-const NUMBERS: usize = 4096;
+const READY_ROOM: usize = 4096;
 
 /// A connection. Which bytes come from it isn't known.
 #[derive(Drop)]
@@ -73,7 +73,7 @@ pub struct Port {
     poll: Poll,
     events: Events,
     /// Whether more connections may wait.
-    knocks: bool,
+    may_accept: bool,
     /// How many connections were accepted.
     came: u64,
     /// Whose turn is next.
@@ -85,7 +85,7 @@ pub struct Port {
 }
 
 impl Port {
-    /// Binds a port of this machine's own network, 127.0.0.1.
+    /// Binds a port of this machine's own network, 127.0.0.1. Fails if the port can't be had, or when memory runs out.
     pub fn bind<R: Net>(rt: &R, alloc: Global, port: u16) -> io::Result<Port>
         ensures none { IfOk result (λ port. port.came ≡ 0) }
     {
@@ -98,20 +98,20 @@ impl Port {
             listener,
             poll,
             events: Events::with_capacity(alloc, EVENTS)?,
-            knocks: true,
+            may_accept: true,
             came: 0,
             turn: 0,
-            ready: Vec::with_capacity(alloc, NUMBERS)?,
-            again: Vec::with_capacity(alloc, NUMBERS)?,
+            ready: Vec::with_capacity(alloc, READY_ROOM)?,
+            again: Vec::with_capacity(alloc, READY_ROOM)?,
         })
     }
 
-    // The next connection, where one waits.
+    /// The next connection, where one waits.
     fn connection(&mut self) -> io::Result<Stream>
         ensures numbered { IfOk result (λ stream. (stream.number ≡ self.old.came + 1) × (self.new.came ≡ self.old.came + 1)) }
         ensures kept { OnErr result (self.new.came ≡ self.old.came) }
     {
-        if self.came >= NOBODY - 1 {
+        if self.came >= NO_CONNECTION - 1 {
             return Err(io::Error::from(ErrorKind::Other));
         }
         let number = self.came + 1;
@@ -127,7 +127,7 @@ impl Port {
         Ok(Stream { number, stream })
     }
 
-    // Puts what was told ready behind those that are to be told once more, each once.
+    /// Puts what was told ready behind those that are to be told once more, each once.
     fn note(&mut self) -> Result<(), Failed>
         ensures { self.new.came ≡ self.old.came }
     {
@@ -136,7 +136,7 @@ impl Port {
         for event in &self.events {
             let token = event.token().0;
             if token == LISTENER {
-                self.knocks = true;
+                self.may_accept = true;
             } else {
                 self.ready.push(token as u64).map_err(|_| Failed)?;
                 // A short read before the end of input shows no end: it is told once more.
@@ -151,7 +151,7 @@ impl Port {
         Ok(())
     }
 
-    // Begins with the one behind the last one of before, so that those who come last in a round aren't always the same.
+    /// Begins with the one behind the last one of before, so that those who come last in a round aren't always the same.
     fn begin_in_turn(&mut self)
         ensures { self.new.came ≡ self.old.came }
     {
@@ -195,7 +195,7 @@ impl Outside for Port {
     fn ready(&self, place: usize) -> u64 {
         match self.ready.get(place) {
             Some(number) => *number,
-            None => NOBODY,
+            None => NO_CONNECTION,
         }
     }
 
@@ -205,19 +205,19 @@ impl Outside for Port {
     }
 
     fn accept(&mut self) -> Result<Option<Stream>, Failed> {
-        if !self.knocks {
+        if !self.may_accept {
             return Ok(None);
         }
         match self.connection() {
             Ok(stream) => Ok(Some(stream)),
             Err(error) => match error.kind() {
                 ErrorKind::WouldBlock => {
-                    self.knocks = false;
+                    self.may_accept = false;
                     Ok(None)
                 }
                 // The next one may be there.
                 ErrorKind::ConnectionAborted => {
-                    self.again(NOBODY);
+                    self.again(NO_CONNECTION);
                     Err(Failed)
                 }
                 // It may be had once another one is closed, and is tried again then.
@@ -226,6 +226,6 @@ impl Outside for Port {
         }
     }
 
-    // It closes where it is dropped.
+    /// It closes where it is dropped.
     fn close(&mut self, _channel: Stream, _fate: Fate) {}
 }

@@ -6,13 +6,13 @@ use Rattle.std.specs.Ordering.{is_le}
 use Rattle.dv_value.specs.Tree.{Tree}
 use Rattle.dv_order.specs.Order.{canon, class, order}
 
--- no value of v's class stands before the end
+-- the bound is before each value of v's class: the least of them, included; or a value of a lower class, excluded; or none
 abbrev pub StartsClass : Tree → Bound Tree → Type 0
 StartsClass v (Included a) = (class a ≡ class v) × ((w : Tree) → class w ≡ class v → is_le (order (canon a) w) ≡ true)
 StartsClass v (Excluded a) = class a < class v
 StartsClass v Unbounded = ⊤
 
--- no value of v's class stands behind the end
+-- the bound is behind each value of v's class: a value of a higher class, excluded; or none
 abbrev pub EndsClass : Tree → Bound Tree → Type 0
 EndsClass v (Included b) = ⊥
 EndsClass v (Excluded b) = class v < class b

@@ -1,4 +1,4 @@
--- Codes of keys: a class and two numbers, which increase with the key within the class. In some classes the code determines the key.
+-- Codes of keys: a class and two numbers, which never decrease as the key grows within the class. In some classes the code determines the key.
 use Rattle.std.specs.Prelude.{ℕ, zero, suc, ◌+◌, ◌*◌, ◌-◌, ◌^◌, ◌==◌, nat_lt, ℤ, pos, negsuc, Bool, true, false, cond, List, [], ◌∷◌, ◌++◌}
 use Rattle.std.specs.Int.{to_be_bytes, w32, w64}
 use Rattle.dv_value.specs.Tree.{Tree, int32, int64, string, document, array, boolean, binary, object_id, date, null, timestamp, min_key, max_key}

@@ -10,8 +10,8 @@ use dv_value::{Bytes, Document, List, Str, Value};
 use std::alloc::Global;
 use std::ops::Bound;
 
-/// An end before which stands no value of the class of this one. Only before ObjectIds values of another class may stand
-/// behind it, since no binary value is the last one. Takes no memory.
+/// A lower bound of the values of this one's class. Only for ObjectIds are there values of another class above it: binary data, of
+/// which none is the greatest. Takes no memory.
 pub fn class_start(alloc: Global, value: &Value) -> Bound<Value>
     ensures { StartsClass (tree value.now) (bound_map tree result) }
 {
@@ -31,7 +31,7 @@ pub fn class_start(alloc: Global, value: &Value) -> Bound<Value>
     }
 }
 
-/// An end behind which stands no value of the class of this one. Takes no memory.
+/// An upper bound of the values of this one's class. Takes no memory.
 pub fn class_end(alloc: Global, value: &Value) -> Bound<Value>
     ensures { EndsClass (tree value.now) (bound_map tree result) }
 {

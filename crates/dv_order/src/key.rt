@@ -72,7 +72,7 @@ impl Key {
         }
     }
 
-    /// The key that is lent, of its own. Fails where memory is wanting.
+    /// The key that is lent, of its own. Fails when memory runs out.
     pub(crate) fn of_lent(alloc: Global, key: &LentKey) -> Result<Self, NoMemory>
         ensures { IfOk result (λ own. own ≡ lent_key key.now) }
     {
@@ -181,7 +181,7 @@ pub fn replace_under_first(map: &mut BTreeMap<Key, Document>, document: Document
     }
 }
 
-/// Puts the document in place of the one that stands in the map under the key, and answers whether there is one.
+/// Puts the document in place of the one that stands in the map under the key, and returns whether there is one.
 #[tactic(auto, using(crate::proofs::Absent::set_value_absent))]
 fn replace_under(map: &mut BTreeMap<Key, Document>, key: &Key, document: Document) -> bool
     ensures documents { map.new.entries ≡ set_value (is_at (key_order key.now)) map.old.entries document }

@@ -7,7 +7,7 @@ ghost use Rattle.dv_value.specs.View.{tree};
 use dv_value::{Document, Value};
 
 /// The value of the field at the place.
-// Apart, so that the name takes no stack where values in one another are compared: there may be thousands of them.
+/// Apart, so that the name takes no stack where values in one another are compared: there may be thousands of them.
 #[inline(never)]
 pub(crate) fn value_at(document: &Document, place: usize) -> &Value
     requires { place < length document.now }

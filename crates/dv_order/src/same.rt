@@ -39,7 +39,7 @@ pub fn is_same(a: &Value, b: &Value) -> bool
     }
 }
 
-// Both are apart, so that none of it takes stack where values in one another are compared: there may be thousands of them.
+/// Both are apart, so that none of it takes stack where values in one another are compared: there may be thousands of them.
 #[inline(never)]
 fn same_texts(a: &str, b: &str) -> bool
     ensures { result ≡ bytes_eq a.now b.now }

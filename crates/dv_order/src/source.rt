@@ -35,7 +35,7 @@ pub(crate) enum KeySource {
 }
 
 impl KeySource {
-    /// That of the key of the value. Fails where memory is wanting.
+    /// That of the key of the value. Fails when memory runs out.
     pub(crate) fn of(value: &Value) -> Result<Self, NoMemory>
         ensures value { IfOk result (λ source. key_at (source_value source) ≡ key_of_tree (canon (tree value.now))) }
         ensures sound { IfOk result IsSound }
@@ -46,7 +46,7 @@ impl KeySource {
         }
     }
 
-    /// That of the key of the text. Fails where memory is wanting.
+    /// That of the key of the text. Fails when memory runs out.
     pub(crate) fn of_text(alloc: Global, text: &str) -> Result<Self, NoMemory>
         ensures value { IfOk result (λ source. key_at (source_value source) ≡ key_of_tree (string text.now)) }
         ensures sound { IfOk result IsSound }
@@ -72,7 +72,7 @@ impl KeySource {
         }
     }
 
-    /// A copy, which shares its memory. Fails where memory is wanting.
+    /// A copy, which shares its memory. Fails when memory runs out.
     pub(crate) fn try_clone(&self) -> Result<Self, NoMemory>
         requires { IsSound self.now }
         ensures value { IfOk result (λ copy. key_at (source_value copy) ≡ key_at (source_value self.now)) }
@@ -120,7 +120,7 @@ impl KeySource {
     }
 }
 
-/// That of the key of a value that isn't small. Fails where memory is wanting.
+/// That of the key of a value that isn't small. Fails when memory runs out.
 fn of_large(value: &Value) -> Result<KeySource, NoMemory>
     requires { IsLarge (tree value.now) }
     ensures value { IfOk result (λ source. key_at (source_value source) ≡ key_of_tree (canon (tree value.now))) }
@@ -135,7 +135,7 @@ fn of_large(value: &Value) -> Result<KeySource, NoMemory>
     }
 }
 
-/// That of the key of the document's first value. Fails where memory is wanting.
+/// That of the key of the document's first value. Fails when memory runs out.
 fn of_first_value(document: &Document) -> Result<KeySource, NoMemory>
     ensures value { IfOk result (λ source. key_at (source_value source) ≡ key_at (first_value document.now)) }
     ensures sound { IfOk result IsSound }
@@ -146,7 +146,7 @@ fn of_first_value(document: &Document) -> Result<KeySource, NoMemory>
     }
 }
 
-/// That of the key of the text, whose allocator a copy tells. Fails where memory is wanting.
+/// That of the key of the text, whose allocator a copy tells. Fails when memory runs out.
 fn of_owned_text(text: &Str) -> Result<KeySource, NoMemory>
     ensures value { IfOk result (λ source. key_at (source_value source) ≡ key_of_tree (string text.now)) }
     ensures sound { IfOk result IsSound }
@@ -186,7 +186,7 @@ fn of_binary(subtype: u8, bytes: &Bytes) -> Result<KeySource, NoMemory>
     )
 }
 
-/// The value behind a pointer, which copies share. Fails where memory is wanting.
+/// The value behind a pointer, which copies share. Fails when memory runs out.
 fn share(alloc: Global, value: Value) -> Result<KeySource, NoMemory>
     ensures value { IfOk result (λ source. source_value source ≡ Some (tree value)) }
     ensures sound { IfOk result IsSound }
@@ -208,7 +208,7 @@ fn of_short(text: &str) -> Option<KeySource>
     Some(KeySource::Short { len, bytes })
 }
 
-/// That of a text of up to 40 bytes. Fails where memory is wanting.
+/// That of a text of up to 40 bytes. Fails when memory runs out.
 fn of_padded(alloc: Global, text: &str) -> Result<Option<KeySource>, NoMemory>
     ensures value { IfOk result (λ found. IfSome found (λ source. source_value source ≡ Some (string text.now))) }
     ensures sound { IfOk result (λ found. IfSome found IsSound) }

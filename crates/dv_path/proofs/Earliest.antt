@@ -1,5 +1,5 @@
 -- The earliest of some keys is known by the set of them.
-use Rattle.std.proofs.Common.{◌≡◌, ◌<◌, Bool, true, false, cond, List, [], ◌∷◌, ◌++◌, length, map, fold, Option, Some, None, Result, Ok, refl, ap, sym, ◌∙◌, arith, ◌↔◌, inl, inr}
+use Rattle.std.proofs.Common.{◌≡◌, Bool, true, false, cond, List, [], ◌∷◌, ◌++◌, map, fold, Option, Some, None, Result, Ok, refl, ap, sym, ◌∙◌, ◌↔◌, inl, inr}
 use Rattle.std.specs.Cmp.{IsStrictWeakOrder}
 use Rattle.std.specs.List.{list_any, flat_map, best_of, AllByRecursion, FoldsTo}
 use Rattle.std.specs.Ordering.{is_lt, is_ne, ordering_reverse}
@@ -15,7 +15,7 @@ use Rattle.dv_path.specs.declared.direction.Direction.{Direction}
 use Rattle.dv_path.specs.declared.direction.Direction.TheVariants.{Ascending, Descending}
 use Rattle.dv_candidates.specs.Candidates.{Candidate}
 use Rattle.dv_candidates.specs.Inner.Fold.{Takes, FoldsOver, PassesOne}
-use Rattle.dv_path.specs.SortKey.{array_keys, keys_of, stands_first, earliest, earlier_with}
+use Rattle.dv_path.specs.SortKey.{array_keys, sort_keys_of, stands_first, earliest, earlier_with}
 use Rattle.dv_path.specs.Inner.GatheredKeys.{any-flat_map}
 
 -- what the order of keys says of each other, as its laws have it
@@ -43,7 +43,7 @@ keys-array : (vs : List Tree) → AreKeys (array_keys vs)
 keys-array [] = (record { of = None; is = refl }, tt)
 keys-array (v ∷ vs) = keys-map (v ∷ vs)
 
-keys-candidate : (c : Candidate) → AreKeys (keys_of c)
+keys-candidate : (c : Candidate) → AreKeys (sort_keys_of c)
 keys-candidate None = (key_of_tree null, tt)
 keys-candidate (Some (array vs)) = keys-array (list_of_elements vs)
 keys-candidate (Some v) = (key_of_tree v, tt)
@@ -52,9 +52,9 @@ keys-append : (ks ls : List KeyTree) → AreKeys ks → AreKeys ls → AreKeys (
 keys-append [] ls h a = a
 keys-append (k ∷ ks) ls h a = (h.0, keys-append ks ls h.1 a)
 
-keys-all : (cs : List Candidate) → AreKeys (flat_map keys_of cs)
+keys-all : (cs : List Candidate) → AreKeys (flat_map sort_keys_of cs)
 keys-all [] = tt
-keys-all (c ∷ cs) = keys-append (keys_of c) (flat_map keys_of cs) (keys-candidate c) (keys-all cs)
+keys-all (c ∷ cs) = keys-append (sort_keys_of c) (flat_map sort_keys_of cs) (keys-candidate c) (keys-all cs)
 
 -- ---- the best of a list
 module _ (beats : KeyTree → KeyTree → Bool) where
@@ -156,20 +156,16 @@ folded-earliest : (direction : Direction) (ks : List KeyTree) → or_null (fold 
 folded-earliest direction [] = refl
 folded-earliest direction (k ∷ ks) = ap or_null (fold_some direction k ks)
 
-module _ {X E : Type 0} (seen : X → Candidate) (call : Option KeyTree → X → Result (Option KeyTree) E → Type 0) (direction : Direction) (steps : (t : Option KeyTree) (x : X) (u : Option KeyTree) → call t x (Ok u) → u ≡ fold (earlier_with direction) t (keys_of (seen x))) where
-  folded : (t u : Option KeyTree) (cs : List Candidate) → FoldsTo (Takes seen call) t cs u → u ≡ fold (earlier_with direction) t (flat_map keys_of cs)
+module _ {X E : Type 0} (seen : X → Candidate) (call : Option KeyTree → X → Result (Option KeyTree) E → Type 0) (direction : Direction) (steps : (t : Option KeyTree) (x : X) (u : Option KeyTree) → call t x (Ok u) → u ≡ fold (earlier_with direction) t (sort_keys_of (seen x))) where
+  folded : (t u : Option KeyTree) (cs : List Candidate) → FoldsTo (Takes seen call) t cs u → u ≡ fold (earlier_with direction) t (flat_map sort_keys_of cs)
   folded t u [] h = sym h
   folded t u (c ∷ cs) h =
-      let one : h.0 ≡ fold (earlier_with direction) t (keys_of c) = steps t h.1.at h.0 h.1.gives ∙ ap (λ d. fold (earlier_with direction) t (keys_of d)) h.1.is in
-      folded h.0 u cs h.2 ∙ ap (λ s. fold (earlier_with direction) s (flat_map keys_of cs)) one ∙ sym (fold_append (earlier_with direction) t (keys_of c) (flat_map keys_of cs))
+      let one : h.0 ≡ fold (earlier_with direction) t (sort_keys_of c) = steps t h.1.at h.0 h.1.gives ∙ ap (λ d. fold (earlier_with direction) t (sort_keys_of d)) h.1.is in
+      folded h.0 u cs h.2 ∙ ap (λ s. fold (earlier_with direction) s (flat_map sort_keys_of cs)) one ∙ sym (fold_append (earlier_with direction) t (sort_keys_of c) (flat_map sort_keys_of cs))
 
   -- what a fold over the candidates leaves is the earliest of their keys
-  pub folded-key : Laws → (cs : List Candidate) (u : Option KeyTree) → FoldsOver seen call (PassesOne cs) (PassesOne cs) None u → or_null u ≡ earliest direction (flat_map keys_of cs)
+  pub folded-key : Laws → (cs : List Candidate) (u : Option KeyTree) → FoldsOver seen call (PassesOne cs) (PassesOne cs) None u → or_null u ≡ earliest direction (flat_map sort_keys_of cs)
   folded-key laws cs u h =
-      let to = λ (q : KeyTree → Bool) (e : list_any q (flat_map keys_of h.taken) ≡ true). any-flat_map q keys_of cs ∙ (h.only (λ c. list_any q (keys_of c)) (sym (any-flat_map q keys_of h.taken) ∙ e)).passes in
-      let from = λ (q : KeyTree → Bool) (e : list_any q (flat_map keys_of cs) ≡ true). any-flat_map q keys_of h.taken ∙ h.every (λ c. list_any q (keys_of c)) (record { passes = sym (any-flat_map q keys_of cs) ∙ e }) in
-      ap or_null (folded None u h.taken h.calls) ∙ folded-earliest direction (flat_map keys_of h.taken) ∙ earliest-same laws direction (flat_map keys_of h.taken) (flat_map keys_of cs) (keys-all h.taken) (keys-all cs) to from
-
-pub array_keys-some : (vs : List Tree) → 0 < length vs → array_keys vs ≡ map (λ w. key_at (Some w)) vs
-array_keys-some [] h = absurd (omega arith)
-array_keys-some (v ∷ vs) h = refl
+      let to = λ (q : KeyTree → Bool) (e : list_any q (flat_map sort_keys_of h.taken) ≡ true). any-flat_map q sort_keys_of cs ∙ (h.only (λ c. list_any q (sort_keys_of c)) (sym (any-flat_map q sort_keys_of h.taken) ∙ e)).passes in
+      let from = λ (q : KeyTree → Bool) (e : list_any q (flat_map sort_keys_of cs) ≡ true). any-flat_map q sort_keys_of h.taken ∙ h.every (λ c. list_any q (sort_keys_of c)) (record { passes = sym (any-flat_map q sort_keys_of cs) ∙ e }) in
+      ap or_null (folded None u h.taken h.calls) ∙ folded-earliest direction (flat_map sort_keys_of h.taken) ∙ earliest-same laws direction (flat_map sort_keys_of h.taken) (flat_map sort_keys_of cs) (keys-all h.taken) (keys-all cs) to from

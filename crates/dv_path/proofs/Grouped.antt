@@ -230,13 +230,6 @@ has-last groups before name g is named = record {
   filled = λ filled. filled-front before g (let P : List Group → Type 0 = AreFilled in subst P is filled);
 }
 
-pub has-new : (groups before : List Group) (name : List ℕ) → groups ≡ before → HasGroup groups before name (name, [])
-has-new groups before name is = record {
-  named = refl;
-  whole = append-nil (ungrouped before) ∙ ap ungrouped (sym is);
-  filled = λ filled. let P : List Group → Type 0 = AreFilled in subst P is filled;
-}
-
 not-empty : (rests : List (List (List ℕ))) (rest : List (List ℕ)) → rests ++ rest ∷ [] ≡ [] → ⊥
 not-empty [] rest e = cc
 not-empty (r ∷ rests) rest e = cc
@@ -345,13 +338,6 @@ module _ (ps : List (List (List ℕ))) (gs : List Group) (grouping : IsGrouping 
 
   pub done-in-array : (vs : List Tree) → elements_with_groups vs gs ≡ remove_each_element vs ps
   done-in-array vs = groups-of-elements gs vs ∙ ap (remove_each_element vs) grouping.whole ∙ with-elements ps vs
-
--- a path more stands in the groups
-pub one-grouped : (done : List (List (List ℕ))) (ps rest : List (List (List ℕ))) (name : List ℕ) (p : List (List ℕ)) → ps ≡ (name ∷ p) ∷ rest → (done ++ (name ∷ p) ∷ []) ++ with_component rest ≡ done ++ with_component ps
-one-grouped done ps rest name p is = append_assoc done ((name ∷ p) ∷ []) (with_component rest) ∙ ap (λ l. done ++ with_component l) (sym is)
-
-pub none-grouped : (done : List (List (List ℕ))) (ps rest : List (List (List ℕ))) → ps ≡ [] ∷ rest → done ++ with_component rest ≡ done ++ with_component ps
-none-grouped done ps rest is = ap (λ l. done ++ with_component l) (sym is)
 
 pub group-drop : (groups : List memory.Group) (i : ℕ) (g : memory.Group) → i < length groups → g ≡ get_or groups i g → map group (drop i groups) ≡ group g ∷ map group (drop (i + 1) groups)
 group-drop groups i g within is = ap (map group) (drop_more groups i g within ∙ ap (λ (h : memory.Group). h ∷ drop (i + 1) groups) (sym is))

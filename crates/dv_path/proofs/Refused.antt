@@ -64,11 +64,6 @@ module _ (put : Candidate → Result Tree PathFault) (o : Option ℕ) (place : �
   pub refused-far : slice_get vs place ≡ None → 100000 < place → result_err (put_element put o vs) ≡ Some IndexTooLarge
   refused-far none far = let past : length vs ≤ place = past-end vs place none in chosen false (grind (arith, nat_tests))
 
--- a fault that is told is the one that there is, and where none is told there is none
-pub refused-is : {X : Type 0} (r : Result X PathFault) (e : PathFault) → Some e ≡ result_err r → r ≡ Err e
-refused-is (Ok x) e told = absurd cc
-refused-is (Err f) e told = cc
-
 pub not-refused : {X : Type 0} (r : Result X PathFault) (e : PathFault) → None ≡ result_err r → r ≡ Err e → ⊥
 not-refused (Ok x) e told is = cc
 not-refused (Err f) e told is = cc

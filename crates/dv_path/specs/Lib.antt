@@ -1,7 +1,7 @@
 pub use Rattle.dv_candidates.specs.Path
 pub use Rattle.dv_candidates.specs.Candidates
 pub use Rattle.dv_candidates.specs.View
-pub use Rattle.dv_candidates.specs.Inner.Fold
+pub use Rattle.dv_candidates.specs.Answering
 pub use Rattle.dv_candidates.specs.Ways
 pub mod Names
 pub mod LeafKeys

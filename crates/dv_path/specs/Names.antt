@@ -1,4 +1,5 @@
--- Names that no path can reach: in a path a dot separates names, and a dollar sign begins an operator.
+-- Names that a stored document may not have: with a dot at any level, since a dot separates the names of a path; with a dollar sign in
+-- front at the top level, since that begins an operator.
 use Rattle.std.specs.Prelude.{ℕ, false, ◌||◌, Bool, List, ◌==◌}
 use Rattle.std.specs.List.{list_any}
 use Rattle.dv_value.specs.Tree.{Tree, document, array, Fields, no_fields, field, Elements, no_elements, element, Field, fields_of}

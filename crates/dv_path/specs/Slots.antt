@@ -5,7 +5,8 @@ use Rattle.dv_value.specs.Tree.{Tree, document, array, Field, fields_of, list_of
 use Rattle.dv_value.specs.Names.{value_under}
 use Rattle.dv_candidates.specs.Path.{index_of}
 
--- what is at the place: a value; nothing yet, so that a value can be put there; or no place, since another value is in the way
+-- what is at the place: a value; nothing yet, although `put` may still refuse an index that is too large; or no place, since another value
+-- is in the way
 pub data Slot : Type 0 where
   taken : Tree → Slot
   free : Slot

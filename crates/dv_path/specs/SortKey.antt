@@ -14,10 +14,10 @@ array_keys [] = key_at None ∷ []
 array_keys (v ∷ vs) = map (λ w. key_at (Some w)) (v ∷ vs)
 
 -- the keys of a candidate: for an array those of its elements, for Missing that of null, otherwise its own
-abbrev pub keys_of : Candidate → List KeyTree
-keys_of None = key_at (Some null) ∷ []
-keys_of (Some (array vs)) = array_keys (list_of_elements vs)
-keys_of (Some v) = key_at (Some v) ∷ []
+abbrev pub sort_keys_of : Candidate → List KeyTree
+sort_keys_of None = key_at (Some null) ∷ []
+sort_keys_of (Some (array vs)) = array_keys (list_of_elements vs)
+sort_keys_of (Some v) = key_at (Some v) ∷ []
 
 -- whether k comes before l in this direction
 abbrev pub stands_first : Direction → KeyTree → KeyTree → Bool
@@ -31,7 +31,7 @@ earliest direction (k ∷ ks) = best_of (stands_first direction) k ks
 
 -- the key by which a path sorts a document: the least of its keys if ascending, the greatest if descending
 unfoldable pub sort_key : List Field → List (List ℕ) → Direction → KeyTree
-sort_key fields path direction = earliest direction (flat_map keys_of (whole fields path))
+sort_key fields path direction = earliest direction (flat_map sort_keys_of (whole fields path))
 
 -- the earlier of two keys in this direction; the second if there is no first
 abbrev pub earlier_with : Direction → Option KeyTree → KeyTree → Option KeyTree

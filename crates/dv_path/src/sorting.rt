@@ -1,7 +1,7 @@
 //! What a document is sorted by.
 
 ghost use Rattle.std.specs.Prelude.{◌≡◌, Option, Some, None, fold, IfOk};
-ghost use Rattle.dv_path.specs.SortKey.{keys_of, array_keys, earlier_with};
+ghost use Rattle.dv_path.specs.SortKey.{sort_keys_of, array_keys, earlier_with};
 ghost use Rattle.dv_path.specs.SortKey as sorting;
 ghost use Rattle.dv_candidates.specs.View.{seen};
 
@@ -37,7 +37,7 @@ fn earliest_with(
     earliest: Option<Key>,
     candidate: Candidate,
 ) -> Result<Option<Key>, NoMemory>
-    ensures { IfOk result (λ key. key ≡ fold (earlier_with direction) earliest (keys_of (seen candidate.entry))) }
+    ensures { IfOk result (λ key. key ≡ fold (earlier_with direction) earliest (sort_keys_of (seen candidate.entry))) }
 {
     let Candidate::Found(value) = candidate else {
         let key = key_of(&Value::Null)?;

@@ -11,7 +11,7 @@ use Rattle.dv_match.specs.Match.{matches, matches_member, matches_all}
 use Rattle.dv_pipe.specs.declared.stage.Stage.{Stage}
 use Rattle.dv_pipe.specs.declared.stage.Stage.TheVariants.{Match, Unwind, Limit}
 use Rattle.dv_row.specs.declared.unwind.Unwind as form
-use Rattle.dv_pipe.specs.Laws.{both, IsNoArrayCandidate, HasNoArrayOnWay, is_value_but_null, has_value}
+use Rattle.dv_pipe.specs.Laws.{both, IsNoArrayCandidate, LeadsToNoArray, is_value_but_null, has_value}
 use Rattle.dv_pipe.specs.Sources.{Row}
 use Rattle.dv_pipe.specs.Stages.{Lists, stage, foreign_of, looked_into, rows_at, through, evaluated, is_source_named, is_read}
 use Rattle.dv_row.specs.Unwinding.{reached, unwound_rows, unwound}
@@ -106,7 +106,7 @@ kept : {X : Type 0} (b : Bool) (x : X) (xs : List X) → (if b then x ∷ [] els
 kept true x xs = refl
 kept false x xs = refl
 
-pub unwind_plain : (u : form.Unwind) (rows foreign : List Row) → u.preserve ≡ false → AllByRecursion (HasNoArrayOnWay u.path) rows → stage (Unwind u) rows foreign ≡ filter (has_value u.path) rows
+pub unwind_plain : (u : form.Unwind) (rows foreign : List Row) → u.preserve ≡ false → AllByRecursion (LeadsToNoArray u.path) rows → stage (Unwind u) rows foreign ≡ filter (has_value u.path) rows
 unfolding stage unwound
 unwind_plain u [] foreign e all = refl
 unwind_plain u (d ∷ rows) foreign e all =

@@ -22,8 +22,8 @@ IsNoArrayCandidate (Some (array vs)) = ⊥
 IsNoArrayCandidate c = ⊤
 
 -- what the path leads to, through documents only, isn't an array
-abbrev pub HasNoArrayOnWay : List (List ℕ) → Row → Type 0
-HasNoArrayOnWay path d = IsNoArrayCandidate (reached path d)
+abbrev pub LeadsToNoArray : List (List ℕ) → Row → Type 0
+LeadsToNoArray path d = IsNoArrayCandidate (reached path d)
 
 -- whether the candidate is a value other than null
 abbrev pub is_value_but_null : Candidate → Bool
@@ -39,11 +39,11 @@ has_value path d = is_value_but_null (reached path d)
 abbrev pub AgreeWhere : (List ℕ → Bool) → Lists → Lists → Type 0
 AgreeWhere passes lists others = (namespace : List ℕ) → passes namespace ≡ true → lists namespace ≡ others namespace
 
--- each document has an encoding
+-- each document is valid, so it has an encoding unless it is too long for one
 abbrev pub AreSpellable : List Row → Type 0
 AreSpellable documents = AllByRecursion (λ d. AreFields (fields_of d)) documents
 
--- so has each document of each namespace
+-- so is each document of each namespace
 abbrev pub AllSpellable : Lists → Type 0
 AllSpellable lists = (namespace : List ℕ) → AreSpellable (lists namespace)
 

@@ -6,7 +6,7 @@ ghost use Rattle.dv_value.specs.Spelling.{AreElements};
 ghost use Rattle.dv_value.specs.Tree.{Tree, elements_of};
 ghost use Rattle.dv_match.specs.Filter.{Members};
 ghost use Rattle.dv_row.specs.declared.unwind.Unwind.{Unwind};
-ghost use Rattle.dv_pipe.specs.Laws.{AgreeWhere, AllSpellable, AreSpellable, HasNoArrayOnWay, both, has_value};
+ghost use Rattle.dv_pipe.specs.Laws.{AgreeWhere, AllSpellable, AreSpellable, LeadsToNoArray, both, has_value};
 ghost use Rattle.dv_pipe.specs.Sources.{Row};
 ghost use Rattle.dv_pipe.specs.StageParsing.{pipeline_of};
 ghost use Rattle.dv_pipe.specs.Stages.{Lists, evaluated, is_looked_into, is_read, stage, through};
@@ -46,7 +46,7 @@ pub fn limit_of_a_limit()
 /// Unwinding a path that leads to an array nowhere keeps the rows that have a value other than null there, as they are.
 #[tactic(auto, using(crate::proofs::StageLaws::unwind_plain))]
 pub fn unwind_without_arrays()
-    ensures { (u : Unwind) (rows foreign : List Row) → u.preserve ≡ false → AllByRecursion (HasNoArrayOnWay u.path) rows → stage (Stage.Unwind u) rows foreign ≡ filter (has_value u.path) rows }
+    ensures { (u : Unwind) (rows foreign : List Row) → u.preserve ≡ false → AllByRecursion (LeadsToNoArray u.path) rows → stage (Stage.Unwind u) rows foreign ≡ filter (has_value u.path) rows }
 {}
 
 /// What a pipeline makes of valid documents is valid, if its stages were read from valid values.

@@ -9,17 +9,19 @@ use dv_coll::InsertFault;
 use dv_match::FilterFault;
 use dv_row::PipelineFault;
 use dv_update::UpdateFault;
-use dv_value::BsonFault;
+use dv_value::{BsonFault, NoMemory};
 use std::alloc::{AllocError, AllocFailed, Global};
 
 /// Why a command is refused: the server error codes of the MongoDB manual, and this server's own from 900 on.
 #[derive(Clone, Copy, Debug, PartialEq, Eq)]
 pub enum Refusal {
-    /// A name or a number is out of its rules (2).
+    /// A name, a number, a filter, a sort or an index's key breaks its rules; a document can't be stored as it is; or an update meets a
+    /// value that it can't change (2).
     BadValue,
-    /// A field is missing, unknown or repeated (9).
+    /// A field is missing or unknown, is both in the body and beside it, or asks for what is not supported; or an update or a stage has
+    /// none of the forms (9).
     FailedToParse,
-    /// A field has another type than it has to (14).
+    /// A field has another type than it has to, or `$inc` meets what is no number (14).
     TypeMismatch,
     /// A document of the message can't be read (22).
     InvalidBson(BsonFault),
@@ -109,7 +111,7 @@ impl Refusal {
 
     /// The refusal in words: the code's name, and after it why a document can't be read. Fails with `NoMemory` when memory runs
     /// out.
-    pub fn message(&self, alloc: Global) -> Result<String, AllocError>
+    pub fn message(&self, alloc: Global) -> Result<String, NoMemory>
         ensures { IfOk result (λ message. string_bytes message ≡ refusals.message_of self.now) }
     {
         match self {

@@ -10,7 +10,7 @@ use Rattle.dv_candidates.specs.declared.fault.PathFault.TheVariants as paths
 use Rattle.dv_row.specs.declared.fault.PipelineFault.{PipelineFault}
 use Rattle.dv_row.specs.declared.fault.PipelineFault.TheVariants.{NoMemory}
 use Rattle.dv_row.specs.declared.project.Project.TheVariants.{Include, Exclude}
-use Rattle.dv_row.specs.Inner.Fault.{pipeline_fault_of_path}
+use Rattle.dv_row.specs.Fault.{pipeline_fault_of_path}
 use Rattle.dv_row.specs.Expressions.{Expression, Computed, computed, computed_of}
 use Rattle.dv_value.specs.Results.{◌>>=◌, each}
 use Rattle.dv_value.specs.Inner.TreeLaws.{fields_again}

@@ -91,9 +91,6 @@ pub record IsSoFar (d rest : List Field) (asked : AskedMembers) (paths : List Wa
   pub gives : members_in nothing_asked d ≡ (if paths_conflict paths then Err Conflict else members_in asked rest)
   pub asks : (p : Way) → conflicts_with_asked p asked ≡ list_any (one_begins p) paths
 
-pub so-far-none : (d rest : List Field) (asked : AskedMembers) (paths : List Way) → rest ≡ d → asked ≡ nothing_asked → paths ≡ [] → IsSoFar d rest asked paths
-so-far-none d rest asked paths all is none = rw (all, is, none) (record { gives = refl; asks = λ p. refl })
-
 module _ (d rest : List Field) (asked : AskedMembers) (paths : List Way) (so-far : IsSoFar d rest asked paths) where
   pub so-far-all : rest ≡ [] → members_in nothing_asked d ≡ (if paths_conflict paths then Err Conflict else Ok asked)
   so-far-all over = so-far.gives ∙ ap (λ fs. if paths_conflict paths then Err Conflict else members_in asked fs) over

@@ -6,7 +6,7 @@ use Rattle.dv_value.specs.declared.value.Value.{Value}
 use Rattle.dv_row.specs.declared.unwind.Unwind.{Unwind}
 use Rattle.dv_value.specs.Names.{value_under}
 use Rattle.dv_candidates.specs.Candidates.{Candidate}
-use Rattle.dv_row.specs.Unwinding.{in_document, reached, set_through, preserved, rows_of_elements}
+use Rattle.dv_row.specs.Unwinding.{in_document, reached, set_through, rows_of_elements}
 
 module _ (name : List ℕ) (d : List Field) where
   pub reached-none : (rest : List (List ℕ)) → value_under name d ≡ None → reached (name ∷ rest) d ≡ None
@@ -43,6 +43,3 @@ rows-of_some u d (e ∷ es) vs seen some =
     again : (es : List Value) → map (λ v. set_through u.path (Some v) d) (list_of_elements (elements_of (map tree es))) ≡ map (λ v. set_through u.path (Some (tree v)) d) es
     again [] = refl
     again (e ∷ es) = ap (λ l. set_through u.path (Some (tree e)) d ∷ l) (again es)
-
-pub rows-of_none : (u : Unwind) (d : List Field) (es : List Value) (vs : List Tree) → map tree es ≡ vs → es ≡ [] → rows_of_elements u d (elements_of vs) ≡ preserved u.preserve (set_through u.path None d)
-rows-of_none u d es vs seen none = ap (λ l. rows_of_elements u d (elements_of l)) (sym seen) ∙ ap (λ l. rows_of_elements u d (elements_of (map tree l))) none

@@ -6,9 +6,6 @@ pub mod EachLaws
 pub mod Examples
 pub mod ExpressionCode
 pub mod ExpressionFalls
-pub mod ExpressionView
-pub mod Fault
-pub mod RowValueView
 pub mod Shown
 pub mod Turns
 pub mod UnwoundRows

@@ -5,5 +5,8 @@ pub mod Projecting
 pub mod ProjectParsing
 pub mod Row
 pub mod Unwinding
+pub mod ExpressionView
+pub mod Fault
+pub mod RowValueView
 -- what only bodies and proofs need
 pub mod Inner

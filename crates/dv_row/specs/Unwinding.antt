@@ -44,7 +44,8 @@ abbrev pub rows_of_elements : Unwind → Row → Elements → List Row
 rows_of_elements u d no_elements = preserved u.preserve (set_through u.path None d)
 rows_of_elements u d vs = map (λ v. set_through u.path (Some v) d) (list_of_elements vs)
 
--- the rows for what the path leads to; null and Missing count as an empty array, and any other value as one element
+-- the rows for what the path leads to: those of an array; for null or Missing the row itself, if rows without elements are kept; for any
+-- other value the row itself
 abbrev pub unwound_rows : Unwind → Row → Candidate → List Row
 unwound_rows u d None = preserved u.preserve d
 unwound_rows u d (Some null) = preserved u.preserve d

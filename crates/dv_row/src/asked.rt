@@ -8,7 +8,7 @@ ghost use Rattle.dv_row.specs.declared.fault.PipelineFault.TheVariants.{NoMemory
 ghost use Rattle.dv_candidates.specs.Path.{path_of};
 ghost use Rattle.dv_row.specs.Inner.AskedView.{asked as seen};
 ghost use Rattle.dv_row.specs.Inner.Conflicts.{TakesMember, paths_conflict as list_conflicts};
-ghost use Rattle.dv_row.specs.Inner.ExpressionView.{expression_seen, named};
+ghost use Rattle.dv_row.specs.ExpressionView.{expression_seen, named};
 ghost use Rattle.dv_row.specs.ProjectParsing as defined;
 ghost use Rattle.dv_row.specs.declared.fault.PipelineFault.TheVariants.{Conflict};
 
@@ -143,7 +143,7 @@ impl Asked {
         Ok(path)
     }
 
-    /// Adds a computed field. Where memory is wanting nothing is changed.
+    /// Adds a computed field. If memory runs out nothing is changed.
     fn add_computed(&mut self, alloc: Global, name: &str, expr: Expr) -> Result<(), NoMemory>
         ensures ok { OnOk result (seen self.new ≡ defined.with_computation name.now (expression_seen expr) (seen self.old)) }
         ensures err { OnErr result (seen self.new ≡ seen self.old) }

@@ -5,8 +5,8 @@ ghost use Rattle.std.specs.Option.{option_map};
 ghost use Rattle.dv_value.specs.Names.{value_at};
 ghost use Rattle.dv_value.specs.View.{tree};
 ghost use Rattle.dv_row.specs.Expressions as defined;
-ghost use Rattle.dv_row.specs.Inner.ExpressionView.{expression_seen, named};
-ghost use Rattle.dv_row.specs.Inner.RowValueView.{row_value};
+ghost use Rattle.dv_row.specs.ExpressionView.{expression_seen, named};
+ghost use Rattle.dv_row.specs.RowValueView.{row_value};
 
 use crate::conflict::has_conflict;
 use crate::row_value::{RowValue, made, path_value};
@@ -57,7 +57,7 @@ impl Model for Computed {
 
     ghost coded = { coded_computed };
 
-    ghost use Rattle.dv_row.specs.Inner.ExpressionView.{named};
+    ghost use Rattle.dv_row.specs.ExpressionView.{named};
 
     ghost view = { λ c. computed_of (map named c.fields.items) };
 
@@ -158,7 +158,7 @@ impl ComputedField {
 
 impl Computed {
     /// The list of these fields. Takes no memory.
-    pub fn of(fields: Vec<ComputedField>) -> Self
+    pub(crate) fn of(fields: Vec<ComputedField>) -> Self
         ensures { result ≡ defined.computed_of (map named fields.items) }
     {
         Computed {
@@ -167,7 +167,7 @@ impl Computed {
         }
     }
 
-    /// The same fields. If some of them show the same field of a row, they will share its text. Fails where memory is wanting.
+    /// The same fields. If some of them show the same field of a row, they will share its text. Fails when memory runs out.
     pub(crate) fn sharing(self, alloc: Global) -> Result<Self, NoMemory>
         ensures { IfOk result (λ computed. computed ≡ self) }
     {
@@ -189,7 +189,7 @@ impl Computed {
         Ok(())
     }
 
-    /// Puts the fields that aren't missing behind those of a document. Fails where memory is wanting.
+    /// Puts the fields that aren't missing behind those of a document. Fails when memory runs out.
     pub(crate) fn push_computed(
         &self,
         alloc: Global,
@@ -251,7 +251,7 @@ impl Computed {
 
 /// A row without fields that expects those of the row before it, if there is one: fields of the same names share them. Fails with
 /// `NoMemory` when memory runs out.
-pub fn row_beside(alloc: Global, before: Option<&Document>) -> Result<Document, NoMemory>
+pub(crate) fn row_beside(alloc: Global, before: Option<&Document>) -> Result<Document, NoMemory>
     ensures { IfOk result (λ row. row ≡ []) }
 {
     match before {

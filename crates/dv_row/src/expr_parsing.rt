@@ -6,7 +6,7 @@ ghost use Rattle.dv_value.specs.Tree.{string, fields_of};
 ghost use Rattle.dv_value.specs.View.{tree};
 ghost use Rattle.dv_value.specs.Results.{Gives};
 ghost use Rattle.dv_row.specs.declared.fault.PipelineFault.TheVariants.{NoMemory as no_memory};
-ghost use Rattle.dv_row.specs.Inner.ExpressionView.{expression_seen, named};
+ghost use Rattle.dv_row.specs.ExpressionView.{expression_seen, named};
 ghost use Rattle.dv_row.specs.ExpressionParsing as defined;
 
 use crate::expr::{Computed, ComputedField, Expr};

@@ -26,7 +26,7 @@ pub enum PipelineFault {
 }
 
 impl PipelineFault {
-    ghost use Rattle.dv_row.specs.Inner.Fault.{pipeline_fault_number};
+    ghost use Rattle.dv_row.specs.Fault.{pipeline_fault_number};
 
     /// The fault's number, from 1 in the order in which the faults are declared.
     pub fn number(&self) -> u8
@@ -45,7 +45,7 @@ impl PipelineFault {
 
 impl fmt::Display for PipelineFault {
     ghost use Rattle.std.specs.Prelude.{Some};
-    ghost use Rattle.dv_row.specs.Inner.Fault.{pipeline_fault_text};
+    ghost use Rattle.dv_row.specs.Fault.{pipeline_fault_text};
 
     ghost output = { λ f. Some (pipeline_fault_text f) };
 
@@ -80,7 +80,7 @@ impl<T: Drop> From<AllocFailed<T>> for PipelineFault {
 }
 
 impl From<PathFault> for PipelineFault {
-    ghost use Rattle.dv_row.specs.Inner.Fault.{pipeline_fault_of_path};
+    ghost use Rattle.dv_row.specs.Fault.{pipeline_fault_of_path};
 
     ghost from_gives = { λ fault e. e ≡ pipeline_fault_of_path fault };
 

@@ -34,7 +34,7 @@ pub(crate) enum Turn<'a> {
 }
 
 impl<'a> Level<'a> {
-    /// A document at its first field. One that was made before it lends its names. Fails where memory is wanting.
+    /// A document at its first field. One that was made before it lends its names. Fails when memory runs out.
     pub(crate) fn of(
         alloc: Global,
         ways: Ways<'a>,
@@ -52,7 +52,7 @@ impl<'a> Level<'a> {
         })
     }
 
-    /// The document behind the field that was entered, of which this is left. Fails where memory is wanting.
+    /// The document behind the field that was entered, of which this is left. Fails when memory runs out.
     pub(crate) fn with_inner(self, inner: Document) -> Result<Self, NoMemory>
         ensures left { IfOk result (λ level. (keeps : Bool) → left_at_end keeps level ≡ left_around keeps self.entry inner) }
         ensures further { IfOk result (λ level. fields_to_go level ≡ fields_behind self.entry) }

@@ -18,7 +18,7 @@ mod unwound_rows;
 mod way;
 mod ways;
 
-pub use expr::{Computed, ComputedField, Expr, copy_beside, push_field, row_beside};
+pub use expr::{Computed, ComputedField, Expr, copy_beside, push_field};
 pub use fault::PipelineFault;
 pub use paths::Paths;
 pub use project::Project;

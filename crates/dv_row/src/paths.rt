@@ -29,7 +29,7 @@ impl Model for Paths {
 
 impl Paths {
     /// The list of these paths. Costs comparisons of n log n for n paths. Fails with `NoMemory` when memory runs out.
-    pub fn of(paths: Vec<Path>) -> Result<Self, NoMemory>
+    pub(crate) fn of(paths: Vec<Path>) -> Result<Self, NoMemory>
         ensures { IfOk result (λ list. list ≡ paths.items) }
     {
         let mut ascending = copied(&paths)?;

@@ -33,7 +33,7 @@ impl Project {
         self.row_behind(alloc, row, None)
     }
 
-    /// The same. What was shown of the row before it lends its names, if there is one.
+    /// What is shown of the row, as `row`. It shares the names of what was shown of the row before it, if there is one.
     #[tactic(auto, unfolding(crate::specs::Projecting::projected))]
     pub fn row_behind(
         &self,

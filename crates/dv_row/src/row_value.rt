@@ -4,7 +4,7 @@ ghost use Rattle.std.specs.Prelude.{◌≡◌, IfOk, IfSome};
 ghost use Rattle.std.specs.Option.{option_flatten, option_map};
 ghost use Rattle.dv_value.specs.View.{tree};
 ghost use Rattle.dv_path.specs.Expression as defined;
-ghost use Rattle.dv_row.specs.Inner.RowValueView.{row_value};
+ghost use Rattle.dv_row.specs.RowValueView.{row_value};
 ghost use Rattle.dv_row.specs.Unwinding.{reached};
 
 use dv_candidates::{Component, Path};

@@ -74,7 +74,7 @@ impl Unwind {
     }
 
     /// Appends the rows of a row to others. Fails with `NoMemory` when memory runs out; then some of them may have been appended.
-    pub fn push_rows(&self, row: &Document, rows: &mut Vec<Document>) -> Result<(), NoMemory>
+    fn push_rows(&self, row: &Document, rows: &mut Vec<Document>) -> Result<(), NoMemory>
         ensures rows { OnOk result (rows.new.items ≡ rows.old.items ++ defined.unwound self.now row.now) }
         ensures begins { OnErr result (take (length rows.old.items) rows.new.items ≡ rows.old.items) }
     {

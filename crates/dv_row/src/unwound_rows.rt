@@ -97,7 +97,7 @@ impl<'a> UnwoundRows<'a> {
     }
 }
 
-/// For each place that both have, whether the elements there are the same. Fails where memory is wanting.
+/// For each place that both have, whether the elements there are the same. Fails when memory runs out.
 fn same_elements(alloc: Global, elements: &[Value], others: &[Value]) -> Result<Vec<bool>, NoMemory>
     ensures { IfOk result (λ same. same.items ≡ map (λ p. defined.is_same (tree p.0) (tree p.1)) (zip elements.now others.now)) }
 {

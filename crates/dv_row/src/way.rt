@@ -53,7 +53,7 @@ impl<'a> Stop<'a> {
         }
     }
 
-    /// The way on from here. Fails where memory is wanting.
+    /// The way on from here. Fails when memory runs out.
     fn crossing(&self) -> Result<Crossing<'a>, NoMemory>
         ensures document { IfOk result (λ crossing. crossing.document ≡ self.now.document.now) }
         ensures component { IfOk result (λ crossing. crossing.component.now ≡ self.now.component.now) }
@@ -89,7 +89,7 @@ impl<'a> Crossing<'a> {
 }
 
 impl<'a> Way<'a> {
-    /// The way that the path leads in the row. Fails where memory is wanting.
+    /// The way that the path leads in the row. Fails when memory runs out.
     pub(crate) fn of(alloc: Global, row: &'a Document, path: &'a Path) -> Result<Self, NoMemory>
         requires { IsSome (reached path.now row.now) }
         ensures { IfOk result (λ way. (v : Candidate) → set_through path.now v row.now ≡ set_on_way way v) }
@@ -114,8 +114,8 @@ impl<'a> Way<'a> {
         Ok(Way { outermost, inner })
     }
 
-    /// The row with the value in place of the one that the path leads to, or without that one. It shares what it doesn't
-    /// change. Fails where memory is wanting.
+    /// The row with the value in place of the one that the path leads to, or without that one. It shares what it doesn't change.
+    /// Fails when memory runs out.
     pub(crate) fn with(&self, value: Option<Value>) -> Result<Document, NoMemory>
         ensures { IfOk result (λ set. set ≡ set_on_way self.now (option_map tree value)) }
     {

@@ -12,7 +12,7 @@ use Rattle.dv_wire.specs.Inner.CountLaws.{one_more, no_more}
 use Rattle.dv_streams.specs.Stream.{MoreBy, once_more}
 use Rattle.dv_scripts.specs.Inner.Pieces.{StopsIn, TakesPiece}
 use Rattle.dv_scripts.specs.Script.{DoesLine, DoesLines, HasNoLf, Runs, OpenSessions, no_sessions, is_lf, standing_of}
-use Rattle.dv_scripts.specs.Stops.{AsksForScript, DoesWhole, EndsAt, FailsWriting, OfScript, StopsScript, StopsBy, script_read_failed, script_write_failed}
+use Rattle.dv_scripts.specs.Stops.{AsksForScript, DoesWhole, EndsAt, FailsWriting, OfScript, RunsTo, StopsScript, StopsBy, script_read_failed, script_write_failed}
 use Rattle.dv_streams.specs.Failures.{failures_behind, failures_told}
 use Rattle.dv_words.specs.declared.fault.ScriptFault.{ScriptFault}
 use Rattle.dv_scripts.specs.declared.sessions.Sessions as table
@@ -252,10 +252,9 @@ asked_most reads old new most least more = omega (arith, most, least, more)
 
 -- ---- behind the last flush
 
-pub ran_known : (from before after : Option (List ℕ)) (old new : OpenSessions) → OfScript (λ script text. Runs old script text new) from before after
-    → IfSome from (λ text. (said : List ℕ) × (end : OpenSessions) × Appends before after said × Runs old text said end × (end.hub ≡ new.hub))
-ran_known None before after old new ran = tt
-ran_known (Some known) before after old new ran = (ran.1, new, ran.3, subst (λ script. Runs old script ran.1 new) ran.2 ran.4, refl)
+pub ran_whole : (from before after : Option (List ℕ)) (old new : OpenSessions) → OfScript (λ script text. Runs old script text new) from before after
+    → OfScript (λ script text. RunsTo old script text new.hub) from before after
+ran_whole from before after old new ran = (ran.0, ran.1, ran.2, ran.3, (new, ran.4, refl))
 
 pub ran_kept : (from before middle after : Option (List ℕ)) (old new : OpenSessions) → OfScript (λ script text. Runs old script text new) from before middle → Keeps middle after
     → OfScript (λ script text. Runs old script text new) from before after

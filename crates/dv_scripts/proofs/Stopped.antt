@@ -7,7 +7,8 @@ use Rattle.dv_wire.specs.declared.fault.HubFault.TheVariants as hub
 use Rattle.dv_words.specs.Line.{IsLine}
 use Rattle.dv_scripts.specs.Output.{AreReplies, first_length}
 use Rattle.dv_scripts.specs.Script.{DoesOneLine, OpenSessions, open_fault}
-use Rattle.dv_scripts.specs.Stops.{EndsAt, OpensNone, StopsLine, number_in, script_read_failed, script_write_failed}
+use Rattle.dv_scripts.specs.Stops.{EndsAt, number_in, script_read_failed, script_write_failed}
+use Rattle.dv_scripts.specs.Inner.Lines.{OpensNone, StopsLine}
 use Rattle.dv_streams.specs.Failures.{failures_told}
 use Rattle.dv_words.specs.declared.said.Line.{Line}
 use Rattle.dv_words.specs.declared.fault.ScriptFault.{ScriptFault}
@@ -26,7 +27,7 @@ stops_unopened Read old meant number new named none = none
 stops_unopened TooManyReads old meant number new named none = none
 stops_unopened Write old meant number new named none = none
 stops_unopened NoMemory old meant number new named none = inl none
-stops_unopened Sessions old meant number new named none = (number, named, none)
+stops_unopened Sessions old meant number new named none = (number, named, none.0, none.1)
 
 -- ---- lines that are done, and whose answers aren't made
 

@@ -7,7 +7,7 @@ use Rattle.dv_wire.specs.Service.{AsksFew, most_reads}
 use Rattle.dv_streams.specs.Stream.{MoreBy, once_more}
 use Rattle.dv_wire.specs.declared.fault.HubFault.TheVariants.{TooManySessions}
 use Rattle.dv_words.specs.Line.{IsLine}
-use Rattle.dv_scripts.specs.Script.{DoesOneLine, DoesLine, DoesLines, IsBad, Runs, OpenSessions, is_lf, no_sessions}
+use Rattle.dv_scripts.specs.Script.{DoesLine, DoesLines, IsBad, Runs, OpenSessions, is_lf}
 use Rattle.dv_words.specs.declared.said.Line.{Line}
 use Rattle.dv_words.specs.declared.said.Line.TheVariants.{Skip, Bytes, End}
 use Rattle.dv_words.specs.declared.fault.ScriptFault.{ScriptFault}
@@ -21,23 +21,10 @@ number_in Skip = None
 number_in (Bytes number bytes) = Some number
 number_in (End number) = Some number
 
--- no session is opened for a number that has none: the hub refuses it, or memory ran out; the hub stays as it was
-abbrev pub OpensNone : ScriptFault → OpenSessions → ℕ → World → Type 0
-OpensNone (BadLine n) old number new = ⊥
-OpensNone Read old number new = ⊥
-OpensNone TooManyReads old number new = ⊥
-OpensNone Write old number new = ⊥
-OpensNone NoMemory old number new = new ≡ old.hub
-OpensNone Sessions old number new = (slice_get old.sessions number ≡ Some None) × Opens old.hub (Err TooManySessions) new
-
--- a line isn't carried out, since its session can't be opened; or memory runs out for the line or for what it prints
-abbrev pub StopsLine : ScriptFault → OpenSessions → Line → World → Type 0
-StopsLine (BadLine n) old meant new = ⊥
-StopsLine Read old meant new = ⊥
-StopsLine TooManyReads old meant new = ⊥
-StopsLine Write old meant new = ⊥
-StopsLine NoMemory old meant new = (new ≡ old.hub) ⊎ ((answer : List ℕ) × (end : OpenSessions) × DoesOneLine old meant answer end × (end.hub ≡ new))
-StopsLine Sessions old meant new = (number : ℕ) × (number_in meant ≡ Some number) × OpensNone Sessions old number new
+-- the number in a line has no session, and the hub refuses to open one
+abbrev pub IsRefused : OpenSessions → Line → World → Type 0
+IsRefused old meant new =
+    (number : ℕ) × (number_in meant ≡ Some number) × (slice_get old.sessions number ≡ Some None) × Opens old.hub (Err TooManySessions) new
 
 -- a line is carried out and only this part of its output is printed, or the line does nothing
 abbrev pub IsCutShort : OpenSessions → List ℕ → List ℕ → World → Type 0
@@ -52,7 +39,7 @@ EndsAt Read old number line part new = ⊥
 EndsAt TooManyReads old number line part new = ⊥
 EndsAt Write old number line part new = IsCutShort old line part new
 EndsAt NoMemory old number line part new = (part ≡ []) × IsCutShort old line part new
-EndsAt Sessions old number line part new = (part ≡ []) × ((meant : Line) × IsLine meant line × StopsLine Sessions old meant new)
+EndsAt Sessions old number line part new = (part ≡ []) × ((meant : Line) × IsLine meant line × IsRefused old meant new)
 
 -- ---- a whole script
 
@@ -68,6 +55,10 @@ pub record StopsScript (fault : ScriptFault) (old : OpenSessions) (script text :
   pub part : List ℕ
   pub written : text ≡ said ++ part
   pub why : EndsAt fault mid (suc (length lines)) line part new
+
+-- the script is carried out to its end and prints this text, and this is the world after it
+abbrev pub RunsTo : OpenSessions → List ℕ → List ℕ → World → Type 0
+RunsTo old script text new = (end : OpenSessions) × Runs old script text end × (end.hub ≡ new)
 
 -- all lines that were read with their line feed are carried out, and nothing that follows the last line feed
 pub record DoesWhole (old : OpenSessions) (read text : List ℕ) (new : World) : Type 0 where
@@ -86,18 +77,12 @@ OfScript Holds from before after = (script : List ℕ) × (text : List ℕ) × I
 abbrev pub OfRead : (List ℕ → List ℕ → Type 0) → Option (List ℕ) → Option (List ℕ) → Option (List ℕ) → Option (List ℕ) → Type 0
 OfRead Holds from to before after = (read : List ℕ) × (text : List ℕ) × Consumes from to read × Appends before after text × Holds read text
 
--- the script is carried out to its end, and what it prints is written
-abbrev pub RunsWhole : World → Option (List ℕ) → Option (List ℕ) → List ℕ → World → Type 0
-RunsWhole old before after script new =
-    (said : List ℕ) × (end : OpenSessions) × Appends before after said × Runs (no_sessions old) script said end × (end.hub ≡ new)
-
 -- What is done and printed when a script ends with a fault. The writer may also fail after the last line, when everything is printed.
 abbrev pub StopsBy : ScriptFault → OpenSessions → Option (List ℕ) → Option (List ℕ) → Option (List ℕ) → Option (List ℕ) → World → Type 0
 StopsBy (BadLine n) old from to before after new = OfScript (λ script text. StopsScript (BadLine n) old script text new) from before after
 StopsBy Read old from to before after new = OfRead (λ read text. DoesWhole old read text new) from to before after
 StopsBy TooManyReads old from to before after new = OfRead (λ read text. DoesWhole old read text new) from to before after
-StopsBy Write old from to before after new =
-    OfScript (λ script text. StopsScript Write old script text new ⊎ ((end : OpenSessions) × Runs old script text end × (end.hub ≡ new))) from before after
+StopsBy Write old from to before after new = OfScript (λ script text. StopsScript Write old script text new ⊎ RunsTo old script text new) from before after
 StopsBy NoMemory old from to before after new = OfScript (λ script text. StopsScript NoMemory old script text new) from before after
 StopsBy Sessions old from to before after new = OfScript (λ script text. StopsScript Sessions old script text new) from before after
 

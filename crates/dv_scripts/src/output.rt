@@ -7,7 +7,7 @@ use dv_wire::{CloseFault, Fed};
 use std::alloc::{AllocError, Global};
 
 /// The line of an end: the session's number in the script and how many bytes of an unfinished message are dropped.
-pub fn end_text(alloc: Global, number: u32, unfinished: usize) -> Result<String, AllocError>
+pub(crate) fn end_text(alloc: Global, number: u32, unfinished: usize) -> Result<String, AllocError>
     ensures { IfOk result (λ text. string_bytes text ≡ end_line number unfinished) }
 {
     format!(in alloc; "{number} end {unfinished}\n")
@@ -15,7 +15,7 @@ pub fn end_text(alloc: Global, number: u32, unfinished: usize) -> Result<String,
 
 /// The lines of what a session answered to a piece of its bytes: one for each of the replies, which come one after the other, and
 /// then, if it is closed, one with the fault's number.
-pub fn fed_text(alloc: Global, number: u32, replies: &[u8], fed: Fed) -> Result<String, AllocError>
+pub(crate) fn fed_text(alloc: Global, number: u32, replies: &[u8], fed: Fed) -> Result<String, AllocError>
     ensures { IfOk result (λ text. (all : List (List ℕ)) × AreReplies all replies.now × (string_bytes text ≡ fed_text number all fed)) }
 {
     let mut text = String::new(alloc);
@@ -45,7 +45,7 @@ fn push_closed(number: u32, fault: CloseFault, text: &mut String) -> Result<(), 
     write!(text, "{number} closed {fault}\n")
 }
 
-// The first reply and the others.
+/// The first reply and the others.
 fn first_reply(replies: &[u8]) -> (&[u8], &[u8])
     ensures first { result.0.now ≡ take (first_length replies.now) replies.now }
     ensures others { result.1.now ≡ drop (first_length replies.now) replies.now }
@@ -53,7 +53,7 @@ fn first_reply(replies: &[u8]) -> (&[u8], &[u8])
     replies.split_at(first_length(replies))
 }
 
-// How long the first reply is, which its first four bytes tell, the lowest byte first.
+/// How long the first reply is, which its first four bytes tell, the lowest byte first.
 #[tactic(auto, unfolding(crate::specs::Output::first_length))]
 fn first_length(replies: &[u8]) -> usize
     ensures { result ≡ first_length replies.now }

@@ -1,10 +1,11 @@
 //! Scripts: lines that bring bytes to the sessions of a hub.
 
-ghost use Rattle.std.specs.Prelude.{◌≡◌, ◌<◌, ◌+◌, ◌^◌, ◌↔◌, ◌⊎◌, ◌++◌, ◌∷◌, ℕ, [], length, replicate, string_bytes, suc, IfErr, IfOk, IfSome, IsTrue, MatchOption, OnOk};
+ghost use Rattle.std.specs.Prelude.{◌≡◌, ◌<◌, ◌+◌, ◌^◌, ◌↔◌, ◌⊎◌, ◌++◌, ◌∷◌, ℕ, [], length, replicate, string_bytes, suc, IfErr, IfOk, IsTrue, MatchOption, OnOk};
 ghost use Rattle.std.specs.Io.KnownBytes.{Keeps};
 ghost use Rattle.dv_scripts.specs.Script.{DoesOneLine, DoesLine, Finds, HasNoLf, no_sessions, open_fault, standing_of};
-ghost use Rattle.dv_scripts.specs.Stops.{AsksForScript, EndsAt, FailsWriting, OfScript, OpensNone, RunsWhole, StopsBy, StopsLine, script_read_failed, script_write_failed};
+ghost use Rattle.dv_scripts.specs.Stops.{AsksForScript, EndsAt, FailsWriting, OfScript, RunsTo, StopsBy, script_read_failed, script_write_failed};
 ghost use Rattle.dv_streams.specs.Failures.{failures_behind, failures_told};
+ghost use Rattle.dv_scripts.specs.Inner.Lines.{OpensNone, StopsLine};
 ghost use Rattle.dv_scripts.specs.Inner.Pieces.{DoesRead, EndsAtRead, RunsOn, StopsOn, TakesOn};
 
 use crate::output::{end_text, fed_text};
@@ -35,8 +36,8 @@ pub fn script<R: ByteIn, W: TextOut>(
     reader: &mut R,
     writer: &mut W,
 ) -> Result<(), ScriptFault>
-    ensures done { OnOk result (IfSome (R.remaining reader.old) (λ text.
-        RunsWhole hub.old (W.contents writer.old) (W.contents writer.new) text hub.new)) }
+    ensures done { OnOk result (OfScript (λ script text. RunsTo (no_sessions hub.old) script text hub.new)
+        (R.remaining reader.old) (W.contents writer.old) (W.contents writer.new)) }
     ensures stopped { IfErr result (λ fault. StopsBy fault (no_sessions hub.old) (R.remaining reader.old) (R.remaining reader.new)
         (W.contents writer.old) (W.contents writer.new) hub.new) }
     ensures reader { R.failures reader.new ≡ failures_told script_read_failed result (R.failures reader.old) }
@@ -120,7 +121,7 @@ impl Progress {
         Err(ScriptFault::TooManyReads)
     }
 
-    // Takes the next piece of the script, which may end any number of lines.
+    /// Takes the next piece of the script, which may end any number of lines.
     fn take<W: TextOut>(
         &mut self,
         hub: &mut Hub,
@@ -145,7 +146,7 @@ impl Progress {
         Ok(())
     }
 
-    // Keeps what comes next of the line, where that isn't too much.
+    /// Keeps what comes next of the line, where that isn't too much.
     fn keep(&mut self, part: &[u8]) -> Result<(), ScriptFault>
         ensures kept { self.new ≡ record self.old { line = self.new.line } }
         ensures line { OnOk result (self.new.line.items ≡ self.old.line.items ++ part.now) }
@@ -165,7 +166,7 @@ impl Progress {
         ScriptFault::BadLine { line: self.number }
     }
 
-    // Does the line that was read. At the script's end that is an empty one, where the last line has its LF.
+    /// Does the line that was read. At the script's end that is an empty one, where the last line has its LF.
     fn finish_line<W: TextOut>(&mut self, hub: &mut Hub, writer: &mut W) -> Result<(), ScriptFault>
         requires { suc self.old.number < 2 ^ 64 }
         ensures next { OnOk result ((self.new.line.items ≡ []) × (self.new.number ≡ suc self.old.number)) }
@@ -181,7 +182,7 @@ impl Progress {
         Ok(())
     }
 
-    // Does the line that was read, and answers what is to be written of it.
+    /// Does the line that was read, and returns what is to be written of it.
     fn do_line(&mut self, hub: &mut Hub) -> Result<String, ScriptFault>
         ensures kept { self.new ≡ record self.old { sessions = self.new.sessions } }
         ensures done { IfOk result (λ text.
@@ -235,7 +236,7 @@ impl Progress {
         Ok(end_text(self.alloc, number, unfinished)?)
     }
 
-    // The session of a number, which is opened if it isn't open.
+    /// The session of a number, which is opened if it isn't open.
     #[tactic(auto, using(crate::proofs::Stopped::opens_none))]
     fn session(&mut self, hub: &mut Hub, number: u32) -> Result<Session, ScriptFault>
         requires { number < 1000 }
@@ -260,7 +261,7 @@ impl Progress {
     }
 }
 
-// Why a script ends that opens no session.
+/// Why a script ends that opens no session.
 fn unopened(fault: HubFault) -> ScriptFault
     ensures { result ≡ open_fault fault }
 {
@@ -278,7 +279,7 @@ fn flush<W: TextOut>(writer: &mut W) -> Result<(), ScriptFault>
     writer.flush().map_err(|_| ScriptFault::Write)
 }
 
-// What stands in front of the first LF, and behind it.
+/// What stands in front of the first LF, and behind it.
 fn line_end(bytes: &[u8]) -> Option<(&[u8], &[u8])>
     ensures { MatchOption result (HasNoLf bytes.now) (λ found. HasNoLf found.0.now × (bytes.now ≡ found.0.now ++ 10 ∷ found.1.now)) }
 {

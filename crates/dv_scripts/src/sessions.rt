@@ -10,20 +10,20 @@ const PLACES: usize = NUMBERS as usize;
 
 /// What is under a number of the script.
 #[derive(Clone, Copy)]
-pub struct Session {
+pub(crate) struct Session {
     /// The session's number in the hub.
-    pub id: SessionId,
-    pub is_closed: bool,
+    pub(crate) id: SessionId,
+    pub(crate) is_closed: bool,
 }
 
 /// The sessions that were opened and haven't ended, by their numbers in the script.
 #[derive(Drop)]
-pub struct Sessions {
+pub(crate) struct Sessions {
     places: [Option<Session>; PLACES],
 }
 
 impl Sessions {
-    pub fn new() -> Self
+    pub(crate) fn new() -> Self
         ensures { result.places ≡ replicate 1000 None }
     {
         Sessions {
@@ -32,7 +32,7 @@ impl Sessions {
     }
 
     /// The session under a number.
-    pub fn get(&self, number: u32) -> Option<Session>
+    pub(crate) fn get(&self, number: u32) -> Option<Session>
         requires { number < 1000 }
         ensures { slice_get self.now.places number ≡ Some result }
     {
@@ -40,7 +40,7 @@ impl Sessions {
     }
 
     /// Puts a session, or none, under a number.
-    pub fn set(&mut self, number: u32, session: Option<Session>)
+    pub(crate) fn set(&mut self, number: u32, session: Option<Session>)
         requires { number < 1000 }
         ensures { self.new.places ≡ slice_set self.old.places number session }
     {

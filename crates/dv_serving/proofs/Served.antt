@@ -2,13 +2,14 @@
 use Rattle.std.proofs.Common.{◌≡◌, ℕ, ◌+◌, ◌<◌, ◌≤◌, List, [], ◌∷◌, ◌++◌, ◌∙◌, Option, Some, None, Result, Ok, Err, refl, sym, ap, subst, length, length-append, arith, append_assoc, append-nil}
 use Rattle.std.proofs.KnownBytes.{Appends-nil, Appends-trans}
 use Rattle.std.specs.Io.KnownBytes.{Appends}
+use Rattle.dv_host.specs.Outside.{Accepts, HasTaken}
 use Rattle.dv_wire.specs.Schedule.{Run, World}
 use Rattle.dv_wire.specs.Service.{ComesTo, Serves}
 use Rattle.dv_streams.specs.Stream.{MoreBy}
 use Rattle.dv_wire.specs.declared.fault.RunFault.{RunFault}
 use Rattle.dv_wire.specs.declared.fault.RunFault.TheVariants.{Read, Write, TooManyReads, Hub}
 use Rattle.dv_wire.specs.declared.service.Done.{Done}
-use Rattle.dv_serving.specs.Serve.{Accepts, Close, ClosesConnection, Come, Connection, Ended, HasSession, HasTaken, IsFresh, Served, ServesEach, connection_line}
+use Rattle.dv_serving.specs.Serve.{Close, ClosesConnection, Come, Connection, Ended, HasSession, IsFresh, Served, ServesEach, connection_line}
 
 -- so many connections are served, and the writer has taken what is written of them, and handed it on
 pub record ServedSoFar (connections count : ℕ) (coming_old coming_now : Option (List (List ℕ))) (closed_old closed_now : Option (List Ended)) (old now : World) (taken_old taken_now : Option (List ℕ)) (flushes_old flushes_now : ℕ) : Type 0 where

@@ -1,7 +1,7 @@
 -- Serving many connections at once, and what is printed.
-use Rattle.std.specs.Prelude.{◌≡◌, ◌⊎◌, ℕ, List, [], ◌++◌, codes, Bool, true, false, Option, Result, OnOk}
+use Rattle.std.specs.Prelude.{◌≡◌, ◌⊎◌, ℕ, List, ◌++◌, codes, Bool, true, false, Option, Result, OnOk}
 use Rattle.std.specs.Fmt.{decimal}
-use Rattle.dv_host.specs.Host.{Hosts}
+use Rattle.dv_host.specs.Host.{Served}
 use Rattle.dv_host.specs.Outside.{Closed}
 use Rattle.dv_host.specs.Schedule.{HappensBy, PlaysBy, answers as answers_of}
 use Rattle.dv_host.specs.declared.link.Fate.{Fate}
@@ -30,5 +30,5 @@ FailsTelling old true failures_old failures_new = (old ≡ true) ⊎ (failures_n
 abbrev pub Listened : {E : Type 0} → Result Unit E → ℕ → Option (List (List ℕ)) → Option (List (List ℕ)) → Option (List Closed) → Option (List Closed) → World → World → Type 0
 Listened result connections coming_old coming_new closed_old closed_new old new =
     (count : ℕ) × OnOk result (count ≡ connections)
-    × (hosts : Hosts (PlaysBy (HappensBy OpensAs FeedsAs EndsAs)) coming_old coming_new closed_old closed_new old new new.next count [])
-    × (said : List Said) × Plays old (events_of hosts.steps) said new × ((session : ℕ) → answers session (events_of hosts.steps) said ≡ answers_of session hosts.steps)
+    × (served : Served (PlaysBy (HappensBy OpensAs FeedsAs EndsAs)) coming_old coming_new closed_old closed_new old new count)
+    × (said : List Said) × Plays old (events_of served.steps) said new × ((session : ℕ) → answers session (events_of served.steps) said ≡ answers_of session served.steps)

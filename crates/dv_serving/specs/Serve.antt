@@ -1,7 +1,8 @@
 -- Serving connections one after the other, and what is printed.
-use Rattle.std.specs.Prelude.{◌≡◌, ℕ, ◌+◌, List, [], ◌∷◌, ◌++◌, length, codes, Bool, true, false, Option, Some, None, Result, Ok, Err, ⊤, IfSome}
+use Rattle.std.specs.Prelude.{◌≡◌, ℕ, ◌+◌, List, [], ◌∷◌, ◌++◌, length, codes, Bool, true, false, Option, Some, None, Result, Ok, Err, ⊤}
 use Rattle.std.specs.Fmt.{decimal}
 use Rattle.std.specs.Io.KnownBytes.{Appends}
+use Rattle.dv_host.specs.Outside.{Accepts, HasTaken}
 use Rattle.dv_streams.specs.Stream.{MoreBy}
 use Rattle.dv_message.specs.Fault.{close_number}
 use Rattle.dv_wire.specs.Schedule.{World}
@@ -37,16 +38,6 @@ pub record Connection : Type 0 where
   pub input : Option (List ℕ)
   pub left : Option (List ℕ)
   pub taken : Option (List ℕ)
-
--- the next connection arrives with these bytes, if they are known
-abbrev pub Accepts : Option (List (List ℕ)) → Option (List ℕ) → Option (List (List ℕ)) → Type 0
-Accepts None known new = ⊤
-Accepts (Some []) known new = ⊥
-Accepts (Some (bytes ∷ others)) known new = (known ≡ Some bytes) × (new ≡ Some others)
-
--- the output has taken these bytes, if they are known
-abbrev pub HasTaken : Option (List ℕ) → List ℕ → Type 0
-HasTaken taken bytes = IfSome taken (λ known. known ≡ bytes)
 
 -- the output has taken nothing yet; this is known if the outputs of closed connections are
 abbrev pub IsFresh : Option (List Ended) → Option (List ℕ) → Type 0
@@ -96,7 +87,7 @@ ServesAndTells coming closed contents flushes count listener_old writer_old old 
     (text : List ℕ) × Served count (coming listener_old) (coming listener_new) (closed listener_old) (closed listener_new) old text new
     × Appends (contents writer_old) (contents writer_new) text × MoreBy count (flushes writer_old) (flushes writer_new)
 
--- the same with one more connection, whose line isn't printed whole, or isn't flushed
+-- one connection more is served, and as many flushes succeed as there were connections before; what the writer then has isn't said
 abbrev pub ServesOneMore : {L W : Type 0} → (L → Option (List (List ℕ))) → (L → Option (List Ended)) → (W → ℕ) → ℕ → L → W → World → L → W → World → Type 0
 ServesOneMore coming closed flushes count listener_old writer_old old listener_new writer_new new =
     (text : List ℕ) × Served (count + 1) (coming listener_old) (coming listener_new) (closed listener_old) (closed listener_new) old text new

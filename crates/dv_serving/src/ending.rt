@@ -9,14 +9,14 @@ use dv_wire::{CloseFault, HubFault, RunFault};
 use dv_words::fault::DocdFault;
 
 /// Why the program ends whose one session was closed.
-pub fn of_close(fault: CloseFault) -> DocdFault
+pub(crate) fn of_close(fault: CloseFault) -> DocdFault
     ensures { result ≡ DocdFault.Closed (close_number fault) }
 {
     DocdFault::Closed(fault.number())
 }
 
 /// Why the program ends whose one session ended before the end of input.
-pub fn of_run(fault: RunFault) -> DocdFault
+pub(crate) fn of_run(fault: RunFault) -> DocdFault
     ensures { result ≡ fault_of_run fault }
 {
     match fault {

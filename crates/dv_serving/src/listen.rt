@@ -13,8 +13,8 @@ use std::alloc::Global;
 
 /// Connections. When one ends, a line is written and flushed: `connection K ended`, with its number from 1 in the order in which
 /// they came; `connection K closed F` if a closing fault of this number ended it, or 6 if there is no room for more of an
-/// unfinished message; `connection K failed` if it failed, or if no session could be opened. If the writer fails, waiting for more
-/// connections fails too.
+/// unfinished message, or no memory for its next bytes; `connection K failed` if it failed, or if no session could be opened. If the
+/// writer fails, waiting for more connections fails too.
 #[derive(Drop)]
 pub struct Telling<O: Outside, W: TextOut> {
     outside: O,
@@ -23,6 +23,7 @@ pub struct Telling<O: Outside, W: TextOut> {
 }
 
 impl<O: Outside, W: TextOut> Telling<O, W> {
+    /// These connections, and the writer of the lines.
     pub fn of(outside: O, writer: W) -> Self
         ensures outside { result.outside ≡ outside }
         ensures writer { result.writer ≡ writer }
@@ -90,7 +91,7 @@ impl<O: Outside, W: TextOut> Outside for Telling<O, W> {
     }
 }
 
-// Writes how a connection ended, and flushes it.
+/// Writes how a connection ended, and flushes it.
 fn tell<W: TextOut>(writer: &mut W, number: u64, fate: Fate) -> Result<(), Failed>
     ensures told { OnOk result (Appends (W.contents writer.old) (W.contents writer.new) (fate_line number fate)) }
     ensures failures { W.failures writer.new ≡ failures_behind result (W.failures writer.old) }
@@ -99,6 +100,7 @@ fn tell<W: TextOut>(writer: &mut W, number: u64, fate: Fate) -> Result<(), Faile
     writer.flush()
 }
 
+/// Writes the line of a connection that has ended. Fails if the writer does.
 fn write_fate<W: TextOut>(writer: &mut W, number: u64, fate: Fate) -> Result<(), Failed>
     ensures told { OnOk result (Appends (W.contents writer.old) (W.contents writer.new) (fate_line number fate)) }
     ensures failures { W.failures writer.new ≡ failures_behind result (W.failures writer.old) }

@@ -1,7 +1,7 @@
 //! Serving at a port of this machine's own network.
 
 use crate::listen::{Telling, listen_on};
-use crate::serve::{Port, serve_on};
+use crate::serve::{BlockingPort, serve_on};
 use dv_host::HostFault;
 use dv_streams::{CountedWriter, TextOut};
 use dv_wire::{Hub, Store};
@@ -11,31 +11,32 @@ use std::io::BufWriter;
 use std::net::{Ipv4Addr, Net, SocketAddr, SocketAddrV4, TcpListener, TcpStream};
 
 /// Serves so many connections at a port, one after the other, from an empty store, and writes to standard output what `serve_on` does,
-/// behind a line with the address. `Serve` if the port or a connection can't be had.
+/// after a line with the address. Fails with `Serve` if the port or a connection can't be had, with `Write` if a line can't be written,
+/// and with `NoMemory` if there is no memory for the writer's buffer.
 pub fn serve_port<R>(rt: &R, port: u16, connections: u32) -> Result<(), DocdFault>
 where
     R: Print + Net<Listener = TcpListener, Stream = TcpStream> + AllocGlobal,
 {
     let alloc = rt.alloc();
-    let address = SocketAddr::V4(SocketAddrV4::new(Ipv4Addr::LOCALHOST, port));
+    let address = address_of(port);
     let listener = TcpListener::bind(rt, address).map_err(|_| DocdFault::Serve)?;
     let writer = BufWriter::new(alloc, io::writer(rt)).map_err(|_| DocdFault::NoMemory)?;
     let mut writer = CountedWriter::of(writer);
-    write!(writer, "serving {address}\n").map_err(|_| DocdFault::Write)?;
-    writer.flush().map_err(|_| DocdFault::Write)?;
+    announce(&mut writer, address)?;
     let mut hub = Hub::new(alloc, Store::new(alloc));
     serve_on(
         alloc,
         &mut hub,
-        &mut Port::of(listener),
+        &mut BlockingPort::of(listener),
         connections,
         &mut writer,
     )?;
     Ok(())
 }
 
-/// Serves connections at a port, many of them at once: so many, or for good. It writes to standard output what `Telling` does, behind
-/// a line with the address. `Serve` if the port or a connection can't be had, and `Write` if a line could not be written.
+/// Serves connections at a port, many of them at once: so many, or for good. It writes to standard output what `Telling` does, after
+/// a line with the address. Fails with `Serve` if the port or a connection can't be had, with `Write` if a line can't be written, and
+/// with `NoMemory` if memory runs out for the writer's buffer or for serving.
 pub fn listen_at<R: Print + Net + AllocGlobal>(
     rt: &R,
     hub: &mut Hub,
@@ -46,8 +47,7 @@ pub fn listen_at<R: Print + Net + AllocGlobal>(
     let outside = dv_net::Port::bind(rt, alloc, port).map_err(|_| DocdFault::Serve)?;
     let writer = BufWriter::new(alloc, io::writer(rt)).map_err(|_| DocdFault::NoMemory)?;
     let mut writer = CountedWriter::of(writer);
-    write!(writer, "serving 127.0.0.1:{port}\n").map_err(|_| DocdFault::Write)?;
-    writer.flush().map_err(|_| DocdFault::Write)?;
+    announce(&mut writer, address_of(port))?;
     let mut outside = Telling::of(outside, writer);
     let connections = match connections {
         Some(connections) => connections as u64,
@@ -62,4 +62,15 @@ pub fn listen_at<R: Print + Net + AllocGlobal>(
         Err(HostFault::NoMemory) => Err(DocdFault::NoMemory),
         Err(HostFault::Wait | HostFault::Turns) => Err(DocdFault::Serve),
     }
+}
+
+/// A port of this machine's own network.
+fn address_of(port: u16) -> SocketAddr {
+    SocketAddr::V4(SocketAddrV4::new(Ipv4Addr::LOCALHOST, port))
+}
+
+/// Writes the line `serving ADDRESS`, and flushes it. Fails with `Write` if the writer does.
+fn announce<W: TextOut>(writer: &mut W, address: SocketAddr) -> Result<(), DocdFault> {
+    write!(writer, "serving {address}\n").map_err(|_| DocdFault::Write)?;
+    writer.flush().map_err(|_| DocdFault::Write)
 }

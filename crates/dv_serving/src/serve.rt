@@ -25,7 +25,8 @@ pub enum ServeFault {
 /// What connections come from.
 pub trait Listener {
     ghost use Rattle.std.specs.Prelude.{◌≡◌, ℕ, List, Option, IfOk, OnErr};
-    ghost use Rattle.dv_serving.specs.Serve.{Accepts, ClosesConnection, Ended, IsFresh};
+    ghost use Rattle.dv_host.specs.Outside.{Accepts};
+    ghost use Rattle.dv_serving.specs.Serve.{ClosesConnection, Ended, IsFresh};
     ghost use Rattle.dv_streams.specs.Failures.{failures_behind};
 
     /// Where a connection's bytes come from.
@@ -61,21 +62,22 @@ pub trait Listener {
 
 /// A port of this machine. Which bytes come from it isn't known.
 #[derive(Drop)]
-pub struct Port {
+pub struct BlockingPort {
     listener: TcpListener,
     failures: u64,
 }
 
-impl Port {
+impl BlockingPort {
+    /// The port at which the listener waits.
     pub fn of(listener: TcpListener) -> Self {
-        Port {
+        BlockingPort {
             listener,
             failures: 0,
         }
     }
 }
 
-impl Listener for Port {
+impl Listener for BlockingPort {
     ghost use Rattle.std.specs.Prelude.{None};
 
     type Input = CountedReader<TcpStream>;
@@ -92,11 +94,11 @@ impl Listener for Port {
         counted(connection(&self.listener), &mut self.failures)
     }
 
-    // Each side closes where it is dropped.
+    /// Each side closes where it is dropped.
     fn close(&mut self, _input: Self::Input, _output: Self::Output) {}
 }
 
-// The two sides of the next connection.
+/// The two sides of the next connection.
 fn connection(
     listener: &TcpListener,
 ) -> io::Result<(CountedReader<TcpStream>, CountedWriter<TcpStream>)> {
@@ -112,8 +114,8 @@ fn connection(
 /// flushed, before the next one is waited for: `connection K ended`; `connection K closed F` if a closing fault of this number
 /// ended it; `connection K failed` if its reader or its writer failed, it took too many reads, or no session could be opened.
 ///
-/// Fails with `Accept` if no connection comes and with `Write` if the writer fails. What was served stays; after `Write` the last
-/// connection's line wasn't written or not flushed, and those before it were.
+/// Fails with `Accept` if no connection comes and with `Write` if the writer fails. What was served stays; after `Write` as many
+/// flushes succeeded as there were connections before; what the writer then has isn't said.
 #[tactic(auto, using(crate::proofs::Served::all_served, crate::proofs::Served::none_accepted))]
 pub fn serve_on<L: Listener, W: TextOut>(
     alloc: Global,
@@ -140,7 +142,7 @@ pub fn serve_on<L: Listener, W: TextOut>(
     Ok(())
 }
 
-// Has the session of the next connection, and closes it.
+/// Has the session of the next connection, and closes it.
 fn serve_next<L: Listener>(
     alloc: Global,
     hub: &mut Hub,
@@ -158,7 +160,7 @@ fn serve_next<L: Listener>(
     Ok(told)
 }
 
-// Writes how a connection ended, and flushes it.
+/// Writes how a connection ended, and flushes it.
 fn tell<W: TextOut>(
     writer: &mut W,
     number: u32,

@@ -19,7 +19,7 @@ pub(crate) struct Row {
     pub(crate) document: Document,
 }
 
-/// The keys by which the sort has the document. Fails where memory is wanting.
+/// The keys by which the sort has the document. Fails when memory runs out.
 pub(crate) fn row_keys(
     alloc: Global,
     spec: &SortSpec,
@@ -35,7 +35,7 @@ pub(crate) fn row_keys(
     Ok(keys)
 }
 
-/// Puts the rows in order. Fails where memory is wanting, and then leaves them as they are.
+/// Puts the rows in order. Fails when memory runs out, and then leaves them as they are.
 pub(crate) fn sort_rows(rows: &mut Vec<Row>, spec: &SortSpec) -> Result<(), NoMemory>
     requires { AreKeyed spec.now rows.old.items }
     ensures keyed { AreKeyed spec.now rows.new.items }
@@ -47,7 +47,7 @@ pub(crate) fn sort_rows(rows: &mut Vec<Row>, spec: &SortSpec) -> Result<(), NoMe
     Ok(())
 }
 
-/// The documents of the rows, in their order. Fails where memory is wanting.
+/// The documents of the rows, in their order. Fails when memory runs out.
 pub(crate) fn documents_of(alloc: Global, rows: Vec<Row>) -> Result<Vec<Document>, NoMemory>
     ensures { IfOk result (λ found. found.items ≡ documents rows.items) }
 {

@@ -19,8 +19,8 @@ use std::marker::Model;
 /// The first documents of all that came, in the order of a sort; documents that the sort doesn't distinguish keep their order.
 ///
 /// Each document's keys are made once, and documents aren't copied. If `most` are wanted, at most twice as many are kept, a
-/// document costs a number of comparisons logarithmic in `most`, and one that comes after `most` others of an earlier time costs
-/// one and is dropped. Otherwise all are kept, and sorted at the end.
+/// document costs a number of comparisons logarithmic in `most`, and a document that sorts after the `most` first ones of the last
+/// cut costs one comparison and is dropped. Otherwise all are kept, and sorted at the end.
 #[derive(Debug, Drop)]
 pub struct Sorter<'a> {
     spec: &'a SortSpec,
@@ -95,8 +95,8 @@ impl<'a> Sorter<'a> {
     }
 }
 
-/// Keeps the first `most` rows in order, where there are twice as many, and the keys of the next one as the bar. Fails
-/// where memory is wanting, and then leaves the rows and the bar as they are.
+/// Keeps the first `most` rows in order, where there are twice as many, and the keys of the next one as the bar. Fails when
+/// memory runs out, and then leaves the rows and the bar as they are.
 fn keep_front(
     rows: &mut Vec<Row>,
     bar: &mut Option<Vec<Key>>,

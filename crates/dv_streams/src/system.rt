@@ -12,14 +12,14 @@ use std::io::{Read, Write};
 /// The most bytes that one read takes.
 const PIECE: usize = 65_536;
 
-/// Room for one read's bytes, 65,536 of them.
+/// Room for one read's bytes, 65,536 of them. Fails with `AllocError` when memory runs out.
 pub fn piece(alloc: Global) -> Result<Vec<u8>, AllocError>
     ensures { IfOk result (λ piece. length piece.items ≡ 65536) }
 {
     room(alloc, PIECE)
 }
 
-// Room for so many bytes. Apart, and of any size, so that no proof spells all of them out.
+/// Room for so many bytes. Apart, and of any size, so that no proof spells all of them out.
 fn room(alloc: Global, size: usize) -> Result<Vec<u8>, AllocError>
     ensures { IfOk result (λ room. length room.items ≡ size) }
 {
@@ -51,7 +51,7 @@ pub trait TextOut: ByteOut {
     // How often it has handed on what it took, as 64 bits count it.
     ghost flushes: { Self → ℕ };
 
-    /// Writes a text, all of it. `write!` calls this.
+    /// Writes a text, all of it. `write!` calls this. Fails if the writer does.
     fn write_fmt<D: Display>(&mut self, text: D) -> Result<(), Failed>
     where
         D: Drop,
@@ -59,7 +59,7 @@ pub trait TextOut: ByteOut {
         ensures failures { Self.failures self.new ≡ failures_behind result (Self.failures self.old) }
         ensures unflushed { flushes self.new ≡ flushes self.old };
 
-    /// Flushes what was written.
+    /// Flushes what was written. Fails if the writer does.
     fn flush(&mut self) -> Result<(), Failed>
         ensures kept { Keeps (Self.contents self.old) (Self.contents self.new) }
         ensures failures { Self.failures self.new ≡ failures_behind result (Self.failures self.old) }

@@ -6,16 +6,16 @@ use std::io::{ErrorKind, Read, Write};
 
 /// Returns its bytes one at a read, and fails at one of its calls.
 #[derive(Drop)]
-pub struct Dropping<'a> {
+pub struct FailingReader<'a> {
     bytes: &'a [u8],
     calls: usize,
     failing: usize,
 }
 
-impl<'a> Dropping<'a> {
+impl<'a> FailingReader<'a> {
     /// A reader of these bytes whose call of this number fails, from 1; none does if it is 0.
     pub fn failing(bytes: &'a [u8], failing: usize) -> Self {
-        Dropping {
+        FailingReader {
             bytes,
             calls: 0,
             failing,
@@ -23,7 +23,7 @@ impl<'a> Dropping<'a> {
     }
 }
 
-impl Read for Dropping<'_> {
+impl Read for FailingReader<'_> {
     fn read(&mut self, buf: &mut [u8]) -> io::Result<usize> {
         self.calls = self.calls.saturating_add(1);
         if self.calls == self.failing {
@@ -41,7 +41,7 @@ impl Read for Dropping<'_> {
 
 /// Takes one byte at a call, and fails at one of its calls; or takes none at any.
 #[derive(Drop)]
-pub struct Narrow {
+pub struct FailingWriter {
     /// What it has taken.
     pub taken: Vec<u8>,
     calls: usize,
@@ -49,10 +49,10 @@ pub struct Narrow {
     is_full: bool,
 }
 
-impl Narrow {
+impl FailingWriter {
     /// A writer whose call of this number fails, from 1; none does if it is 0.
     pub fn failing(alloc: Global, failing: usize) -> Self {
-        Narrow {
+        FailingWriter {
             taken: Vec::new(alloc),
             calls: 0,
             failing,
@@ -62,7 +62,7 @@ impl Narrow {
 
     /// A writer that takes no byte.
     pub fn full(alloc: Global) -> Self {
-        Narrow {
+        FailingWriter {
             taken: Vec::new(alloc),
             calls: 0,
             failing: 0,
@@ -76,7 +76,7 @@ impl Narrow {
     }
 }
 
-impl Write for Narrow {
+impl Write for FailingWriter {
     fn write(&mut self, buf: &[u8]) -> io::Result<usize> {
         if self.is_failing() {
             return Err(io::Error::from(ErrorKind::Other));

@@ -6,7 +6,8 @@ use dv_testing::spelled::{bytes_of, document};
 use std::alloc::Global;
 use std::test::Fail;
 
-/// The bytes of the reply to a command with documents beside it, which no want of memory is told of.
+/// The bytes of the reply to a command with lists of documents beside its body. Fails if there is no reply, or one that reports that
+/// memory ran out.
 pub(crate) fn told(
     alloc: Global,
     store: &mut Store,
@@ -19,6 +20,6 @@ pub(crate) fn told(
     };
     match store.execute(7, &command) {
         Outcome::Reply(reply) => bytes_of(alloc, &reply),
-        _ => Err(Fail::from("memory is wanting")),
+        _ => Err(Fail::from("memory ran out")),
     }
 }

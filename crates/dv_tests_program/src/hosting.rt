@@ -242,7 +242,7 @@ fn answers_each_of_many_connections(rt: HostRuntime) -> Result<(), Fail> {
     Ok(())
 }
 
-// In 20 turns not all bytes of the last one come; it is closed in any case.
+/// In 20 turns not all bytes of the last one come; it is closed in any case.
 #[test]
 fn ends_where_so_many_came_and_went(rt: HostRuntime) {
     let rows = [

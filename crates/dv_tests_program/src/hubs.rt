@@ -32,7 +32,7 @@ fn close(alloc: Global, hub: &mut Hub, session: SessionId) -> Fed {
     hub.feed(session, STRANGE, &mut Vec::new(alloc))
 }
 
-// Closed ones are among the thousand.
+/// Closed ones are among the thousand.
 #[test]
 fn a_thousand_sessions_are_open_at_most(rt: HostRuntime) {
     let alloc = rt.alloc();

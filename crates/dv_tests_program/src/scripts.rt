@@ -2,7 +2,7 @@
 
 use dv_scripts::script::{ScriptFault, script};
 use dv_streams::{CountedReader, CountedWriter};
-use dv_testing::fakes::{Dropping, Narrow};
+use dv_testing::fakes::{FailingReader, FailingWriter};
 use dv_wire::{Hub, Store};
 use std::alloc::Global;
 use std::test::Fail;
@@ -10,7 +10,7 @@ use std::test::Fail;
 /// What a script writes and how it ends, whose bytes come one at a read, of which this one fails.
 fn ran(alloc: Global, text: &str, failing: usize) -> Result<String, Fail> {
     let mut hub = Hub::new(alloc, Store::new(alloc));
-    let mut reader = CountedReader::of(Dropping::failing(text.as_bytes(), failing));
+    let mut reader = CountedReader::of(FailingReader::failing(text.as_bytes(), failing));
     let mut written = Vec::new(alloc);
     let done = script(
         alloc,
@@ -54,7 +54,7 @@ fn runs_scripts(rt: HostRuntime) -> Result<(), Fail> {
 fn ended(alloc: Global, failing: usize) -> Result<(), ScriptFault> {
     let mut hub = Hub::new(alloc, Store::new(alloc));
     let mut reader = CountedReader::of(b"0 end\n".as_slice());
-    let mut writer = CountedWriter::of(Narrow::failing(alloc, failing));
+    let mut writer = CountedWriter::of(FailingWriter::failing(alloc, failing));
     script(alloc, &mut hub, &mut reader, &mut writer)
 }
 

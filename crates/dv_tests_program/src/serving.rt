@@ -1,8 +1,8 @@
 //! Connections that are served: of a listener that fails, and over the loopback.
 
-use dv_serving::serve::{Listener, Port, ServeFault, serve_on};
+use dv_serving::serve::{BlockingPort, Listener, ServeFault, serve_on};
 use dv_streams::{CountedReader, CountedWriter, Failed};
-use dv_testing::fakes::Dropping;
+use dv_testing::fakes::FailingReader;
 use dv_testing::messages::{FIND, FOUND, INSERT, INSERTED, PING};
 use dv_wire::{Hub, Store};
 use std::alloc::Global;
@@ -23,7 +23,7 @@ struct Clients<'a> {
 impl<'a> Listener for Clients<'a> {
     ghost use Rattle.std.specs.Prelude.{None};
 
-    type Input = CountedReader<Dropping<'a>>;
+    type Input = CountedReader<FailingReader<'a>>;
 
     type Output = CountedWriter<Vec<u8>>;
 
@@ -40,7 +40,7 @@ impl<'a> Listener for Clients<'a> {
         };
         self.next = self.next.saturating_add(1);
         Ok((
-            CountedReader::of(Dropping::failing(bytes, failing)),
+            CountedReader::of(FailingReader::failing(bytes, failing)),
             CountedWriter::of(Vec::new(self.alloc)),
         ))
     }
@@ -104,7 +104,7 @@ fn served_at(alloc: Global, listener: TcpListener, connections: u32) -> Result<(
     serve_on(
         alloc,
         &mut hub,
-        &mut Port::of(listener),
+        &mut BlockingPort::of(listener),
         connections,
         &mut writer,
     )

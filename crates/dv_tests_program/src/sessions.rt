@@ -1,7 +1,7 @@
 //! Sessions over readers and writers.
 
 use dv_streams::{CountedReader, CountedWriter};
-use dv_testing::fakes::{Dropping, Narrow};
+use dv_testing::fakes::{FailingReader, FailingWriter};
 use dv_testing::messages::{FIND, FOUND, INSERT, INSERTED, PING, PONG};
 use dv_wire::{Fed, Hub, SessionId, Store, run};
 use std::alloc::Global;
@@ -13,9 +13,9 @@ fn told(
     hub: &mut Hub,
     bytes: &[u8],
     read: usize,
-    narrow: &mut Narrow,
+    narrow: &mut FailingWriter,
 ) -> Result<String, Fail> {
-    let mut reader = CountedReader::of(Dropping::failing(bytes, read));
+    let mut reader = CountedReader::of(FailingReader::failing(bytes, read));
     match run(alloc, hub, &mut reader, &mut CountedWriter::of(narrow)) {
         Ok(done) => {
             Ok(format!(in alloc; "{} {} {}", done.messages, done.replies, done.unfinished)?)
@@ -33,7 +33,7 @@ fn session(
     write: usize,
 ) -> Result<(String, Vec<u8>), Fail> {
     let mut hub = Hub::new(alloc, Store::new(alloc));
-    let mut narrow = Narrow::failing(alloc, write);
+    let mut narrow = FailingWriter::failing(alloc, write);
     let told = told(alloc, &mut hub, bytes, read, &mut narrow)?;
     Ok((told, narrow.taken))
 }
@@ -71,7 +71,7 @@ fn tells_failures_of_sessions(rt: HostRuntime) -> Result<(), Fail> {
 }
 
 /// What another session finds behind an insert whose reply this writer doesn't take, and what the session itself takes then.
-fn found_behind(alloc: Global, narrow: &mut Narrow) -> Result<(Vec<u8>, Fed), Fail> {
+fn found_behind(alloc: Global, narrow: &mut FailingWriter) -> Result<(Vec<u8>, Fed), Fail> {
     let mut hub = Hub::new(alloc, Store::new(alloc));
     let told = told(alloc, &mut hub, INSERT, 0, narrow)?;
     if told.as_str() != "Write" {
@@ -88,8 +88,8 @@ fn found_behind(alloc: Global, narrow: &mut Narrow) -> Result<(Vec<u8>, Fed), Fa
 fn what_is_not_told_is_done(rt: HostRuntime) -> Result<(), Fail> {
     let alloc = rt.alloc();
     let rows = [
-        (Narrow::failing(alloc, 11), &INSERTED[..10]),
-        (Narrow::full(alloc), b""),
+        (FailingWriter::failing(alloc, 11), &INSERTED[..10]),
+        (FailingWriter::full(alloc), b""),
     ];
     for (mut narrow, taken) in rows {
         let (found, fed) = found_behind(alloc, &mut narrow)?;

@@ -62,7 +62,7 @@ fn largest(alloc: Global) -> Result<(Vec<u8>, Vec<u8>), Fail> {
     Ok((largest, larger))
 }
 
-// No message brings so long a document, but a command may be made without one.
+/// No message brings so long a document, but a command may be made without one.
 #[test]
 fn a_document_has_at_most_16_mebibytes(rt: HostRuntime) -> Result<(), Fail> {
     let (largest, larger) = largest(rt.alloc())?;
@@ -116,7 +116,7 @@ fn a_command_has_at_most_100000_statements(rt: HostRuntime) -> Result<(), Fail> 
 const CUT: &[u8] =
     b"=\0\0\0\x10index\0\x03\0\0\0\x10code\0\x84\x03\0\0\x02errmsg\0\x0d\0\0\0WantOfMemory\0\x10done\0\x05\0\0\0\0";
 
-// Memory is never wanting here, so that no statement is cut.
+/// Memory is never wanting here, so that no statement is cut.
 #[test]
 fn a_cut_statement_tells_what_is_done(rt: HostRuntime) -> Result<(), Fail> {
     let alloc = rt.alloc();

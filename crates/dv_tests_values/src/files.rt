@@ -2,7 +2,7 @@
 
 use dv_files::check::{CheckFault, check};
 use dv_streams::{CountedReader, CountedWriter};
-use dv_testing::fakes::{Dropping, Narrow};
+use dv_testing::fakes::{FailingReader, FailingWriter};
 use dv_words::fault::DocdFault;
 use std::alloc::Global;
 use std::test::Fail;
@@ -60,8 +60,8 @@ fn counts_documents(rt: HostRuntime) -> Result<(), Fail> {
 
 /// What a check of the two documents comes to over a reader and a writer of which these calls fail.
 fn checked_over(alloc: Global, read: usize, written: usize) -> Result<(), CheckFault> {
-    let mut reader = CountedReader::of(Dropping::failing(TWO, read));
-    let mut writer = CountedWriter::of(Narrow::failing(alloc, written));
+    let mut reader = CountedReader::of(FailingReader::failing(TWO, read));
+    let mut writer = CountedWriter::of(FailingWriter::failing(alloc, written));
     check(alloc, &mut reader, &mut writer)
 }
 

@@ -40,7 +40,7 @@ const FOUND: [&[u8]; 3] = [
     b"\x15\0\0\0\x10_id\0\x02\0\0\0\x10a\0\x07\0\0\0\0",
 ];
 
-// A row that matches no longer is handed on as gone only by one who knows that it matched.
+/// A row that matches no longer is handed on as gone only by one who knows that it matched.
 #[test]
 fn a_view_stays_live_behind_documents_that_are_put_and_gone(rt: HostRuntime) -> Result<(), Fail> {
     let alloc = rt.alloc();

@@ -1,5 +1,5 @@
 -- What stands in for a result is refused as the result itself is.
-use Rattle.std.proofs.Common.{◌≡◌, ◌∙◌, ap, sym, refl, List, [], ◌∷◌, ℕ, suc, ◌<◌, ◌≤◌, Bool, true, false, not, nat_lt, length, Option, Some, None, Result, Ok, Err, arith, if◌then◌else◌}
+use Rattle.std.proofs.Common.{◌≡◌, ◌∙◌, ap, sym, refl, List, [], ◌∷◌, ℕ, suc, ◌<◌, ◌≤◌, Bool, true, false, not, nat_lt, length, Option, Some, None, Ok, Err, arith, if◌then◌else◌}
 use Rattle.std.specs.Option.{option_map}
 use Rattle.std.proofs.lemmas.Bool.Decides.{nat_tests}
 use Rattle.dv_value.specs.Spelling.{payload, levels, spelling}
@@ -9,13 +9,9 @@ use Rattle.dv_order.specs.Same.{both_same, is_same}
 use Rattle.dv_order.specs.Inner.SameLaws.{same-is}
 use Rattle.dv_update.specs.Apply.{leading_id, is_id, checked, document_limit, level_limit}
 use Rattle.dv_update.specs.Inner.StandIn.{down_to, fields_down_to, Alike, most_levels}
-use Rattle.dv_update.specs.declared.fault.UpdateFault.{UpdateFault}
 use Rattle.dv_update.specs.declared.fault.UpdateFault.TheVariants.{IdChanged, TooLarge, TooDeep}
 use Rattle.dv_update.proofs.DownTo.{document-marked}
 use Rattle.dv_update.proofs.AlikeDown.{length-marked, equal-shallow}
-
-as-told : (a b : Bool) (d : List Field) → (if not a then Err IdChanged else if b then Err TooLarge else if true then Err TooDeep else Ok d) ≡ (let r : Result (List Field) UpdateFault = if not a then Err IdChanged else if b then Err TooLarge else Err TooDeep in r)
-as-told a b d = refl
 
 leading-marked : (n : ℕ) (d : List Field) → leading_id (fields_down_to n d) ≡ option_map (down_to n) (leading_id d)
 unfolding fields_down_to

@@ -170,9 +170,6 @@ module _ {written left done : List Edit} (rest : List Edit) (so-far : IsPlaced w
   pub not_placed : list_any (conflicts e) done ≡ true → has_conflict written ≡ true
   not_placed h = before ∙ later rest h
 
-pub all_placed : {written left done : List Edit} → IsPlaced written left done → left ≡ [] → (done ≡ sorted written) × (has_conflict written ≡ has_conflict done)
-all_placed {written} {left} {done} so-far none = (sym (so-far.sorted ∙ ap (λ es. onto es done) none), so-far.alike ∙ ap (λ es. has_conflict (es ++ done)) none)
-
 -- ---- the loop that takes the edits out of the map again
 
 abbrev pub Rises : List Edit → Type 0

@@ -1,5 +1,5 @@
 -- Two lists gone through side by side from the front, where what is left of both decides.
-use Rattle.std.specs.Prelude.{◌≡◌, ℕ, ◌&&◌, nat_le, not, Bool, List, ◌∷◌, length, true, false, refl, ◌⊎◌}
+use Rattle.std.specs.Prelude.{◌≡◌, ℕ, nat_le, List, ◌∷◌, length, true, false, ◌⊎◌}
 use Rattle.std.proofs.Common.{sym, ◌∙◌, arith}
 use Rattle.std.specs.declared.cmp.Ordering.{Ordering}
 use Rattle.std.specs.declared.cmp.Ordering.TheVariants.{Less, Equal, Greater}
@@ -28,15 +28,3 @@ module _ {A : Type 0} (R : A → A → Ordering) {xs ys us vs : List A} (left : 
 
     pub order-decided : true ≡ is_ne r → r ≡ slice_cmp R xs ys
     order-decided h = decided left p q r ((λ i. ordering_then (sym is i) (slice_cmp R us' vs')) ∙ first_is r (slice_cmp R us' vs') h)
-
-pub and-true : (p q : Bool) → false ≡ not p → true ≡ q → (p && q) ≡ true
-and-true true q h e = sym e
-and-true false q h e = cc
-
-pub and-first : (p q : Bool) → true ≡ not p → (p && q) ≡ false
-and-first true q h = cc
-and-first false q h = refl
-
-pub and-second : (p q : Bool) → false ≡ q → (p && q) ≡ false
-and-second true q h = sym h
-and-second false q h = refl

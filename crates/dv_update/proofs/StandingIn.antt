@@ -2,12 +2,9 @@
 use Rattle.std.proofs.Common.{◌≡◌, ◌≢◌, ◌∙◌, ap, sym, refl, List, [], ℕ, ◌+◌, ◌-◌, ◌<◌, ◌≤◌, true, false, length, length-drop, drop, Option, Some, None, Result, Ok, Err, ◌⊎◌, inl, inr, arith, is_some}
 use Rattle.dv_value.specs.Spelling.{payload, levels}
 use Rattle.dv_value.specs.Tree.{Tree, document, null, Field, fields_of}
-use Rattle.dv_path.specs.Placing.{put}
-use Rattle.dv_candidates.specs.declared.fault.PathFault.{PathFault}
 use Rattle.dv_candidates.specs.declared.fault.PathFault.TheVariants as paths
 use Rattle.dv_path.specs.Slots.{slot, slot_behind, free, blocked}
-use Rattle.dv_update.specs.Apply.{Path, told, set_at, edit_at, checked}
-use Rattle.dv_update.specs.OtherFaults.{of_path}
+use Rattle.dv_update.specs.Apply.{Path, set_at, edit_at, checked}
 use Rattle.dv_value.specs.Results.{◌>>=◌}
 use Rattle.dv_update.specs.PathOrder.{begins}
 use Rattle.dv_update.specs.Removals.{is_removal}
@@ -43,19 +40,10 @@ module _ (path : Path) (o : Operation) (some : path ≢ []) (near : length path 
   near_refused f (inl none) = inl none
   near_refused f (inr is) = inr (alike_refused (edit_at path o d) (edit_at path o e) f (short_edit path o d e some near other shallow alike) is)
 
--- ---- paths of many components
-
-told-refused : (r : Result (List Field) PathFault) (e : PathFault) → (e ≡ paths.NoMemory) ⊎ (r ≡ Err e) → (of_path e ≡ NoMemory) ⊎ (told r ≡ Err (of_path e))
-told-refused r e (inl none) = inl (ap of_path none)
-told-refused r e (inr is) = inr (ap told is)
-
 module _ (made : Result (List Field) UpdateFault) (set : Result (List Field) UpdateFault) (refused : (f : UpdateFault) → set ≡ Err f → made ≡ Err f) where
   pub far_refused_so : (f : UpdateFault) → (f ≡ NoMemory) ⊎ (set ≡ Err f) → (f ≡ NoMemory) ⊎ (made ≡ Err f)
   far_refused_so f (inl none) = inl none
   far_refused_so f (inr is) = inr (refused f is)
-
-pub put_refused : (s : Path) (e : List Field) (t : Tree) (fault : PathFault) → (fault ≡ paths.NoMemory) ⊎ (put e s t ≡ Err fault) → (of_path fault ≡ NoMemory) ⊎ (set_at s t e ≡ Err (of_path fault))
-put_refused s e t fault h = told-refused (put e s t) fault h
 
 far_stands : (made : Result (List Field) UpdateFault) (f : List Field) (last : Last) → IsFar made last.beginning last.rest.now last.size f → (after : List Field) × (made ≡ Ok after) × Stands after f (Some last)
 far_stands made f last far = (far.after, far.is, record { alike = far.alike; known = far.last })

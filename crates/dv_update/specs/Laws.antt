@@ -9,9 +9,10 @@ use Rattle.dv_update.specs.Apply.{leading_id}
 abbrev pub have_same_id : List Field → List Field → Bool
 have_same_id d after = both_same (leading_id d) (leading_id after)
 
--- the document is over the limits for stored documents: longer than 16,777,216 bytes, or deeper than 100 nesting levels
+-- the document's encoding is longer than 16,777,216 bytes
 abbrev pub ExceedsSize : List Field → Type 0
 ExceedsSize d = 16777216 < length (spelling d)
 
+-- the document has more than 100 nesting levels
 abbrev pub ExceedsDepth : List Field → Type 0
 ExceedsDepth d = 100 < levels (document (fields_of d))

@@ -18,14 +18,11 @@ use crate::filling::refuse_too_large;
 use crate::form::Update;
 use crate::stand_in::edited_or_alike;
 use dv_order::is_same;
-use dv_value::{Document, NoMemory, Value, fits, size};
+use dv_value::{Document, MAX_DOCUMENT_LEN, NoMemory, Value, fits, size};
 use std::alloc::Global;
 
 /// The name of the field that a stored document begins with.
 pub(crate) const ID: &str = "_id";
-
-/// The length in bytes of the longest document that is stored.
-pub(crate) const MAX_DOCUMENT_LEN: u32 = 16_777_216;
 
 impl Update {
     /// What the update makes of the document, which stays as it is.
@@ -77,7 +74,7 @@ impl Update {
     }
 }
 
-/// The fields with the `_id` of their own, or else the document's, in front. Fails where memory is wanting.
+/// The fields with the `_id` of their own, or else the document's, in front. Fails when memory runs out.
 fn replaced(alloc: Global, fields: &Document, document: &Document) -> Result<Document, NoMemory>
     ensures { IfOk result (λ changed. changed ≡ defined.replaced fields.now document.now) }
 {
@@ -90,7 +87,7 @@ fn replaced(alloc: Global, fields: &Document, document: &Document) -> Result<Doc
     Ok(changed)
 }
 
-/// A document with this `_id`, where there is one, and nothing else. Fails where memory is wanting.
+/// A document with this `_id`, where there is one, and nothing else. Fails when memory runs out.
 fn id_alone(alloc: Global, id: Option<&Value>) -> Result<Document, NoMemory>
     ensures { IfOk result (λ document. document ≡ defined.with_id (option_map (λ id. tree id.now) id.entry) []) }
 {

@@ -105,7 +105,7 @@ fn appended(values: &List, slot: Slot<'_>) -> Result<List, UpdateFault>
     }
 }
 
-/// A list with the values at its end. Fails where memory is wanting.
+/// A list with the values at its end. Fails when memory runs out.
 fn joined(list: &List, values: &List) -> Result<List, NoMemory>
     ensures { IfOk result (λ joined. joined ≡ list.now ++ values.now) }
 {
@@ -161,7 +161,7 @@ impl Pulled {
         false
     }
 
-    /// The elements that aren't taken out, in order. Fails where memory is wanting.
+    /// The elements that aren't taken out, in order. Fails when memory runs out.
     fn left(&self, alloc: Global, list: &List) -> Result<List, NoMemory>
         ensures { IfOk result (λ left. left ≡ defined.left (which self.now) list.now) }
     {

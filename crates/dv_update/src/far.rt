@@ -44,7 +44,7 @@ pub(crate) fn lead_far(edits: &[Edit]) -> bool {
         .any(|edit| edit.path.components().len() > MOST_COMPONENTS)
 }
 
-/// The path of as many first components as are made. Fails where memory is wanting.
+/// The path of as many first components as are made. Fails when memory runs out.
 pub(crate) fn beginning(alloc: Global, path: &Path) -> Result<Option<Path>, NoMemory>
     ensures { IfOk result (λ found. IfSome found (λ beginning. (length beginning ≡ 300) × (begins_with beginning path.now ≡ true))) }
 {
@@ -70,7 +70,7 @@ pub(crate) fn further(path: &Path) -> &[Component]
     &components[MOST_COMPONENTS..]
 }
 
-/// As many first components as are made, with dots between them. Fails where memory is wanting.
+/// As many first components as are made, with dots between them. Fails when memory runs out.
 fn joined(alloc: Global, components: &[Component]) -> Result<String, NoMemory> {
     let mut text = String::new(alloc);
     'components: for component in components.iter().take(MOST_COMPONENTS) {

@@ -19,7 +19,7 @@ ghost use Rattle.dv_update.specs.Removals as last_of;
 ghost use Rattle.dv_update.specs.View.{edit as seen};
 ghost use Rattle.dv_update.specs.declared.fault.UpdateFault.TheVariants.{NoMemory as wanting};
 
-use crate::apply::{ID, MAX_DOCUMENT_LEN, keeps_id, leading_id};
+use crate::apply::{ID, keeps_id, leading_id};
 use crate::edits::removals;
 use crate::far::lead_far;
 use crate::fault::UpdateFault;
@@ -28,11 +28,11 @@ use crate::laws;
 use crate::order::{are_apart, is_beginning};
 use dv_candidates::{Component, Path};
 use dv_path::remove_each;
-use dv_value::{Document, List, NoMemory, Value};
+use dv_value::{Document, List, MAX_DOCUMENT_LEN, NoMemory, Value};
 use std::alloc::Global;
 
-/// How many nulls are few enough to be made.
-const MANY: usize = 1_000_000;
+/// The most nulls that are made without counting them first.
+const FEW_NULLS: usize = 1_000_000;
 
 /// How many nulls one path fills in at most.
 const MOST_FILLED: usize = 100_000;
@@ -69,7 +69,7 @@ fn may_fill_much(edits: &[Edit]) -> bool {
     'edits: for edit in edits {
         filled = filled.saturating_add(most_filled(&edit.path));
     }
-    filled > MANY
+    filled > FEW_NULLS
 }
 
 /// How many nulls are filled in at most where the path leads beyond an array's end.
@@ -133,7 +133,7 @@ fn fills_id(document: &Document, edit: &Edit) -> bool
         && fill_of(document, edit).is_some()
 }
 
-/// Whether the arrays that are filled are surely too long together, where no edit is refused. Fails where memory is wanting.
+/// Whether the arrays that are filled are surely too long together, where no edit is refused. Fails when memory runs out.
 fn fill_too_much(alloc: Global, edits: &[Edit], document: &Document) -> Result<bool, NoMemory>
     requires { Steps (map seen edits.now) }
     ensures { IfOk result (λ much. IsTrue much → IsTooLarge (defined.edited (last_of.other_edits (map seen edits.now)) document.now)) }
@@ -145,7 +145,7 @@ fn fill_too_much(alloc: Global, edits: &[Edit], document: &Document) -> Result<b
     Ok(least_size(&fills) > MAX_DOCUMENT_LEN as usize)
 }
 
-/// Where edits fill arrays of the document, in order. Fails where memory is wanting.
+/// Where edits fill arrays of the document, in order. Fails when memory runs out.
 fn fills<'a>(
     alloc: Global,
     edits: &'a [Edit],

@@ -75,7 +75,7 @@ impl Model for Edits {
 
 impl Edits {
     /// The list of these edits. Takes no memory.
-    pub fn of(edits: Vec<Edit>) -> Self
+    pub(crate) fn of(edits: Vec<Edit>) -> Self
         ensures { result ≡ map edit edits.items }
     {
         Edits { edits }

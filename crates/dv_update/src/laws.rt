@@ -41,7 +41,7 @@ pub fn removals_may_come_last()
     dv_path::laws::paths_that_part_are_independent();
 }
 
-/// And before them.
+/// If no path begins or equals another one, removals may be made before all other edits.
 pub fn removals_may_come_first()
     ensures { (edits : List Edit) (d : List Field) → has_conflict edits ≡ false → edited edits d ≡ edited (other_edits edits) (remove_each d (removals edits)) }
 {

@@ -25,7 +25,7 @@ use dv_value::{Document, FieldChange, List, NoMemory, Value, laws};
 const AROUND_NAME: usize = 2;
 
 /// An element's place has at most six digits in an array of fewer elements.
-const MANY: usize = 1_000_000;
+const SIX_DIGITS: usize = 1_000_000;
 
 /// What stands around an element then: its type byte, the digits and a zero byte.
 const AROUND_ELEMENT: usize = 8;
@@ -38,7 +38,7 @@ const ABOVE_ELEMENT: u32 = 2;
 
 impl Operation {
     /// What the operator makes of a document under a name other than `_id`, where it changes that field alone and the document
-    /// surely has room for it. Fails where memory is wanting.
+    /// surely has room for it. Fails when memory runs out.
     pub(crate) fn outcome_under(
         &self,
         document: &Document,
@@ -57,8 +57,8 @@ impl Operation {
         }
     }
 
-    /// The value that comes where this one stands, or none, if the operator is refused by neither and looks into no document
-    /// or array. Fails where memory is wanting.
+    /// The value that comes where this one stands, or none, if the operator is refused by neither and looks into no document or
+    /// array. Fails when memory runs out.
     fn value_for(&self, there: Option<&Value>) -> Result<Option<Value>, NoMemory>
         ensures { IfOk result (λ found. IfSome found (λ value. defined_inner.value_by (operation self.now) (slot_of (option_map (λ there. tree there.now) there.entry)) ≡ Ok (tree value))) }
     {
@@ -110,7 +110,7 @@ fn stands_under(document: &Document, name: &str, value: &Value) -> bool
 }
 
 /// What `$push` of the values makes under the name, if it is one, an array is there, and the document surely has room for it.
-/// Fails where memory is wanting.
+/// Fails when memory runs out.
 fn pushed_under(document: &Document, name: &str, values: &List) -> Result<Option<Outcome>, NoMemory>
     requires { bytes_eq name.now (codes "_id") ≡ false }
     ensures applied { IfOk result (λ found. IfSome found (λ outcome. defined_inner.IsOutcomeUnder name.now (append values.now) document.now outcome)) }
@@ -123,7 +123,9 @@ fn pushed_under(document: &Document, name: &str, values: &List) -> Result<Option
     let Some(Value::Array(list)) = document.get(name) else {
         return Ok(None);
     };
-    if list.as_slice().len() >= MANY || !has_room(document, AROUND_ELEMENT, ABOVE_ELEMENT, value) {
+    if list.as_slice().len() >= SIX_DIGITS
+        || !has_room(document, AROUND_ELEMENT, ABOVE_ELEMENT, value)
+    {
         return Ok(None);
     }
     let pushed = value.try_clone()?;

@@ -39,7 +39,7 @@ impl Outcome {
         matches!(self, Outcome::Same)
     }
 
-    /// Lets a whole document lie beside another one's names, if it has the same. Nothing that a caller sees changes but how much
+    /// Has a whole document share the names of another one, if they are the same. Nothing that a caller sees changes but how much
     /// memory is taken.
     pub fn share_names(&mut self, with: &Outcome)
         ensures seen { (name : List ℕ) → (d : List Field) → defined.outcome_seen name d self.new ≡ defined.outcome_seen name d self.old }
@@ -81,7 +81,7 @@ impl Update {
         }
     }
 
-    /// The same, but always with a whole document.
+    /// What the update makes of the document, as `outcome`, but always as a whole document or as `Same`.
     pub fn whole_outcome(&self, alloc: Global, document: &Document) -> Result<Outcome, UpdateFault>
         ensures applied { Gives no_memory (λ outcome. defined.document_seen (update self.now) document.now outcome) result (applied (update self.now) document.now) }
         ensures same { IfOk result (λ outcome. defined.stays outcome ≡ defined.stays_so (defined.sole_name (update self.now)) document.now outcome) }
@@ -94,8 +94,8 @@ impl Update {
         Ok(Outcome::Whole(after))
     }
 
-    /// The outcome where the field under the sole name is all that changes, in a document that surely has room for it. Fails
-    /// where memory is wanting.
+    /// The outcome where the field under the sole name is all that changes, in a document that surely has room for it. Fails when
+    /// memory runs out.
     fn field_alone(&self, document: &Document) -> Result<Option<Outcome>, NoMemory>
         ensures applied { IfOk result (λ found. IfSome found (λ outcome. IsOutcome (update self.now) document.now outcome)) }
         ensures same { IfOk result (λ found. IfSome found (λ outcome. defined.stays outcome ≡ defined.stays_so (defined.sole_name (update self.now)) document.now outcome)) }

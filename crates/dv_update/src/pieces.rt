@@ -9,11 +9,8 @@ ghost use Rattle.dv_value.specs.View.{tree};
 ghost use Rattle.dv_update.specs.Inner.StandIn as defined;
 
 use dv_candidates::Component;
-use dv_value::{Bytes, Document, NoMemory, Value, laws};
+use dv_value::{Bytes, Document, FRAME, NoMemory, Value, laws};
 use std::alloc::Global;
-
-/// What stands around the bytes of a binary, and around the fields of a document.
-pub(crate) const FRAME: usize = 5;
 
 /// What a document adds to two values that stand in it under names of one letter together.
 const AROUND_TWO: usize = 10;
@@ -25,8 +22,8 @@ const SMALL: usize = 1_000;
 /// zero.
 const AROUND: usize = 7;
 
-/// A value that has so many bytes, which stands in for a document: a small one is a binary of zeros, and a larger one a
-/// document in which another one stands twice, and is in memory once. So it takes hardly any. Fails where memory is wanting.
+/// A value that has so many bytes, which stands in for a document: a small one is a binary of zeros, and a larger one a document
+/// in which another one stands twice, and is in memory once. So it takes hardly any. Fails when memory runs out.
 #[cycle(piece)]
 pub(crate) fn piece(alloc: Global, size: usize) -> Result<Value, NoMemory>
     ensures piece { IfOk result (λ piece. defined.in_one_piece (tree piece) ≡ binary 0 (replicate (size - 5) 0)) }
@@ -38,7 +35,7 @@ pub(crate) fn piece(alloc: Global, size: usize) -> Result<Value, NoMemory>
     Ok(Value::Doc(doubled(alloc, size)?))
 }
 
-/// A binary of zeros that has so many bytes, with what stands around them. Fails where memory is wanting.
+/// A binary of zeros that has so many bytes, with what stands around them. Fails when memory runs out.
 fn zeros(alloc: Global, size: usize) -> Result<Value, NoMemory>
     ensures zeros { IfOk result (λ zeros. tree zeros ≡ binary 0 (replicate (size - 5) 0)) }
     ensures long { 5 ≤ size → IfOk result (λ zeros. length (payload (tree zeros)) ≡ size) }
@@ -50,7 +47,7 @@ fn zeros(alloc: Global, size: usize) -> Result<Value, NoMemory>
     })
 }
 
-/// A document that has so many bytes, and keeps its size. Fails where memory is wanting.
+/// A document that has so many bytes, and keeps its size. Fails when memory runs out.
 #[cycle(piece)]
 fn doubled(alloc: Global, size: usize) -> Result<Document, NoMemory>
     requires { 1000 ≤ size }
@@ -65,7 +62,7 @@ fn doubled(alloc: Global, size: usize) -> Result<Document, NoMemory>
     }
 }
 
-/// A document with the value under an empty name and under this one, which keeps its size. Fails where memory is wanting.
+/// A document with the value under an empty name and under this one, which keeps its size. Fails when memory runs out.
 fn twice(alloc: Global, value: Value, name: &str) -> Result<Document, NoMemory>
     requires whole { has_zero name.now ≡ false }
     requires other { has_name name.now (([], tree value) ∷ []) ≡ false }
@@ -95,7 +92,7 @@ fn with_name(size: usize, name: &str) -> Option<usize>
     size.checked_add(AROUND)?.checked_add(name.len())
 }
 
-/// A document with the value under an empty name. Fails where memory is wanting.
+/// A document with the value under an empty name. Fails when memory runs out.
 fn alone(alloc: Global, value: &Value) -> Result<Document, NoMemory>
     ensures { IfOk result (λ alone. alone ≡ ([], tree value.now) ∷ []) }
 {

@@ -4,8 +4,9 @@ ghost use Rattle.std.specs.Prelude.{◌≤◌, IsTrue};
 ghost use Rattle.dv_value.specs.View.{tree};
 ghost use Rattle.dv_update.specs.Inner.Outcome.{HasRoom};
 
-use crate::apply::MAX_DOCUMENT_LEN;
-use dv_value::{Document, MAX_LEVELS, Value, fits, size, value_size, value_within};
+use dv_value::{
+    Document, MAX_DOCUMENT_LEN, MAX_LEVELS, Value, fits, size, value_size, value_within,
+};
 
 /// Whether the document stays within the limits with the value more, with so many bytes and levels around it.
 pub(crate) fn has_room(document: &Document, around: usize, above: u32, value: &Value) -> bool

@@ -26,10 +26,10 @@ use crate::fault::UpdateFault;
 use crate::form::{Edit, Edits, Operation};
 use crate::laws;
 use crate::order::{are_apart, begins};
-use crate::pieces::{FRAME, names_size, piece};
+use crate::pieces::{names_size, piece};
 use dv_candidates::{Component, Path};
 use dv_path::{Slot, put_at, remove_each, slot_at};
-use dv_value::{Document, MAX_LEVELS, NoMemory, Value, fits, value_size, value_within};
+use dv_value::{Document, FRAME, MAX_LEVELS, NoMemory, Value, fits, value_size, value_within};
 use std::alloc::Global;
 
 /// A document in which what is too deep is in one piece.
@@ -332,7 +332,7 @@ impl Operation {
         }
     }
 
-    /// What comes where nothing stands. Fails where memory is wanting.
+    /// What comes where nothing stands. Fails when memory runs out.
     fn new_value(&self) -> Result<Option<Value>, NoMemory>
         ensures { IfOk result (λ found. option_map tree found ≡ new_value (operation self.now)) }
     {

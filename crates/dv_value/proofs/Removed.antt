@@ -53,12 +53,6 @@ goes (n ∷ names) f fs among fresh = by (bytes_eq n f.0) refl among (λ is. goe
     by true h is rest = ap (without_each names) (sym (without_missing n fs (same h)))
     by false h is rest = rest is
 
--- ---- the copy
-
-named_whole : (fs gs : List Field) (f : Field) → AreNamed (fs ++ f ∷ gs) → has_zero f.0 ≡ false
-named_whole [] gs f named = named.0
-named_whole (g ∷ fs) gs f named = named_whole fs gs f named.2
-
 -- the fields so far, and what is left, without those with the names
 pub record IsCopied (names : List (List ℕ)) (fields copy left : List Field) : Type 0 where
   pub whole : copy ++ without_each names left ≡ without_each names fields

@@ -46,7 +46,7 @@ impl Document {
         }
     }
 
-    /// Puts the value under the name, behind the others where no field has it. Fails where memory is wanting.
+    /// Puts the value under the name, behind the others where no field has it. Fails when memory runs out.
     fn set(&mut self, name: &str, value: Value) -> Result<(), NoMemory>
         requires { has_zero name.now ≡ false }
         ensures ok { OnOk result (self.new ≡ with_value_set name.now (tree value) self.old) }

@@ -13,7 +13,8 @@ use itoa::Buffer;
 /// The length of the longest document that can be written: a length is an int32.
 const LONGEST: usize = 2_147_483_647;
 
-/// The bytes around the elements of a document or an array, or around a text: the four bytes of a length, and the closing zero.
+/// The bytes around the elements of a document or an array, around a text, or around the bytes of a binary: the four bytes of a length,
+/// and the closing zero or the subtype.
 pub const FRAME: usize = 5;
 
 /// The four bytes of a count.
@@ -176,7 +177,7 @@ pub fn document_size(document: &Document) -> Option<usize>
 
 /// The same, worked out from the fields.
 #[cycle(size)]
-// Apart, as `list_size` is, so that a level of a value takes the stack of one of the two alone.
+/// Apart, as `list_size` is, so that a level of a value takes the stack of one of the two alone.
 #[inline(never)]
 fn counted_size(document: &Document) -> Option<usize>
     ensures size { SomeIff result (length (spelling document.now) ≤ 2147483647) (length (spelling document.now)) }

@@ -43,8 +43,7 @@ impl NameIndex {
         self.places.get(name).copied()
     }
 
-    /// Gives the name this place, instead of the one that it had. Where memory is wanting nothing is
-    /// changed.
+    /// Gives the name this place, instead of the one that it had. If memory runs out nothing is changed.
     pub(crate) fn add(&mut self, alloc: Global, name: &str, place: usize) -> Result<(), NoMemory>
         ensures ok { OnOk result (self.new ≡ finite.insert self.old name.now place) }
         ensures err { OnErr result (self.new ≡ self.old) }

@@ -156,7 +156,7 @@ impl Names {
         self.names.shrink_to_fit();
     }
 
-    /// A copy of the first `count` names. Fails where memory is wanting.
+    /// A copy of the first `count` names. Fails when memory runs out.
     pub(crate) fn front(&self, count: usize) -> Result<Self, NoMemory>
         requires { count ≤ length self.now }
         ensures { IfOk result (λ front. front ≡ take count self.now) }
@@ -172,7 +172,7 @@ impl Names {
         })
     }
 
-    /// A copy of the first `count` names but the one at `place`. Fails where memory is wanting.
+    /// A copy of the first `count` names but the one at `place`. Fails when memory runs out.
     pub(crate) fn front_without(&self, count: usize, place: usize) -> Result<Self, NoMemory>
         requires within { count ≤ length self.now }
         requires there { place < count }
@@ -191,7 +191,7 @@ impl Names {
     }
 }
 
-/// Puts copies of the names behind those that are there. Fails where memory is wanting.
+/// Puts copies of the names behind those that are there. Fails when memory runs out.
 fn put_copies(copies: &mut Vec<Name>, names: &[Name]) -> Result<(), NoMemory>
     ensures { OnOk result (copies.new.items ≡ copies.old.items ++ names.now) }
 {
@@ -213,8 +213,8 @@ fn place_among(names: &[Name], name: &str) -> Option<usize>
     None
 }
 
-/// Indexes the name that comes behind these, if there are so many that names are indexed. Where memory is wanting the
-/// index still is that of these names.
+/// Indexes the name that comes behind these, if there are so many that names are indexed. If memory runs out the index still is
+/// that of these names.
 fn index_next(
     alloc: Global,
     index: &mut Option<Box<NameIndex>>,

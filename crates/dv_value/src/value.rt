@@ -56,7 +56,7 @@ pub enum Value {
     Date(i64),
     /// "Null value".
     Null,
-    /// "Timestamp": an unsigned 64-bit integer, whose lower half counts inside the second that the upper half is.
+    /// "Timestamp": the upper 32 bits are seconds since the Unix epoch, the lower 32 count within a second.
     Timestamp(u64),
     /// "Min key", which comes before all other values.
     MinKey,

@@ -9,7 +9,7 @@ use Rattle.dv_pipe.specs.Stages.{Lists, evaluated}
 use Rattle.dv_pipe.specs.declared.stage.Stage.{Stage}
 use Rattle.dv_views.specs.Forms.{is_name_among, names_read, outs_of, places_over, rows_over, with_places, with_rows}
 use Rattle.dv_views.specs.Placed.{ListPlaces, lookups_of, list_places}
-use Rattle.dv_views.specs.Views.{ViewMark, live, stale, View, taken_from}
+use Rattle.dv_views.specs.Views.{ViewMark, live, stale, View, inputs_from}
 use Rattle.dv_views.specs.Inner.Views.{AreKept, AreOverLive, AreRight, AreRightOver, IsRight, Views, distance, distances_of, view_form, no_distance, reads, with_distance}
 use Rattle.dv_views.proofs.Made.{forgotten}
 use Rattle.dv_views.proofs.Right.{itself, or-left, read_among}
@@ -27,7 +27,7 @@ Agrees rows list = HaveOneLength rows × (forget rows ≡ list)
 module _ (scratch : FromScratch) where
   module _ (distances : List ℕ → ℕ) (places : ListPlaces) (lists : Lists) (agreed : (name : List ℕ) → distances name ≡ 0 → Agrees (places name) (lists name)) where
     -- what a live view makes agrees, since it reads what does
-    made-agrees : (m : ViewMark) (stages : List Stage) (source : List ℕ) → AreKept stages m (taken_from stages source places) (evaluated stages source lists)
+    made-agrees : (m : ViewMark) (stages : List Stage) (source : List ℕ) → AreKept stages m (inputs_from stages source places) (evaluated stages source lists)
         → ((name : List ℕ) → is_name_among name (names_read stages source) ≡ true → distances name ≤ distance m) → distance m ≡ 0 → Agrees (outs_of stages source places) (evaluated stages source lists)
     made-agrees (live kept) stages source right read is =
         let own = agreed source (let near : distances source ≤ 0 = read source (or-left (bytes_eq source source) (is_name_among source (lookups_of stages source)) (itself source)) in omega arith) in

@@ -20,7 +20,7 @@ use Rattle.dv_views.specs.Inner.Keeping.{kept_seen}
 use Rattle.dv_views.specs.Inner.Older.{Entries, is_called, place_of_name, views, views_before}
 use Rattle.dv_views.specs.Placed.{ListPlaces, lookups_of}
 use Rattle.dv_views.specs.Inner.Seen.{entry_view}
-use Rattle.dv_views.specs.Views.{View, ViewMark, live, taken_from}
+use Rattle.dv_views.specs.Views.{View, ViewMark, live, inputs_from}
 use Rattle.dv_views.specs.Inner.Views.{AreKept, AreNamedApart, AreRightOver, view_form}
 use Rattle.dv_views.proofs.Before.{no_view_before, place_within}
 use Rattle.dv_views.proofs.ById.{through_at_ids}
@@ -113,15 +113,15 @@ module _ {Y : Type 0} where
   -- ---- what a right view at a place has taken in
 
   pub right_at : (i : ℕ) (es : Entries Y) (b : Body) (places : ListPlaces) (lists : Lists) → AreRightOver places lists (views es) → slice_get (values_of es) i ≡ Some b
-      → AreKept b.stages b.mark (taken_from b.stages b.source (places_over (map view_form (views (take i es))) places)) (evaluated b.stages b.source (rows_over (map view_form (views (take i es))) lists))
+      → AreKept b.stages b.mark (inputs_from b.stages b.source (places_over (map view_form (views (take i es))) places)) (evaluated b.stages b.source (rows_over (map view_form (views (take i es))) lists))
   right_at i [] b places lists right there = absurd cc
   right_at zero (e ∷ es) b places lists right there =
-      let here : e.1 ≡ b = cc in subst (λ (c : Body). AreKept c.stages c.mark (taken_from c.stages c.source places) (evaluated c.stages c.source lists)) here right.0
+      let here : e.1 ≡ b = cc in subst (λ (c : Body). AreKept c.stages c.mark (inputs_from c.stages c.source places) (evaluated c.stages c.source lists)) here right.0
   right_at (suc i) (e ∷ es) b places lists right there = right_at i es b (with_places (view_form (entry_view e)) places) (with_rows (view_form (entry_view e)) lists) right.1 there
 
 -- ---- the rows in memory
 
-pub entries_at_ids : (b : Body) (rows : ToldRows StageOperator) (places : ListPlaces) (shown : List Row) → AreKept b.stages b.mark (taken_from b.stages b.source places) shown → b.mark ≡ live (kept_seen rows) → AreAtIds (outs_of b.stages b.source places) → AreAtIds rows.rows.entries
+pub entries_at_ids : (b : Body) (rows : ToldRows StageOperator) (places : ListPlaces) (shown : List Row) → AreKept b.stages b.mark (inputs_from b.stages b.source places) shown → b.mark ≡ live (kept_seen rows) → AreAtIds (outs_of b.stages b.source places) → AreAtIds rows.rows.entries
 entries_at_ids b rows places shown kept is are =
-    let right : AreKept b.stages (live (kept_seen rows)) (taken_from b.stages b.source places) shown = subst (λ (m : ViewMark). AreKept b.stages m (taken_from b.stages b.source places) shown) is kept in
+    let right : AreKept b.stages (live (kept_seen rows)) (inputs_from b.stages b.source places) shown = subst (λ (m : ViewMark). AreKept b.stages m (inputs_from b.stages b.source places) shown) is kept in
     subst (λ (es : Positioned). AreAtIds es) (sym right.0.made.made) are

@@ -23,8 +23,8 @@ use Rattle.dv_views.specs.Flow.{Arrival, Flow, Share, Told, all_together, arriva
 use Rattle.dv_views.specs.Forms.{ViewForm, is_name_among, names_read, outs_of, with_places, with_rows}
 use Rattle.dv_views.specs.Inner.Holding.{HasMade}
 use Rattle.dv_views.specs.Placed.{ListPlaces, list_places, positioned}
-use Rattle.dv_views.specs.Inner.Turned.{AreTakenBy, Come, HasTurned, HaveLost, HaveTaken, IsTakenBy, IsTurned, KeepsOn, Known, Telling, comes_to, coming_to, known_at, with_known}
-use Rattle.dv_views.specs.Views.{Kept, Taken, ViewMark, live, stale, View, taken_from}
+use Rattle.dv_views.specs.Inner.Turned.{AreTakenBy, Come, HasTurned, HaveTaken, IsTakenBy, IsTurned, KeepsOn, Known, Telling, comes_to, coming_to, known_at, with_known}
+use Rattle.dv_views.specs.Views.{Kept, Inputs, ViewMark, live, stale, View, inputs_from}
 use Rattle.dv_views.specs.Inner.Views.{AreKept, AreOverLive, AreRight, AreRightOver, IsRight, Views, distance, view_form, is_stale, no_distance, mark_ticks, with_distance}
 use Rattle.dv_views.proofs.Agree.{Agrees, FromScratch}
 use Rattle.dv_views.proofs.Made.{forgotten}
@@ -137,12 +137,12 @@ module _ (known : Known) (now : Told) (distances : List ℕ → ℕ) (places : L
   reached-alike stages source = told-any (names_read stages source)
 
   module _ (stages : List Stage) (source : List ℕ) (m n : ViewMark) (o : Option (List taking.Taken)) (over : is_stale n ≡ false → (name : List ℕ) → is_name_among name (names_read stages source) ≡ true → distances name ≡ 0)
-      (right : AreKept stages m (taken_from stages source places) (evaluated stages source lists)) where
+      (right : AreKept stages m (inputs_from stages source places) (evaluated stages source lists)) where
     abbrev all : List Arrival
     all = arrivals stages source now
 
-    abbrev before : Taken
-    before = taken_from stages source places
+    abbrev before : Inputs
+    before = inputs_from stages source places
 
     was-made : (old : Kept) → m ≡ live old → HasMade stages old before
     was-made old is = (subst (λ (k : ViewMark). AreKept stages k before (evaluated stages source lists)) is right).0
@@ -162,7 +162,7 @@ module _ (known : Known) (now : Told) (distances : List ℕ → ℕ) (places : L
 
   module _ (v : View) (w : Telling) (taken : IsTakenBy known distances v w) (right : IsRight places lists v) where
     abbrev share : Share
-    share = record { reached = is_reached v.stages v.source now; work = work_by v.stages (arrivals v.stages v.source now) (taken_from v.stages v.source places) }
+    share = record { reached = is_reached v.stages v.source now; work = work_by v.stages (arrivals v.stages v.source now) (inputs_from v.stages v.source places) }
 
     abbrev tells : Option (List Change)
     tells = flow_told v.stages v.source (record { places = places; told = now })
@@ -184,14 +184,14 @@ module _ (known : Known) (now : Told) (distances : List ℕ → ℕ) (places : L
         counts false away = λ has.
             ap (λ (x : View). mark_ticks x.mark) (taken.unread away)
             ∙ raised_none (mark_ticks v.mark)
-            ∙ ap (λ (all : List Arrival). raised (mark_ticks v.mark) (work_by v.stages all (taken_from v.stages v.source places))) (sym (no_arrivals v.stages v.source now (sym (reached-alike v.stages v.source) ∙ away)))
+            ∙ ap (λ (all : List Arrival). raised (mark_ticks v.mark) (work_by v.stages all (inputs_from v.stages v.source places))) (sym (no_arrivals v.stages v.source now (sym (reached-alike v.stages v.source) ∙ away)))
 
     own-known : is_some w.told ≡ is_some tells
-    own-known = taken.tells ∙ reached-alike v.stages v.source ∙ sym (told-where (is_reached v.stages v.source now) (handed_by v.stages (arrivals v.stages v.source now) (taken_from v.stages v.source places)))
+    own-known = taken.tells ∙ reached-alike v.stages v.source ∙ sym (told-where (is_reached v.stages v.source now) (handed_by v.stages (arrivals v.stages v.source now) (inputs_from v.stages v.source places)))
 
     -- what the view tells
     abbrev own : Bool → Option (List taking.Taken)
-    own b = option_map (told_along (outs_of v.stages v.source places)) (if b then Some (handed_by v.stages (arrivals v.stages v.source now) (taken_from v.stages v.source places)) else None)
+    own b = option_map (told_along (outs_of v.stages v.source places)) (if b then Some (handed_by v.stages (arrivals v.stages v.source now) (inputs_from v.stages v.source places)) else None)
 
     own-told : distance w.view.mark ≡ 0 → w.told ≡ option_map (told_along (outs_of v.stages v.source places)) tells
     own-told zero = by (comes_to v.stages v.source known) refl
@@ -364,9 +364,3 @@ follow_told scratch unread one namespace some t before now after first taken ove
     let is : t ≡ with_old (positioned (documents_changed (changes_told some) documents)) (change_told t) = told_is (positioned (documents_changed (changes_told some) documents)) t (told-last (positioned documents) some t told ∙ ap (at t.pos) rows) in
     subst (λ (u : taking.Taken). HaveTaken (known_at namespace (u ∷ [])) now after) is taken)
     over)
-
--- one more, for which views are stale, however it is told
-pub follow_lost : FromScratch → UnreadDoesNotMatter → EqualKeysAreOne → (namespace : List ℕ) (cs : List Change) (c : Change) (some all : List Row → Type 0) (before now after : Views) → HaveFollowed namespace cs some before now
-    → ((documents : List Row) → all documents → some documents) → HaveLost namespace now after → AreOverLive no_distance after → HaveFollowed namespace (cs ++ c ∷ []) all before after
-follow_lost scratch unread one namespace cs c some all before now after first front lost over =
-    follow_more scratch unread one namespace cs c some all before now after first front (forms_after (known_at namespace []) now after (lost [])) (λ documents identified made told. lost (told_of (documents_changed cs documents) c)) over

@@ -29,7 +29,7 @@ use Rattle.dv_views.specs.Inner.Filled.{firsts_of, puts_of}
 use Rattle.dv_views.specs.Inner.Operating.{empty_lists}
 use Rattle.dv_views.specs.Inner.Turned.{Turns, come_along, coming}
 use Rattle.dv_views.specs.Placed.{ListPlaces, lookups_of, own_position, positioned}
-use Rattle.dv_views.specs.Views.{Kept, Taken, ViewMark, View, live, taken_from}
+use Rattle.dv_views.specs.Views.{Kept, Inputs, ViewMark, View, live, inputs_from}
 use Rattle.dv_views.specs.Inner.Views.{AreInOrder, Views, view_under}
 use Rattle.dv_views.proofs.Coming.{each_there, list_comes, list_takes}
 use Rattle.dv_views.proofs.Filling.{firsts_told, puts_lead}
@@ -68,10 +68,6 @@ pub whatever : {T E : Type 0} {P : Type 0} (r : Result T E) → P → IfOk r (λ
 whatever (Ok x) holds = holds
 whatever (Err e) holds = tt
 
-pub ok_both : {T E : Type 0} {P Q R : T → Type 0} (r : Result T E) → IfOk r P → IfOk r Q → ((x : T) → P x → Q x → R x) → IfOk r R
-ok_both (Ok x) p q more = more x p q
-ok_both (Err e) p q more = tt
-
 -- ---- the lists that are looked into
 
 -- rows that come to a list of which none came yet
@@ -82,7 +78,7 @@ list_filled i front back list firsts before after first told e are is turns stag
     let come : coming (Named i) (Some firsts) ≡ come_along (arriving (Named i) (Some (puts_of list))) (record { left = []; named = front ++ [] ∷ back }) =
     ap (λ (ts : List taking.Taken). coming (Named i) (Some ts)) (is ∙ firsts_told list are) ∙ list_comes i front back e [] (puts_of list) [] in
     let turned = turns stages (record { left = []; named = front ++ [] ∷ back }) (arriving (Named i) (Some (puts_of list))) made (each_there (front ++ [] ∷ back) (Named i) (puts_of list) there) come in
-    subst (λ (t : Taken). HasMade stages after t) (list_takes i front back e [] (puts_of list) [] ∙ ap (λ (rows : Positioned). record { left = []; named = front ++ rows ∷ back }) (puts_lead list are)) turned.made
+    subst (λ (t : Inputs). HasMade stages after t) (list_takes i front back e [] (puts_of list) [] ∙ ap (λ (rows : Positioned). record { left = []; named = front ++ rows ∷ back }) (puts_lead list are)) turned.made
 
 -- the names from a place on
 pub dropped : (names : List (List ℕ)) (i : ℕ) (name : List ℕ) → slice_get names i ≡ Some name → drop i names ≡ name ∷ drop (i + 1) names
@@ -128,6 +124,6 @@ module _ (older : Views) (lists : Lists) where
   more_placed (n ∷ names) name all one = (all.0, more_placed names name all.1 one)
 
   -- what was made of all that is read is what a view keeps
-  pub built : (stages : List Stage) (source : List ℕ) (kept : Kept) → AllByRecursion (IsPlacedUnder older lists) (lookups_of stages source) → IsPlacedUnder older lists source → HasMade stages kept (taken_from stages source (outs_below older lists)) → kept.ticks ≡ 0
+  pub built : (stages : List Stage) (source : List ℕ) (kept : Kept) → AllByRecursion (IsPlacedUnder older lists) (lookups_of stages source) → IsPlacedUnder older lists source → HasMade stages kept (inputs_from stages source (outs_below older lists)) → kept.ticks ≡ 0
       → IsBuilt stages source older lists (live kept)
   built stages source kept placed own made ticks = (made, ticks, (own.0, all-live (lookups_of stages source) placed))

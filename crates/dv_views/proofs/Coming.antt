@@ -16,12 +16,12 @@ use Rattle.dv_change.specs.Inner.Told.{change_to, change_told, changes_told, inp
 use Rattle.dv_change.specs.Inputs.{HasInput}
 use Rattle.dv_change.specs.Positions.{PosTree}
 use Rattle.dv_pipe.specs.declared.stage.Stage.{Stage}
-use Rattle.dv_views.specs.Flow.{Arrival, Told, arrivals, arriving, arriving_at_lists, taken_after}
+use Rattle.dv_views.specs.Flow.{Arrival, Told, arrivals, arriving, arriving_at_lists, inputs_after}
 use Rattle.dv_views.specs.Forms.{is_name_among, names_read}
 use Rattle.dv_views.specs.Inner.Changed.{AreToldOf}
 use Rattle.dv_views.specs.Inner.Turned.{Come, Known, come_along, coming, coming_to, coming_to_lists, taken_by}
 use Rattle.dv_views.specs.Placed.{ListPlaces, lookups_of}
-use Rattle.dv_views.specs.Views.{Taken, taken_from}
+use Rattle.dv_views.specs.Views.{Inputs, inputs_from}
 use Rattle.dv_views.proofs.Filling.{changed_mid, longer}
 use Rattle.dv_views.proofs.Right.{itself, or-left, or-right}
 
@@ -52,9 +52,9 @@ told_of_along rows (Gone pos ∷ cs) = (refl, told_of_along (with_change rows (G
 
 -- ---- one input
 
-along-both : (xs ys : List Arrival) (t : Taken) → come_along (xs ++ ys) t ≡ come_along xs t ++ come_along ys (taken_by t xs)
+along-both : (xs ys : List Arrival) (t : Inputs) → come_along (xs ++ ys) t ≡ come_along xs t ++ come_along ys (taken_by t xs)
 along-both [] ys t = refl
-along-both (x ∷ xs) ys t = ap (λ (cs : List Come). record { input = x.input; taken = with_old (input_rows x.input t.named t.left) x.change } ∷ cs) (along-both xs ys (taken_after x.input x.change t))
+along-both (x ∷ xs) ys t = ap (λ (cs : List Come). record { input = x.input; taken = with_old (input_rows x.input t.named t.left) x.change } ∷ cs) (along-both xs ys (inputs_after x.input x.change t))
 
 lefts-come : (changes : List Change) (left : Positioned) (named : List Positioned) → coming Left (Some (told_along left changes)) ≡ come_along (arriving Left (Some changes)) (record { left = left; named = named })
 lefts-come [] left named = refl
@@ -83,7 +83,7 @@ at-mid zero (x ∷ front) back rows e = absurd cc
 at-mid (suc i) (x ∷ front) back rows e = at-mid i front back rows cc
 
 module _ (i : ℕ) (front back : List Positioned) (e : i ≡ length front) (left : Positioned) where
-  abbrev there : Positioned → Taken
+  abbrev there : Positioned → Inputs
   there rows = record { left = left; named = front ++ rows ∷ back }
 
   pub list_comes : (changes : List Change) (rows : Positioned) → coming (Named i) (Some (told_along rows changes)) ≡ come_along (arriving (Named i) (Some changes)) (there rows)
@@ -91,7 +91,7 @@ module _ (i : ℕ) (front back : List Positioned) (e : i ≡ length front) (left
   list_comes (c ∷ cs) rows =
       let here = at-mid i front back rows e in
       let next = changed_mid i c front back rows e in
-      let rest : coming (Named i) (Some (told_along (with_change rows c) cs)) ≡ come_along (arriving (Named i) (Some cs)) (taken_after (Named i) c (there rows)) =
+      let rest : coming (Named i) (Some (told_along (with_change rows c) cs)) ≡ come_along (arriving (Named i) (Some cs)) (inputs_after (Named i) c (there rows)) =
       list_comes cs (with_change rows c) ∙ ap (λ (ls : List Positioned). come_along (arriving (Named i) (Some cs)) (record { left = left; named = ls })) (sym next) in
       λ j. record { input = Named i; taken = with_old (sym here j) c } ∷ rest j
 
@@ -113,8 +113,8 @@ module _ (i : ℕ) (front back : List Positioned) (e : i ≡ length front) (left
 abbrev pub Knows : Known → Told → ListPlaces → List ℕ → Type 0
 Knows known told places name = known name ≡ option_map (told_along (places name)) (told name)
 
-taken-both : (t : Taken) (xs ys : List Arrival) → taken_by t (xs ++ ys) ≡ taken_by (taken_by t xs) ys
-taken-both t xs ys = fold-append (λ (t : Taken) (a : Arrival). taken_after a.input a.change t) t xs ys
+taken-both : (t : Inputs) (xs ys : List Arrival) → taken_by t (xs ++ ys) ≡ taken_by (taken_by t xs) ys
+taken-both t xs ys = fold-append (λ (t : Inputs) (a : Arrival). inputs_after a.input a.change t) t xs ys
 
 module _ (told : Told) (places : ListPlaces) where
   abbrev behind : ListPlaces
@@ -132,14 +132,14 @@ module _ (told : Told) (places : ListPlaces) where
   lists-taken i [] front left e = refl
   lists-taken i (name ∷ names) front left e =
       taken-both (record { left = left; named = front ++ places name ∷ map places names }) (arriving (Named i) (told name)) (arriving_at_lists (suc i) names told)
-      ∙ ap (λ (t : Taken). taken_by t (arriving_at_lists (suc i) names told)) (next-list i name names front left e)
+      ∙ ap (λ (t : Inputs). taken_by t (arriving_at_lists (suc i) names told)) (next-list i name names front left e)
       ∙ lists-taken (suc i) names (front ++ behind name ∷ []) left (longer i front (behind name) e)
       ∙ ap (λ (ls : List Positioned). record { left = left; named = ls }) (append_assoc front (behind name ∷ []) (map behind names))
 
-  pub all_taken : (stages : List Stage) (source : List ℕ) → taken_by (taken_from stages source places) (arrivals stages source told) ≡ taken_from stages source behind
+  pub all_taken : (stages : List Stage) (source : List ℕ) → taken_by (inputs_from stages source places) (arrivals stages source told) ≡ inputs_from stages source behind
   all_taken stages source =
-      taken-both (taken_from stages source places) (arriving Left (told source)) (arriving_at_lists 0 (lookups_of stages source) told)
-      ∙ ap (λ (t : Taken). taken_by t (arriving_at_lists 0 (lookups_of stages source) told)) (left-taken (told source) (places source) (map places (lookups_of stages source)))
+      taken-both (inputs_from stages source places) (arriving Left (told source)) (arriving_at_lists 0 (lookups_of stages source) told)
+      ∙ ap (λ (t : Inputs). taken_by t (arriving_at_lists 0 (lookups_of stages source) told)) (left-taken (told source) (places source) (map places (lookups_of stages source)))
       ∙ lists-taken 0 (lookups_of stages source) [] (behind source) refl
 
   module _ (known : Known) where
@@ -147,7 +147,7 @@ module _ (told : Told) (places : ListPlaces) where
         → coming_to_lists i names known ≡ come_along (arriving_at_lists i names told) (record { left = left; named = front ++ map places names })
     lists-come i [] front left e knows = refl
     lists-come i (name ∷ names) front left e knows =
-        let t : Taken = record { left = left; named = front ++ places name ∷ map places names } in
+        let t : Inputs = record { left = left; named = front ++ places name ∷ map places names } in
         let here : coming (Named i) (known name) ≡ come_along (arriving (Named i) (told name)) t =
         ap (coming (Named i)) (knows name (or-left (bytes_eq name name) (is_name_among name names) (itself name))) ∙ list-come i front (map places names) e left (told name) (places name) in
         let rest = lists-come (suc i) names (front ++ behind name ∷ []) left (longer i front (behind name) e) (λ other among. knows other (or-right (bytes_eq other name) (is_name_among other names) among)) in
@@ -156,9 +156,9 @@ module _ (told : Told) (places : ListPlaces) where
 
     -- what is told under names comes to the inputs with what stands there
     pub all_come : (stages : List Stage) (source : List ℕ) → ((name : List ℕ) → is_name_among name (names_read stages source) ≡ true → Knows known told places name)
-        → coming_to stages source known ≡ come_along (arrivals stages source told) (taken_from stages source places)
+        → coming_to stages source known ≡ come_along (arrivals stages source told) (inputs_from stages source places)
     all_come stages source knows =
-        let t = taken_from stages source places in
+        let t = inputs_from stages source places in
         let lookups = lookups_of stages source in
         let here : coming Left (known source) ≡ come_along (arriving Left (told source)) t =
         ap (coming Left) (knows source (or-left (bytes_eq source source) (is_name_among source lookups) (itself source))) ∙ left-come (told source) (places source) (map places lookups) in
@@ -190,7 +190,7 @@ module _ (named : List Positioned) where
       let more : i + suc (length names) ≡ length named = count in
       all-both IsThere (arriving (Named i) (told name)) (arriving_at_lists (suc i) names told) (one-there (Named i) (told name) (let here : i < length named = omega (arith, more) in here)) (lists-there (suc i) names told (omega (arith, more)))
 
-pub all_there : (stages : List Stage) (source : List ℕ) (told : Told) (places : ListPlaces) → AllByRecursion (λ (a : Arrival). HasInput a.input (taken_from stages source places).named) (arrivals stages source told)
+pub all_there : (stages : List Stage) (source : List ℕ) (told : Told) (places : ListPlaces) → AllByRecursion (λ (a : Arrival). HasInput a.input (inputs_from stages source places).named) (arrivals stages source told)
 all_there stages source told places =
     let named = map places (lookups_of stages source) in
     let same = length-map (lookups_of stages source) places in

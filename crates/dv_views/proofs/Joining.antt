@@ -12,7 +12,7 @@ use Rattle.dv_views.specs.Inner.Ground.{IsBuilt, IsLive, IsLiveView, outs_below,
 use Rattle.dv_views.specs.Inner.Made.{AreAlike}
 use Rattle.dv_views.specs.Placed.{ListPlaces, list_places, positioned}
 use Rattle.dv_views.specs.Inner.Holding.{HasMade}
-use Rattle.dv_views.specs.Views.{ViewMark, Taken, View, live, stale, taken_from}
+use Rattle.dv_views.specs.Views.{ViewMark, Inputs, View, live, stale, inputs_from}
 use Rattle.dv_views.specs.Inner.Views.{AreKept, AreNamedApart, AreOverLive, AreRight, AreRightOver, IsJustMade, IsRight, Views, distance, distances_of, view_form, is_stale, no_distance, reads, view_under, with_distance}
 use Rattle.dv_views.proofs.Agree.{FromScratch, agree}
 use Rattle.dv_views.proofs.Right.{UnreadDoesNotMatter, itself, or-left, read_among, same_taken}
@@ -56,13 +56,13 @@ module _ (scratch : FromScratch) (unread : UnreadDoesNotMatter) (lists others : 
         by None lives = refl
         by (Some v) lives = at v.mark lives
 
-    pub right_built : (mark : ViewMark) → IsBuilt stages source older others mark → AreKept stages mark (taken_from stages source places) (evaluated stages source rows)
+    pub right_built : (mark : ViewMark) → IsBuilt stages source older others mark → AreKept stages mark (inputs_from stages source places) (evaluated stages source rows)
     right_built (live k) built =
-        let same : taken_from stages source (outs_below older others) ≡ taken_from stages source places =
+        let same : inputs_from stages source (outs_below older others) ≡ inputs_from stages source places =
         same_taken source (outs_below older others) places stages (λ name read.
         let among = sym (read_among stages source name) ∙ read in
         live-outs name (view_under name older) refl (alike name among) (each_among (λ n. IsLiveView (view_under n older)) (names_read stages source) name built.2 among)) in
-        let made : HasMade stages k (taken_from stages source places) = subst (λ (t : Taken). HasMade stages k t) same built.0 in
+        let made : HasMade stages k (inputs_from stages source places) = subst (λ (t : Inputs). HasMade stages k t) same built.0 in
         let own = agree scratch lists older over right source (near built.2 source (or-left (bytes_eq source source) _ (itself source))) in (
           made,
           ap forget made.made.made

@@ -121,7 +121,7 @@ module _ (namespace : List ℕ) (cs : List Change) (before after : KeptViews) (a
 pub left_right : (lists : Lists) (views : Views) (before after : NamedCopies) → HaveCopiesRead views before after → AreRight lists views → AreCopies lists before → AreKeptRight lists (record { views = views; copies = after })
 left_right lists views before after have right are = record { views = right; copies = copies_left views before after have lists are; read = read_left views before after have }
 
--- where memory is wanting, what holds in any case
+-- when memory runs out, what holds in any case
 pub where_wanting : {T E : Type 0} (P : Type 0) (r : Result T E) → P → OnErr r P
 where_wanting P (Ok done) holds = tt
 where_wanting P (Err fault) holds = holds

@@ -66,11 +66,6 @@ pub found_at : (k : KeyTree) (ds : List Row) → at (Up k ∷ []) (positioned ds
 found_at k [] = refl
 found_at k (d ∷ ds) = λ i. cond (is_eq (one_part (key_order k (id_key d)) i)) (Some d) (found_at k ds i)
 
--- ---- a put
-
-wanted-absent : (d : Row) (ds : List Row) → found (id_key d) ds ≡ None → wanted d ds ≡ inserted d ds
-wanted-absent d ds e = ap (λ r. if is_some r then replaced d ds else inserted d ds) e
-
 module _ (d e : Row) (ds : List Row) where
   -- the documents from e on, by where d stands to e
   abbrev met : Ordering → List Row

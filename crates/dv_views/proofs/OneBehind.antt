@@ -1,7 +1,7 @@
 -- What one view is behind a change.
 use Rattle.std.proofs.Common.{◌≡◌, ◌≤◌, inl, inr, ◌||◌, ℕ, Bool, true, false, List, [], ◌∷◌, map, Option, Some, None, is_some, refl, ap, sym, subst, ◌∙◌, arith}
 use Rattle.std.specs.Bool.{if◌then◌else◌}
-use Rattle.std.specs.List.{IsDistinct, list_any}
+use Rattle.std.specs.List.{list_any}
 use Rattle.std.specs.Option.{option_map}
 use Rattle.std.specs.Str.{bytes_eq}
 use Rattle.std.proofs.lemmas.Slice.Eq.{bytes_eq-Decides}
@@ -17,11 +17,11 @@ use Rattle.dv_views.specs.Placed.{ListPlaces, lookups_of}
 use Rattle.dv_views.specs.Inner.Changed.{AreToldOf}
 use Rattle.dv_views.specs.Inner.Holding.{HasMade}
 use Rattle.dv_views.specs.Inner.Turned.{AreTakenBy, HasTurned, HaveTaken, IsTakenBy, IsTurned, Known, Telling, Turns, come_along, comes_to, coming_to, taken_by, with_known}
-use Rattle.dv_views.specs.Views.{Kept, ViewMark, Taken, live, stale, View, taken_from}
-use Rattle.dv_views.specs.Inner.Views.{AreKept, AreNamedApart, AreOverLive, IsRight, Views, distance, view_form, is_stale, no_distance, reads, with_distance}
+use Rattle.dv_views.specs.Views.{Kept, ViewMark, Inputs, live, stale, View, inputs_from}
+use Rattle.dv_views.specs.Inner.Views.{AreKept, AreOverLive, IsRight, Views, distance, view_form, is_stale, no_distance, reads, with_distance}
 use Rattle.dv_views.proofs.Agree.{Agrees, FromScratch, agree_over}
 use Rattle.dv_views.proofs.Coming.{all_come, all_taken, all_there, along_told, rows_behind, told_of_along}
-use Rattle.dv_views.proofs.Right.{UnreadDoesNotMatter, itself, neither, or-left, or-right, read_among, same_outs, same_taken}
+use Rattle.dv_views.proofs.Right.{UnreadDoesNotMatter, itself, neither, or-left, read_among, same_outs, same_taken}
 
 pub none_of : {A : Type 0} (o : Option A) → is_some o ≡ false → o ≡ None
 none_of None e = refl
@@ -113,15 +113,6 @@ forms-from told distances (v ∷ vs) (w ∷ ws) taken =
 pub forms_after : (come : Known) (before after : Views) → HaveTaken come before after → map view_form after ≡ map view_form before
 forms_after come before after taken = ap (map view_form) (sym taken.views) ∙ forms-from come no_distance before taken.tellings taken.taken
 
-names-by-forms : (vs : Views) → map (λ (v : View). v.name) vs ≡ map (λ (f : ViewForm). f.name) (map view_form vs)
-names-by-forms [] = refl
-names-by-forms (v ∷ vs) = ap (λ (names : List (List ℕ)). v.name ∷ names) (names-by-forms vs)
-
-pub apart_after : (come : Known) (before after : Views) → AreNamedApart before → HaveTaken come before after → AreNamedApart after
-apart_after come before after apart taken =
-    subst (λ (names : List (List ℕ)). IsDistinct bytes_eq names)
-    (names-by-forms before ∙ ap (map (λ (f : ViewForm). f.name)) (sym (forms_after come before after taken)) ∙ sym (names-by-forms after)) apart
-
 pub founded_after : (come : Known) (before after : Views) → AreFounded (map view_form before) → HaveTaken come before after → AreFounded (map view_form after)
 founded_after come before after founded taken = subst AreFounded (sym (forms_after come before after taken)) founded
 
@@ -151,8 +142,8 @@ no-more : (n : ℕ) → n ≤ 0 → n ≡ 0
 no-more n h = omega arith
 
 -- a view of another one's form
-alike : (v w : View) → view_form w ≡ view_form v → (places : ListPlaces) (lists : Lists) → AreKept v.stages w.mark (taken_from v.stages v.source places) (evaluated v.stages v.source lists) → IsRight places lists w
-alike v w form places lists right = subst (λ (f : ViewForm). AreKept f.stages w.mark (taken_from f.stages f.source places) (evaluated f.stages f.source lists)) (sym form) right
+alike : (v w : View) → view_form w ≡ view_form v → (places : ListPlaces) (lists : Lists) → AreKept v.stages w.mark (inputs_from v.stages v.source places) (evaluated v.stages v.source lists) → IsRight places lists w
+alike v w form places lists right = subst (λ (f : ViewForm). AreKept f.stages w.mark (inputs_from f.stages f.source places) (evaluated f.stages f.source lists)) (sym form) right
 
 module _ (scratch : FromScratch) (unread : UnreadDoesNotMatter) (known : Known) (distances : List ℕ → ℕ) (places others : ListPlaces) (lists rows : Lists)
     (leads : (name : List ℕ) → distances name ≡ 0 → Leads (known name) (places name) (others name)) (agreed : (name : List ℕ) → distances name ≡ 0 → Agrees (others name) (rows name))
@@ -161,15 +152,15 @@ module _ (scratch : FromScratch) (unread : UnreadDoesNotMatter) (known : Known) 
     abbrev all : List Arrival
     all = arrivals stages source (changes_known known)
 
-    abbrev before : Taken
-    before = taken_from stages source places
+    abbrev before : Inputs
+    before = inputs_from stages source places
 
     -- where all that is read is live, what comes is told with what was taken in
     comes : coming_to stages source known ≡ come_along all before
     comes = all_come (changes_known known) places known stages source (λ name among. leads-known (known name) (places name) (others name) (leads name (over name among)))
 
     -- and leads to what stands there
-    takes : taken_by before all ≡ taken_from stages source others
+    takes : taken_by before all ≡ inputs_from stages source others
     takes =
         all_taken (changes_known known) places stages source
         ∙ same_taken source (λ name. rows_behind (changes_known known name) (places name)) others stages (λ name read. leads-behind (known name) (places name) (others name) (leads name (over name (sym (read_among stages source name) ∙ read))))
@@ -178,10 +169,10 @@ module _ (scratch : FromScratch) (unread : UnreadDoesNotMatter) (known : Known) 
       turned : HasTurned stages before all old [] new told
       turned = turns stages before all made (all_there stages source (changes_known known) places) comes
 
-      made-now : HasMade stages new (taken_from stages source others)
-      made-now = subst (λ (t : Taken). HasMade stages new t) takes turned.made
+      made-now : HasMade stages new (inputs_from stages source others)
+      made-now = subst (λ (t : Inputs). HasMade stages new t) takes turned.made
 
-      turned-right : AreKept stages (live new) (taken_from stages source others) (evaluated stages source rows)
+      turned-right : AreKept stages (live new) (inputs_from stages source others) (evaluated stages source rows)
       turned-right =
           let own = agreed source (over source (or-left (bytes_eq source source) (is_name_among source (lookups_of stages source)) (itself source))) in
           (made-now, ap forget made-now.made.made ∙ scratch stages source others rows made-now.made.positioned own.0 (λ name among. (agreed name (over name among)).1))
@@ -205,25 +196,25 @@ module _ (scratch : FromScratch) (unread : UnreadDoesNotMatter) (known : Known) 
       sym (subst (λ (o : Option (List taking.Taken)). Leads o (places name) (others name)) (unreached_read stages source known name away read) (leads name (over name read)))
 
   unread-right : (m : ViewMark) (stages : List Stage) (source : List ℕ) → comes_to stages source known ≡ false → ((name : List ℕ) → is_read stages source name ≡ true → distances name ≤ distance m)
-      → AreKept stages m (taken_from stages source places) (evaluated stages source lists) → AreKept stages m (taken_from stages source others) (evaluated stages source rows)
+      → AreKept stages m (inputs_from stages source places) (evaluated stages source lists) → AreKept stages m (inputs_from stages source others) (evaluated stages source rows)
   unread-right (live kept) stages source away over right = (
-    subst (λ (t : Taken). HasMade stages kept t) (same_taken source places others stages (unread-places stages source away (λ name read. no-more (distances name) (over name read)))) right.0,
+    subst (λ (t : Inputs). HasMade stages kept t) (same_taken source places others stages (unread-places stages source away (λ name read. no-more (distances name) (over name read)))) right.0,
     right.1 ∙ unread-rows stages source away,
   )
   unread-right stale stages source away over right = tt
 
   module _ (stages : List Stage) (source : List ℕ) (m n : ViewMark) (o : Option (List taking.Taken)) (over : is_stale n ≡ false → (name : List ℕ) → is_name_among name (names_read stages source) ≡ true → distances name ≡ 0)
-      (right : AreKept stages m (taken_from stages source places) (evaluated stages source lists)) where
-    kept-right : IsTurned (coming_to stages source known) m n o → AreKept stages n (taken_from stages source others) (evaluated stages source rows)
-    kept-right (inl is) = subst (λ (k : ViewMark). AreKept stages k (taken_from stages source others) (evaluated stages source rows)) (sym is) tt
+      (right : AreKept stages m (inputs_from stages source places) (evaluated stages source lists)) where
+    kept-right : IsTurned (coming_to stages source known) m n o → AreKept stages n (inputs_from stages source others) (evaluated stages source rows)
+    kept-right (inl is) = subst (λ (k : ViewMark). AreKept stages k (inputs_from stages source others) (evaluated stages source rows)) (sym is) tt
     kept-right (inr t) =
-        let was = subst (λ (k : ViewMark). AreKept stages k (taken_from stages source places) (evaluated stages source lists)) t.was right in
-        subst (λ (k : ViewMark). AreKept stages k (taken_from stages source others) (evaluated stages source rows)) (sym t.is) (turned-right stages source (over (ap is_stale t.is)) t.old t.new t.all was.0 t.turns)
+        let was = subst (λ (k : ViewMark). AreKept stages k (inputs_from stages source places) (evaluated stages source lists)) t.was right in
+        subst (λ (k : ViewMark). AreKept stages k (inputs_from stages source others) (evaluated stages source rows)) (sym t.is) (turned-right stages source (over (ap is_stale t.is)) t.old t.new t.all was.0 t.turns)
 
     kept-leads : IsTurned (coming_to stages source known) m n o → distance n ≡ 0 → Leads o (outs_of stages source places) (outs_of stages source others)
     kept-leads (inl is) zero = absurd (let e : 1 ≡ 0 = sym (ap distance is) ∙ zero in omega arith)
     kept-leads (inr t) zero =
-        let was = subst (λ (k : ViewMark). AreKept stages k (taken_from stages source places) (evaluated stages source lists)) t.was right in
+        let was = subst (λ (k : ViewMark). AreKept stages k (inputs_from stages source places) (evaluated stages source lists)) t.was right in
         subst (λ (p : Option (List taking.Taken)). Leads p (outs_of stages source places) (outs_of stages source others)) (sym t.tells) (turned-leads stages source (over (ap is_stale t.is)) t.old t.new t.all was.0 t.turns)
 
   module _ (v : View) (w : Telling) (taken : IsTakenBy known distances v w) (over : (name : List ℕ) → reads w.view name ≡ true → distances name ≤ distance w.view.mark) (right : IsRight places lists v) where
@@ -233,10 +224,10 @@ module _ (scratch : FromScratch) (unread : UnreadDoesNotMatter) (known : Known) 
     pub right-one : IsRight others rows w.view
     right-one = alike v w.view taken.form others rows (by (comes_to v.stages v.source known) refl)
       where
-        by : (b : Bool) → comes_to v.stages v.source known ≡ b → AreKept v.stages w.view.mark (taken_from v.stages v.source others) (evaluated v.stages v.source rows)
+        by : (b : Bool) → comes_to v.stages v.source known ≡ b → AreKept v.stages w.view.mark (inputs_from v.stages v.source others) (evaluated v.stages v.source rows)
         by true reached = kept-right v.stages v.source v.mark w.view.mark w.told (taken.live reached) right (taken.turned reached)
         by false away =
-            subst (λ (x : View). AreKept v.stages x.mark (taken_from v.stages v.source others) (evaluated v.stages v.source rows)) (sym (taken.unread away))
+            subst (λ (x : View). AreKept v.stages x.mark (inputs_from v.stages v.source others) (evaluated v.stages v.source rows)) (sym (taken.unread away))
             (unread-right v.mark v.stages v.source away (λ name read. subst (λ (x : View). distances name ≤ distance x.mark) (taken.unread away) (over-read name read)) right)
 
     own-leads : distance w.view.mark ≡ 0 → Leads w.told (outs_of v.stages v.source places) (outs_of v.stages v.source others)

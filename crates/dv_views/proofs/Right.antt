@@ -8,10 +8,10 @@ use Rattle.dv_change.specs.Work.{through_forms}
 use Rattle.dv_pipe.specs.Sources.{Row}
 use Rattle.dv_pipe.specs.Stages.{Lists, evaluated, is_source_named, is_read, looked_into}
 use Rattle.dv_pipe.specs.declared.stage.Stage.{Stage}
-use Rattle.dv_views.specs.Forms.{ViewForm, is_name_among, names_read, outs_of, places_over, rows_over, with_places, with_rows}
+use Rattle.dv_views.specs.Forms.{is_name_among, names_read, outs_of, places_over, rows_over, with_places, with_rows}
 use Rattle.dv_views.specs.Inner.Holding.{HasMade}
 use Rattle.dv_views.specs.Placed.{ListPlaces, forms, lookups_of, list_places, positioned, names_with}
-use Rattle.dv_views.specs.Views.{ViewMark, Taken, live, stale, View, taken_from}
+use Rattle.dv_views.specs.Views.{ViewMark, Inputs, live, stale, View, inputs_from}
 use Rattle.dv_views.specs.Inner.Views.{AreKept, AreRight, AreRightOver, IsRight, Views, view_form, reads, reads_name, views_without}
 use Rattle.dv_value.specs.Inner.ByteLaws.{bytes_eq-symmetric}
 
@@ -63,24 +63,17 @@ module _ (source : List ℕ) (places others : ListPlaces) where
       by None here rest = rest
       by (Some name) here rest = λ i. here name (itself name) i ∷ rest i
 
-  pub same_taken : (stages : List Stage) → ((name : List ℕ) → is_read stages source name ≡ true → places name ≡ others name) → taken_from stages source places ≡ taken_from stages source others
+  pub same_taken : (stages : List Stage) → ((name : List ℕ) → is_read stages source name ≡ true → places name ≡ others name) → inputs_from stages source places ≡ inputs_from stages source others
   same_taken stages same =
       let left = same source (or-left (bytes_eq source source) (list_any (λ s. is_source_named source (looked_into s source)) stages) (itself source)) in
       let named = same-lookups stages (λ name h. same name (or-right (bytes_eq source name) (list_any (λ s. is_source_named name (looked_into s source)) stages) h)) in
       λ i. record { left = left i; named = named i }
 
   pub same_outs : (stages : List Stage) → ((name : List ℕ) → is_read stages source name ≡ true → places name ≡ others name) → outs_of stages source places ≡ outs_of stages source others
-  same_outs stages same = ap (λ (t : Taken). through_forms (forms stages t.named) t.left) (same_taken stages same)
+  same_outs stages same = ap (λ (t : Inputs). through_forms (forms stages t.named) t.left) (same_taken stages same)
 
--- ---- one view over places and lists that are the same where it reads
-
--- a view's rightness depends on its form and its mark alone
-pub same_form : (places : ListPlaces) (lists : Lists) (v w : View) → view_form v ≡ view_form w → v.mark ≡ w.mark → IsRight places lists v → IsRight places lists w
-same_form places lists v w form mark right =
-    subst (λ (p : ViewForm × ViewMark). AreKept p.0.stages p.1 (taken_from p.0.stages p.0.source places) (evaluated p.0.stages p.0.source lists)) (λ i. (form i, mark i)) right
-
-pub kept_same : (stages : List Stage) (m : ViewMark) (t u : Taken) (rows others : List Row) → t ≡ u → rows ≡ others → AreKept stages m t rows → AreKept stages m u others
-kept_same stages (live kept) t u rows others taken same h = (subst (λ (x : Taken). HasMade stages kept x) taken h.0, h.1 ∙ same)
+pub kept_same : (stages : List Stage) (m : ViewMark) (t u : Inputs) (rows others : List Row) → t ≡ u → rows ≡ others → AreKept stages m t rows → AreKept stages m u others
+kept_same stages (live kept) t u rows others taken same h = (subst (λ (x : Inputs). HasMade stages kept x) taken h.0, h.1 ∙ same)
 kept_same stages stale t u rows others taken same h = tt
 
 -- the same stands under a name in both
@@ -90,7 +83,7 @@ IsSame places others lists rows name = (places name ≡ others name) × (lists n
 module _ (unread : UnreadDoesNotMatter) (places others : ListPlaces) (lists rows : Lists) where
   right-same : (v : View) → ((name : List ℕ) → reads v name ≡ true → IsSame places others lists rows name) → IsRight places lists v → IsRight others rows v
   right-same v same right =
-      kept_same v.stages v.mark (taken_from v.stages v.source places) (taken_from v.stages v.source others) (evaluated v.stages v.source lists) (evaluated v.stages v.source rows)
+      kept_same v.stages v.mark (inputs_from v.stages v.source places) (inputs_from v.stages v.source others) (evaluated v.stages v.source lists) (evaluated v.stages v.source rows)
       (same_taken v.source places others v.stages (λ name h. (same name h).0)) (unread v.stages v.source lists rows (λ name h. (same name h).1)) right
 
   -- behind the view the same stands under its name, and elsewhere where it did

@@ -19,17 +19,17 @@ use Rattle.dv_change.specs.Inner.ToldLaws.{told-both}
 use Rattle.dv_change.specs.Inner.ToldRows.{HaveMade, TakesTold}
 use Rattle.dv_change.specs.Inputs.{HasInput, input_changed_at, left_after, others_after}
 use Rattle.dv_change.specs.Raised.{raised}
-use Rattle.dv_change.specs.Work.{Form, pass_in, work_in}
+use Rattle.dv_change.specs.Work.{Transform, pass_in, work_in}
 use Rattle.dv_change.specs.Inner.Work.{forms_after, forms_named, lists_of}
 use Rattle.dv_pipe.specs.declared.stage.Stage.{Stage}
 use Rattle.dv_pipe.specs.Stages.{beside, from_of}
 use Rattle.dv_views.specs.declared.stage_operator.StageOperator.{StageOperator}
-use Rattle.dv_views.specs.Flow.{Arrival, handed_by, taken_after, work_by}
+use Rattle.dv_views.specs.Flow.{Arrival, handed_by, inputs_after, work_by}
 use Rattle.dv_views.specs.Inner.Holding.{HasMade, lists_of_all}
 use Rattle.dv_views.specs.Inner.Keeping.{kept_seen}
 use Rattle.dv_views.specs.Inner.Operating.{AreFresh, HoldsStage, IsFreshStage, IsSoundStage, empty_lists, stage_makes}
 use Rattle.dv_views.specs.Inner.Turned.{Come, HasTurned, Known, Turns, come_along, coming, coming_to_lists, taken_by}
-use Rattle.dv_views.specs.Views.{Kept, Taken}
+use Rattle.dv_views.specs.Views.{Kept, Inputs}
 use Rattle.dv_views.specs.Placed.{forms, listed_under, lookups_of, stage_at, names_with}
 
 -- ---- the lists of stages
@@ -49,13 +49,13 @@ forms-changed i c (s ∷ ss) named = by (from_of s) i named (λ j others. forms-
         → (if nat_lt i (length (take (listed_under o) named)) then record { makes = stage_at s; named = input_changed_at i c (take (listed_under o) named) } ∷ forms ss (drop (listed_under o) named)
         else record { makes = stage_at s; named = take (listed_under o) named } ∷ forms_named (i - length (take (listed_under o) named)) c (forms ss (drop (listed_under o) named)))
         ≡ record { makes = stage_at s; named = take (listed_under o) (input_changed_at i c named) } ∷ forms ss (drop (listed_under o) (input_changed_at i c named))
-    by None i named rest = rw (none-below i, less-none i) (ap (λ (fs : List Form). record { makes = stage_at s; named = [] } ∷ fs) (rest i named))
-    by (Some collection) i [] rest = rw (none-below i, less-none i) (ap (λ (fs : List Form). record { makes = stage_at s; named = [] } ∷ fs) (rest i []))
+    by None i named rest = rw (none-below i, less-none i) (ap (λ (fs : List Transform). record { makes = stage_at s; named = [] } ∷ fs) (rest i named))
+    by (Some collection) i [] rest = rw (none-below i, less-none i) (ap (λ (fs : List Transform). record { makes = stage_at s; named = [] } ∷ fs) (rest i []))
     by (Some collection) zero (n ∷ ns) rest = refl
     by (Some collection) (suc i) (n ∷ ns) rest =
         let past : nat_lt (suc i) 1 ≡ false = le-ltb (suc i) 1 (omega arith) in
         let back : suc i - 1 ≡ i = omega arith in
-        rw (past, back) (ap (λ (fs : List Form). record { makes = stage_at s; named = n ∷ [] } ∷ fs) (rest i ns))
+        rw (past, back) (ap (λ (fs : List Transform). record { makes = stage_at s; named = n ∷ [] } ∷ fs) (rest i ns))
 
 forms-after : (input : Input) (c : Change) (ss : List Stage) (named : List Positioned) → forms_after input c (forms ss named) ≡ forms ss (others_after input c named)
 forms-after Left c ss named = refl
@@ -104,7 +104,7 @@ none-more : (n : ℕ) → n ≡ n + 0
 none-more n = omega arith
 
 module _ (input : Input) (taken : taking.Taken) (before after : ToldRows StageOperator) (first now : List taking.Taken) where
-  module _ (stages : List Stage) (t : Taken) (made : HasMade stages (kept_seen before) t) where
+  module _ (stages : List Stage) (t : Inputs) (made : HasMade stages (kept_seen before) t) where
     one-turned : (change : Change) → TakesTold stage_makes HoldsStage input taken before after first now → HasInput input t.named → taken ≡ with_old (input_rows input t.named t.left) change
         → HasTurned stages t (record { input = input; change = change } ∷ []) (kept_seen before) first (kept_seen after) now
     one-turned change takes has told =
@@ -114,7 +114,7 @@ module _ (input : Input) (taken : taking.Taken) (before after : ToldRows StageOp
         let passed = pass_in input change fs t.left in
         record {
           made = record {
-            made = subst (λ (gs : List Form). HaveMade stage_makes HoldsStage after.operators after.rows.entries gs (left_after input change t.left)) (forms-after input change stages t.named) taken_in.made;
+            made = subst (λ (gs : List Transform). HaveMade stage_makes HoldsStage after.operators after.rows.entries gs (left_after input change t.left)) (forms-after input change stages t.named) taken_in.made;
             count = same_count input change t.named ∙ made.count;
           };
           tells = taken_in.told ∙ ap (λ (cs : List Change). first ++ told_along before.rows.entries cs) (sym (append-nil passed));
@@ -138,17 +138,17 @@ module _ (input : Input) (taken : taking.Taken) (before after : ToldRows StageOp
 
 -- ---- one after the other
 
-handed-both : (stages : List Stage) (xs ys : List Arrival) (t : Taken) → handed_by stages (xs ++ ys) t ≡ handed_by stages xs t ++ handed_by stages ys (taken_by t xs)
+handed-both : (stages : List Stage) (xs ys : List Arrival) (t : Inputs) → handed_by stages (xs ++ ys) t ≡ handed_by stages xs t ++ handed_by stages ys (taken_by t xs)
 handed-both stages [] ys t = refl
 handed-both stages (x ∷ xs) ys t =
     let one = pass_in x.input x.change (forms stages t.named) t.left in
-    let next = taken_after x.input x.change t in
+    let next = inputs_after x.input x.change t in
     ap (λ (cs : List Change). one ++ cs) (handed-both stages xs ys next) ∙ sym (append_assoc one (handed_by stages xs next) (handed_by stages ys (taken_by next xs)))
 
-work-both : (stages : List Stage) (xs ys : List Arrival) (t : Taken) → work_by stages (xs ++ ys) t ≡ work_by stages xs t + work_by stages ys (taken_by t xs)
+work-both : (stages : List Stage) (xs ys : List Arrival) (t : Inputs) → work_by stages (xs ++ ys) t ≡ work_by stages xs t + work_by stages ys (taken_by t xs)
 work-both stages [] ys t = let n = work_by stages ys t in let e : n ≡ 0 + n = omega arith in e
 work-both stages (x ∷ xs) ys t =
-    let next = taken_after x.input x.change t in
+    let next = inputs_after x.input x.change t in
     let one = work_in x.input x.change (forms stages t.named) t.left in
     let some = work_by stages xs next in
     let others = work_by stages ys (taken_by next xs) in
@@ -161,9 +161,9 @@ raised_twice n a b = omega arith
 pub raised_none : (n : ℕ) → n ≡ raised n 0
 raised_none n = omega arith
 
-taken-count : (t : Taken) (all : List Arrival) → length (taken_by t all).named ≡ length t.named
+taken-count : (t : Inputs) (all : List Arrival) → length (taken_by t all).named ≡ length t.named
 taken-count t [] = refl
-taken-count t (a ∷ all) = taken-count (taken_after a.input a.change t) all ∙ same_count a.input a.change t.named
+taken-count t (a ∷ all) = taken-count (inputs_after a.input a.change t) all ∙ same_count a.input a.change t.named
 
 still-there : (input : Input) (some others : List Positioned) → length others ≡ length some → HasInput input some → HasInput input others
 still-there Left some others same has = tt
@@ -178,20 +178,20 @@ parts-there P [] ys all = (tt, all)
 parts-there P (x ∷ xs) ys all = let rest = parts-there P xs ys all.1 in ((all.0, rest.0), rest.1)
 
 -- what comes in two parts
-pub record AreParts (xs ys : List Come) (all : List Arrival) (t : Taken) : Type 0 where
+pub record AreParts (xs ys : List Come) (all : List Arrival) (t : Inputs) : Type 0 where
   pub some : List Arrival
   pub others : List Arrival
   pub whole : all ≡ some ++ others
   pub first : xs ≡ come_along some t
   pub second : ys ≡ come_along others (taken_by t some)
 
-parts : (xs ys : List Come) (all : List Arrival) (t : Taken) → xs ++ ys ≡ come_along all t → AreParts xs ys all t
+parts : (xs ys : List Come) (all : List Arrival) (t : Inputs) → xs ++ ys ≡ come_along all t → AreParts xs ys all t
 parts [] ys all t come = record { some = []; others = all; whole = refl; first = refl; second = come }
 parts (x ∷ xs) ys [] t come = absurd cc
 parts (x ∷ xs) ys (a ∷ all) t come =
     let head : x ≡ come_of a.input (with_old (input_rows a.input t.named t.left) a.change) = cc in
-    let tail : xs ++ ys ≡ come_along all (taken_after a.input a.change t) = cc in
-    let rest = parts xs ys all (taken_after a.input a.change t) tail in
+    let tail : xs ++ ys ≡ come_along all (inputs_after a.input a.change t) = cc in
+    let rest = parts xs ys all (inputs_after a.input a.change t) tail in
     record { some = a ∷ rest.some; others = rest.others; whole = ap (λ (arrived : List Arrival). a ∷ arrived) rest.whole; first = (let behind = rest.first in λ i. head i ∷ behind i); second = rest.second }
 
 pub turns_none : (kept : Kept) (first : List taking.Taken) → Turns [] kept first kept first
@@ -199,13 +199,13 @@ turns_none kept first stages t [] made there come = record { made = made; tells 
 turns_none kept first stages t (a ∷ all) made there come = absurd cc
 
 module _ (xs ys : List Come) (before mid after : Kept) (first told now : List taking.Taken) where
-  both-turned : (stages : List Stage) (t : Taken) (some others : List Arrival) → HasTurned stages t some before first mid told → HasTurned stages (taken_by t some) others mid told after now → HasTurned stages t (some ++ others) before first after now
+  both-turned : (stages : List Stage) (t : Inputs) (some others : List Arrival) → HasTurned stages t some before first mid told → HasTurned stages (taken_by t some) others mid told after now → HasTurned stages t (some ++ others) before first after now
   both-turned stages t some others one two =
       let hx = handed_by stages some t in
       let hy = handed_by stages others (taken_by t some) in
       let handed = handed-both stages some others t in
       record {
-        made = subst (λ (u : Taken). HasMade stages after u) (sym (fold-append (λ (t : Taken) (a : Arrival). taken_after a.input a.change t) t some others)) two.made;
+        made = subst (λ (u : Inputs). HasMade stages after u) (sym (fold-append (λ (t : Inputs) (a : Arrival). inputs_after a.input a.change t) t some others)) two.made;
         tells =
             two.tells
             ∙ (λ i. one.tells i ++ told_along (one.leads i) hy)

@@ -72,12 +72,6 @@ even_stage (Limit count) named rows are one = limit_even count rows one
 even_stage (Group g) named rows are one = group_even g rows are one
 even_stage (Lookup l) named rows are one = looked_up_even l (first_input named) rows one
 
--- ---- all stages, by what they keep of positions
-
-pub ordered_outs : (stages : List Stage) (named : List Positioned) (rows : Positioned) → IsPositioned rows → IsPositioned (work.through_forms (forms stages named) rows)
-ordered_outs [] named rows are = are
-ordered_outs (s ∷ ss) named rows are = ordered_outs ss (drop (lists_in s) named) (stage_at s (take (lists_in s) named) rows) (ordered_stage s (take (lists_in s) named) rows are)
-
 pub even_outs : (stages : List Stage) (named : List Positioned) (rows : Positioned) → IsPositioned rows → HaveOneLength rows → HaveOneLength (work.through_forms (forms stages named) rows)
 even_outs [] named rows are one = one
 even_outs (s ∷ ss) named rows are one =

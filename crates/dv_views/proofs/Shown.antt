@@ -12,7 +12,7 @@ use Rattle.dv_pipe.specs.Stages.{Lists, evaluated}
 use Rattle.dv_pipe.specs.declared.stage.Stage.{Stage}
 use Rattle.dv_views.specs.Forms.{ViewForm, outs_of, places_over, rows_over, with_places, with_rows}
 use Rattle.dv_views.specs.Placed.{ListPlaces, list_places}
-use Rattle.dv_views.specs.Views.{ViewMark, live, stale, View, taken_from}
+use Rattle.dv_views.specs.Views.{ViewMark, live, stale, View, inputs_from}
 use Rattle.dv_views.specs.Inner.Views.{AreKept, AreNamedApart, AreRight, AreRightOver, Views, distance, distances_of, view_form, is_view_named, kept_rows, no_distance, rows_shown, view_under, with_distance}
 use Rattle.dv_views.proofs.Right.{neither}
 
@@ -58,7 +58,7 @@ abbrev pub IsShownAt : ViewMark → Positioned → List Row → Type 0
 IsShownAt (live kept) outs rows = (outs ≡ kept.rows) × (forget kept.rows ≡ rows)
 IsShownAt stale outs rows = ⊤
 
-shown-kept : (m : ViewMark) (stages : List Stage) (source : List ℕ) (places : ListPlaces) (outs : Positioned) (lists rows : List Row) → AreKept stages m (taken_from stages source places) lists → outs ≡ outs_of stages source places → rows ≡ lists → IsShownAt m outs rows
+shown-kept : (m : ViewMark) (stages : List Stage) (source : List ℕ) (places : ListPlaces) (outs : Positioned) (lists rows : List Row) → AreKept stages m (inputs_from stages source places) lists → outs ≡ outs_of stages source places → rows ≡ lists → IsShownAt m outs rows
 shown-kept (live kept) stages source places outs lists rows right made is = (made ∙ sym right.0.made.made, right.1 ∙ sym is)
 shown-kept stale stages source places outs lists rows right made is = tt
 

@@ -11,7 +11,7 @@ use Rattle.dv_views.specs.Changed.{with_changed}
 use Rattle.dv_views.specs.Flow.{Flow, Share, Told, all_together, arrivals, arriving, arriving_at_lists, flow_through, handed_by, is_reached, nothing, shares, shares_of, told_at, flow_told, flow_with_told, work_by}
 use Rattle.dv_views.specs.Forms.{ViewForm, is_name_among, is_read_by, names_read}
 use Rattle.dv_views.specs.Placed.{lookups_of, list_places}
-use Rattle.dv_views.specs.Views.{taken_from}
+use Rattle.dv_views.specs.Views.{inputs_from}
 use Rattle.dv_views.proofs.Right.{neither, read_among}
 
 -- ---- nothing comes where nothing is told
@@ -39,7 +39,7 @@ pub no_arrivals : (stages : List Stage) (source : List ℕ) (told : Told) → is
 no_arrivals stages source told away = let are = none_told told (names_read stages source) away in λ i. arriving Left (are.0 i) ++ none-at-lists told 0 (lookups_of stages source) are.1 i
 
 pub not_told_by : (stages : List Stage) (source : List ℕ) (flow : Flow) → is_reached stages source flow.told ≡ false → flow_told stages source flow ≡ None
-not_told_by stages source flow away = ap (λ (b : Bool). if b then Some (handed_by stages (arrivals stages source flow.told) (taken_from stages source flow.places)) else None) away
+not_told_by stages source flow away = ap (λ (b : Bool). if b then Some (handed_by stages (arrivals stages source flow.told) (inputs_from stages source flow.places)) else None) away
 
 -- ---- what no view reads
 
@@ -71,7 +71,7 @@ no-shares-of namespace flow (v ∷ views) alone away =
     let off = not_reached namespace v.stages v.source flow.told alone both.0 in
     let none = no_arrivals v.stages v.source flow.told off in
     let rest = no-shares-of namespace (flow_through flow v) views (still-alone namespace v.name (flow_told v.stages v.source flow) flow.told (not_told_by v.stages v.source flow off) alone) both.1 in
-    λ i. record { reached = off i; work = work_by v.stages (none i) (taken_from v.stages v.source flow.places) } ∷ rest i
+    λ i. record { reached = off i; work = work_by v.stages (none i) (inputs_from v.stages v.source flow.places) } ∷ rest i
 
 nothing-together : (views : List ViewForm) → all_together (map (λ v. nothing) views) (map (λ v. nothing) views) ≡ map (λ v. nothing) views
 nothing-together [] = refl

@@ -13,7 +13,7 @@ use Rattle.dv_pipe.specs.Stages.{Lists}
 use Rattle.dv_views.specs.Changed.{with_changed}
 use Rattle.dv_views.specs.Forms.{ViewForm, names_read, with_places}
 use Rattle.dv_views.specs.Placed.{ListPlaces, forms, lookups_of, list_places}
-use Rattle.dv_views.specs.Views.{Taken, taken_from}
+use Rattle.dv_views.specs.Views.{Inputs, inputs_from}
 
 -- ---- what enters a view
 
@@ -52,26 +52,26 @@ is_reached stages source told = list_any (λ name. is_some (told name)) (names_r
 -- ---- what a view returns
 
 -- the inputs after a change of one of them
-abbrev pub taken_after : Input → Change → Taken → Taken
-taken_after input change t = record { left = left_after input change t.left; named = others_after input change t.named }
+abbrev pub inputs_after : Input → Change → Inputs → Inputs
+inputs_after input change t = record { left = left_after input change t.left; named = others_after input change t.named }
 
 -- the rows, at positions, that the stages return for these inputs
-abbrev pub outs_made : List Stage → Taken → Positioned
+abbrev pub outs_made : List Stage → Inputs → Positioned
 outs_made stages t = through_forms (forms stages t.named) t.left
 
 -- the work of a change of one input: each stage counts 1 for each change that it takes in, and 1 for each that it returns
-abbrev pub work_of : List Stage → Input → Change → Taken → ℕ
+abbrev pub work_of : List Stage → Input → Change → Inputs → ℕ
 work_of stages input change t = work_in input change (forms stages t.named) t.left
 
 -- the changes that the stages return for the changes that enter, one after the other
-abbrev pub handed_by : List Stage → List Arrival → Taken → List Change
+abbrev pub handed_by : List Stage → List Arrival → Inputs → List Change
 handed_by stages [] t = []
-handed_by stages (a ∷ all) t = pass_in a.input a.change (forms stages t.named) t.left ++ handed_by stages all (taken_after a.input a.change t)
+handed_by stages (a ∷ all) t = pass_in a.input a.change (forms stages t.named) t.left ++ handed_by stages all (inputs_after a.input a.change t)
 
 -- the work of the changes that enter, one after the other
-abbrev pub work_by : List Stage → List Arrival → Taken → ℕ
+abbrev pub work_by : List Stage → List Arrival → Inputs → ℕ
 work_by stages [] t = 0
-work_by stages (a ∷ all) t = work_of stages a.input a.change t + work_by stages all (taken_after a.input a.change t)
+work_by stages (a ∷ all) t = work_of stages a.input a.change t + work_by stages all (inputs_after a.input a.change t)
 
 -- ---- from one view to the next
 
@@ -82,7 +82,7 @@ pub record Flow : Type 0 where
 
 -- the changes that a pipeline over a source returns; none if it isn't reached
 abbrev pub flow_told : List Stage → List ℕ → Flow → Option (List Change)
-flow_told stages source flow = if is_reached stages source flow.told then Some (handed_by stages (arrivals stages source flow.told) (taken_from stages source flow.places)) else None
+flow_told stages source flow = if is_reached stages source flow.told then Some (handed_by stages (arrivals stages source flow.told) (inputs_from stages source flow.places)) else None
 
 -- the changes of each namespace, with those of one more name
 abbrev pub flow_with_told : List ℕ → Option (List Change) → Told → Told
@@ -117,7 +117,7 @@ all_together (a ∷ some) (b ∷ others) = shares_together a b ∷ all_together 
 abbrev pub shares_of : Flow → List ViewForm → List Share
 shares_of flow [] = []
 shares_of flow (v ∷ views) =
-    record { reached = is_reached v.stages v.source flow.told; work = work_by v.stages (arrivals v.stages v.source flow.told) (taken_from v.stages v.source flow.places) }
+    record { reached = is_reached v.stages v.source flow.told; work = work_by v.stages (arrivals v.stages v.source flow.told) (inputs_from v.stages v.source flow.places) }
     ∷ shares_of (flow_through flow v) views
 
 -- the share of each view in changes of one namespace; each change flows through all views before the next

@@ -3,7 +3,7 @@ use Rattle.std.specs.Prelude.{ℕ, List, [], ◌∷◌, map, take, drop, Option,
 use Rattle.dv_change.specs.declared.position.Part.TheVariants.{Up}
 use Rattle.dv_change.specs.Changes.{Positioned}
 use Rattle.dv_change.specs.Positions.{PosTree}
-use Rattle.dv_change.specs.Work.{Form}
+use Rattle.dv_change.specs.Work.{Transform}
 use Rattle.dv_coll.specs.Collection.{id_key}
 use Rattle.dv_flow.specs.Placed.{front_at, matched_at, shown_at, sorted_at, unwound_at}
 use Rattle.dv_group.specs.Placed.{grouped_at}
@@ -34,7 +34,7 @@ abbrev pub lists_in : Stage → ℕ
 lists_in s = listed_under (from_of s)
 
 -- stages, each with the lists that it reads; these are given for all stages in their order
-abbrev pub forms : List Stage → List Positioned → List Form
+abbrev pub forms : List Stage → List Positioned → List Transform
 forms [] named = []
 forms (s ∷ ss) named = record { makes = stage_at s; named = take (lists_in s) named } ∷ forms ss (drop (lists_in s) named)
 

@@ -6,7 +6,7 @@ use Rattle.dv_views.specs.Placed.{ListPlaces, lookups_of}
 use Rattle.dv_views.specs.declared.stage_operator.StageOperator.{StageOperator}
 
 -- the inputs that a view has taken in: the rows of its source, and the rows of each list that its stages read, in their order
-pub record Taken : Type 0 where
+pub record Inputs : Type 0 where
   pub left : Positioned
   pub named : List Positioned
 
@@ -30,5 +30,5 @@ pub record View : Type 0 where
   pub mark : ViewMark
 
 -- the inputs of a pipeline over a source, from the rows at positions of each namespace
-abbrev pub taken_from : List Stage → List ℕ → ListPlaces → Taken
-taken_from stages source places = record { left = places source; named = map places (lookups_of stages source) }
+abbrev pub inputs_from : List Stage → List ℕ → ListPlaces → Inputs
+inputs_from stages source places = record { left = places source; named = map places (lookups_of stages source) }

@@ -1,6 +1,6 @@
 //! Rows of views by their `_id`s.
 
-ghost use Rattle.std.specs.Prelude.{◌≡◌, ◌∷◌, [], false, filter, length, reverse, IfOk};
+ghost use Rattle.std.specs.Prelude.{◌≡◌, ◌∷◌, [], false, filter, reverse, IfOk};
 ghost use Rattle.std.specs.BTreeMap.Range.{IsLeBy, IsLtBy, range_contains};
 ghost use Rattle.std.specs.Iterator.{YieldsFirstRef, item_count};
 ghost use Rattle.std.specs.List.{AllByRecursion};
@@ -103,14 +103,6 @@ impl<'a> Model for RowsById<'a> {
 }
 
 impl<'a> RowsById<'a> {
-    /// How many rows there are.
-    pub fn len(&self) -> usize
-        ensures count { result ≡ length self.now }
-        ensures ascending { IsAscending self.now }
-    {
-        self.live.len()
-    }
-
     /// That the rows ascend by their `_id`s. Does nothing.
     pub fn law_ascending(&self)
         ensures { IsAscending self.now }

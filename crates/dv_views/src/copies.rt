@@ -57,8 +57,8 @@ impl Copies {
         self.lists.contains_key(namespace)
     }
 
-    /// Takes in a change of the namespace, and tells what stood there. None where nothing is kept of the namespace, and where
-    /// memory is wanting for the change; then nothing is kept of it any more.
+    /// Takes in a change of the namespace, and tells what stood there. None where nothing is kept of the namespace, and when
+    /// memory runs out for the change; then nothing is kept of it any more.
     pub(crate) fn take(&mut self, namespace: &str, change: &Change) -> Option<Taken>
         ensures { HaveTold namespace.now change.now self.old self.new result }
     {
@@ -72,8 +72,8 @@ impl Copies {
         }
     }
 
-    /// Keeps the documents under these names that are no views, unless they are kept already. Fails where memory is wanting;
-    /// then some of them may be kept.
+    /// Keeps the documents under these names that are no views, unless they are kept already. Fails when memory runs out; then
+    /// some of them may be kept.
     pub(crate) fn keep_all(
         &mut self,
         alloc: Global,
@@ -92,7 +92,7 @@ impl Copies {
         Ok(())
     }
 
-    /// Keeps the documents of a namespace. Fails where memory is wanting; then nothing is changed.
+    /// Keeps the documents of a namespace. Fails when memory runs out; then nothing is changed.
     fn keep(
         &mut self,
         alloc: Global,
@@ -117,7 +117,7 @@ impl Copies {
     }
 }
 
-/// Takes in a change, which is told with what stood there. Fails where memory is wanting.
+/// Takes in a change, which is told with what stood there. Fails when memory runs out.
 fn taken_in(rows: &mut BTreeMap<Pos, Document>, change: &Change) -> Result<Taken, NoMemory>
     requires { IsPositioned rows.old.entries }
     ensures told { IfOk result (λ taken. taken ≡ with_old rows.old.entries change.now) }
@@ -127,7 +127,7 @@ fn taken_in(rows: &mut BTreeMap<Pos, Document>, change: &Change) -> Result<Taken
     take_in(rows, change.try_clone()?)
 }
 
-/// The documents, which are in the order of their `_id`s, at their positions. Fails where memory is wanting.
+/// The documents, which are in the order of their `_id`s, at their positions. Fails when memory runs out.
 fn copy_of(alloc: Global, documents: &[&Document]) -> Result<BTreeMap<Pos, Document>, NoMemory>
     requires { AreInOrder (rows_referred documents.now) }
     ensures { IfOk result (λ copy. copy.entries ≡ positioned (rows_referred documents.now)) }

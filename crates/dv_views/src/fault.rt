@@ -23,7 +23,7 @@ pub enum ViewFault {
 impl ViewFault {
     ghost use Rattle.dv_views.specs.Inner.Fault.{view_fault_number};
 
-    /// The fault's number.
+    /// The fault's number: 1 for `Exists`, 2 for `ReadByView`, 4 for `LimitReached`, 5 for `NoMemory`.
     pub fn number(&self) -> u8
         ensures { result ≡ view_fault_number self.now }
     {

@@ -33,7 +33,7 @@ pub(crate) fn take_each(
     fall_silent(views, places);
 }
 
-/// Hands a change for which memory was wanting on to the views at these places: to all that it comes to. Takes no memory.
+/// Hands a change for which memory ran out on to the views at these places: to all that it comes to. Takes no memory.
 pub(crate) fn lose_each(
     alloc: Global,
     views: &mut IndexMap<String, View>,

@@ -14,7 +14,7 @@ use dv_pipe::Pipeline;
 use dv_value::NoMemory;
 use std::alloc::Global;
 
-/// Rows of stages that have taken in nothing. Fails where memory is wanting.
+/// Rows of stages that have taken in nothing. Fails when memory runs out.
 pub(crate) fn nothing_taken_in(
     alloc: Global,
     pipeline: &Pipeline,
@@ -28,7 +28,7 @@ pub(crate) fn nothing_taken_in(
 }
 
 /// Takes in what is told to an input, one change after the other, where anything is, and tells what changes of the rows behind
-/// what is in `told`. Fails where memory is wanting; then the rows are dropped.
+/// what is in `told`. Fails when memory runs out; then the rows are dropped.
 pub(crate) fn taken_in_told(
     rows: ToldRows<StageOperator>,
     input: Input,
@@ -77,7 +77,7 @@ fn taken_in(
     rows.take(input, taken.try_clone()?, told)
 }
 
-/// Takes in rows of the source, where none of it was taken in. Counts nothing. Fails where memory is wanting; then the rows are
+/// Takes in rows of the source, where none of it was taken in. Counts nothing. Fails when memory runs out; then the rows are
 /// dropped.
 pub(crate) fn filled_left(
     rows: ToldRows<StageOperator>,

@@ -11,7 +11,7 @@ ghost use Rattle.dv_change.specs.Changes.{at, with_change};
 ghost use Rattle.dv_change.specs.Inner.Changes.{HaveOneLength, IsPositioned};
 ghost use Rattle.dv_order.specs.Key.{KeyTree};
 ghost use Rattle.dv_pipe.specs.Sources.{Row};
-ghost use Rattle.dv_pipe.specs.Stages.{Lists};
+ghost use Rattle.dv_pipe.specs.Stages.{Lists, is_read};
 ghost use Rattle.dv_pipe.specs.declared.stage.Stage.{Stage};
 ghost use Rattle.dv_views.specs.Changed.{documents_changed};
 ghost use Rattle.dv_views.specs.Inner.Changed.{AreMade, AreMadeInTurn, IsMade};
@@ -20,7 +20,7 @@ ghost use Rattle.dv_views.specs.Inner.Fault.{view_fault_number};
 ghost use Rattle.dv_views.specs.Inner.Made.{AreFromScratch};
 ghost use Rattle.dv_views.specs.Inner.Examples.{over_lists, seven_views};
 ghost use Rattle.dv_views.specs.Flow.{nothing, shares};
-ghost use Rattle.dv_views.specs.Forms.{ViewForm, fault_of_new, height_over, heights, is_name_among, is_read_by, needed, rows_over};
+ghost use Rattle.dv_views.specs.Forms.{ViewForm, fault_of_new, height_over, heights, is_name_among, is_read_by, names_read, needed, rows_over};
 ghost use Rattle.dv_views.specs.Placed.{ListPlaces, own_position, positioned};
 ghost use Rattle.dv_views.specs.Inner.Views.{AreNamedApart, AreRight, AreSameWhereRead, Views, view_form, reads_name, rows_shown, views_without};
 ghost use Rattle.dv_views.specs.declared.fault.ViewFault.TheVariants.{Exists, LimitReached, NoMemory, ReadByView};
@@ -36,6 +36,13 @@ pub fn a_put_is_the_collections()
 #[tactic(auto, using(crate::proofs::Made::gone_made))]
 pub fn a_gone_is_the_collections()
     ensures { (k : KeyTree) (ds : List Row) → IsAscending ds → documents_changed (Gone (Up k ∷ []) ∷ []) ds ≡ removed k ds }
+{}
+
+/// A pipeline reads its source and the lists of its `$lookup`s, and nothing else: the test by which creates and drops are refused, and
+/// the names by which changes reach views, say the same.
+#[tactic(auto, using(crate::proofs::Right::read_among))]
+pub fn what_a_pipeline_reads_is_listed()
+    ensures { (stages : List Stage) (source name : List ℕ) → is_read stages source name ≡ is_name_among name (names_read stages source) }
 {}
 
 /// Without a change nothing changes.

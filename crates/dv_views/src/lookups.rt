@@ -67,7 +67,7 @@ pub(crate) fn is_listed(names: &[Str], name: &str) -> bool
     false
 }
 
-/// Puts the names that the view reads behind the others. Fails where memory is wanting.
+/// Puts the names that the view reads behind the others. Fails when memory runs out.
 pub(crate) fn push_names_read(names: &mut Vec<Str>, view: &View) -> Result<(), NoMemory>
     ensures { OnOk result (names.new.items ≡ names.old.items ++ names_read view.now.stages view.now.source) }
 {

@@ -37,7 +37,7 @@ pub(crate) struct Ground<'a> {
 }
 
 /// What the pipeline over `source` makes of what it reads there, kept by changes; `lookups` is what its stages look into, and no
-/// view that it reads is stale. Nothing is counted. Fails where memory is wanting.
+/// view that it reads is stale. Nothing is counted. Fails when memory runs out.
 pub(crate) fn made(
     alloc: Global,
     ground: &Ground<'_>,
@@ -96,7 +96,7 @@ fn filled_list(
     taken_in_each(rows, Input::Named(place), firsts.as_slice(), &mut told)
 }
 
-/// What stands under a name, each row put at its position, where none stood. Fails where memory is wanting.
+/// What stands under a name, each row put at its position, where none stood. Fails when memory runs out.
 fn firsts_under(alloc: Global, ground: &Ground<'_>, name: &str) -> Result<Vec<Taken>, NoMemory>
     requires ordered { AreInOrder (lists_below ground.now name.now) }
     requires live { IsNoStale (view_under name.now (views_below ground.now)) }
@@ -109,7 +109,7 @@ fn firsts_under(alloc: Global, ground: &Ground<'_>, name: &str) -> Result<Vec<Ta
     }
 }
 
-/// The rows of a view that isn't stale, each put at its position. Fails where memory is wanting.
+/// The rows of a view that isn't stale, each put at its position. Fails when memory runs out.
 fn firsts_of_view(alloc: Global, view: &View) -> Result<Vec<Taken>, NoMemory>
     requires { is_stale view.now.mark ≡ false }
     ensures firsts { IfOk result (λ firsts. firsts.items ≡ firsts_of (outs_of_mark view.now.mark)) }
@@ -121,7 +121,7 @@ fn firsts_of_view(alloc: Global, view: &View) -> Result<Vec<Taken>, NoMemory>
     firsts_of_rows(alloc, rows)
 }
 
-/// The rows, each put at its position. Fails where memory is wanting.
+/// The rows, each put at its position. Fails when memory runs out.
 fn firsts_of_rows(alloc: Global, rows: &ToldRows<StageOperator>) -> Result<Vec<Taken>, NoMemory>
     ensures { IfOk result (λ firsts. firsts.items ≡ firsts_of rows.now.rows.entries) }
 {
@@ -136,7 +136,7 @@ fn firsts_of_rows(alloc: Global, rows: &ToldRows<StageOperator>) -> Result<Vec<T
     Ok(firsts)
 }
 
-/// The documents, each put at its own position. Fails where memory is wanting.
+/// The documents, each put at its own position. Fails when memory runs out.
 fn firsts_of_documents(alloc: Global, documents: &[&Document]) -> Result<Vec<Taken>, NoMemory>
     requires { AllByRecursion HasId (rows_referred documents.now) }
     ensures { IfOk result (λ firsts. firsts.items ≡ firsts_of (positioned (rows_referred documents.now))) }

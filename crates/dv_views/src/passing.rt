@@ -9,7 +9,7 @@ ghost use Rattle.dv_views.specs.Inner.Ground.{IsLiveView};
 ghost use Rattle.dv_views.specs.Inner.Keeping.{IsSoundLive, kept_seen};
 ghost use Rattle.dv_views.specs.Inner.Older.{told_found};
 ghost use Rattle.dv_views.specs.Inner.Passing.{IsLostAt, IsTakenAt, older_views, told_to};
-ghost use Rattle.dv_views.specs.declared.passing.Left.TheVariants.{NoMemory};
+ghost use Rattle.dv_views.specs.declared.passing.StaleCause.TheVariants.{NoMemory};
 ghost use Rattle.dv_views.specs.Inner.Seen.{entry_view};
 ghost use Rattle.dv_views.specs.Inner.Turned.{Turns, comes_to, coming_to_lists, coming_under};
 ghost use Rattle.dv_views.specs.Inner.Views.{AreNamedApart, view_under};
@@ -25,18 +25,18 @@ use std::alloc::{AllocError, Global};
 
 /// Why a view is left stale by a change.
 #[derive(Debug, Drop)]
-pub(crate) enum Left {
-    /// Memory was wanting.
+pub(crate) enum StaleCause {
+    /// Memory ran out.
     NoMemory,
     /// A view that it reads is stale.
     StaleBelow,
 }
 
-impl From<AllocError> for Left {
-    ghost from_gives = { λ _ left. left ≡ NoMemory };
+impl From<AllocError> for StaleCause {
+    ghost from_gives = { λ _ cause. cause ≡ NoMemory };
 
-    fn from(_refused: AllocError) -> Left {
-        Left::NoMemory
+    fn from(_refused: AllocError) -> StaleCause {
+        StaleCause::NoMemory
     }
 }
 
@@ -103,22 +103,22 @@ impl<'a> Passing<'a> {
         }
     }
 
-    /// Takes in what comes to the source and to each list that a stage looks into, and tells what changes of the rows. Fails
-    /// where memory is wanting, and where a view that is read is stale; then the rows are dropped.
+    /// Takes in what comes to the source and to each list that a stage looks into, and tells what changes of the rows. Fails when
+    /// memory runs out, and where a view that is read is stale; then the rows are dropped.
     fn turned(
         &self,
         alloc: Global,
         live: ToldRows<StageOperator>,
         source: &str,
         lookups: &[Str],
-    ) -> Result<(ToldRows<StageOperator>, Vec<Taken>), Left>
+    ) -> Result<(ToldRows<StageOperator>, Vec<Taken>), StaleCause>
         requires { IsSoundLive live }
         ensures sound { IfOk result (λ r. IsSoundLive r.0) }
         ensures turns { IfOk result (λ r. Turns (coming_under source.now lookups.now (told_to self.now)) (kept_seen live) [] (kept_seen r.0) r.1.items) }
         ensures live { IfOk result (λ _. AllByRecursion (λ name. IsLiveView (view_under name (older_views self.now))) (source.now ∷ lookups.now)) }
     {
         if !self.is_live(source) || !self.are_live(lookups) {
-            return Err(Left::StaleBelow);
+            return Err(StaleCause::StaleBelow);
         }
         let mut told = Vec::new(alloc);
         let come = self.told(source);
@@ -178,8 +178,8 @@ pub(crate) fn take_at(
     views[place].settle(turned);
 }
 
-/// Hands a change for which memory was wanting on to the view at a place: where it comes to what the view reads, this drops what
-/// it keeps and is stale. Takes no memory.
+/// Hands a change for which memory ran out on to the view at a place: where it comes to what the view reads, this drops what it
+/// keeps and is stale. Takes no memory.
 pub(crate) fn lose_at(
     alloc: Global,
     views: &mut IndexMap<String, View>,

@@ -37,7 +37,7 @@ impl Readers {
         }
     }
 
-    /// The lists with a view more, which will stand behind the others. Fails where memory is wanting.
+    /// The lists with a view more, which will stand behind the others. Fails when memory runs out.
     pub(crate) fn with(
         &self,
         alloc: Global,
@@ -84,7 +84,7 @@ impl Readers {
     }
 }
 
-/// The places with that of a view more, where a change of the namespace comes to it. Fails where memory is wanting.
+/// The places with that of a view more, where a change of the namespace comes to it. Fails when memory runs out.
 fn places_with(
     alloc: Global,
     places: &[usize],
@@ -111,7 +111,7 @@ fn reads_one(view: &View, views: &IndexMap<String, View>, places: &[usize]) -> b
     })
 }
 
-/// Lists this place under the name, where nothing is listed. Fails where memory is wanting.
+/// Lists this place under the name, where nothing is listed. Fails when memory runs out.
 fn list_under(
     alloc: Global,
     lists: &mut IndexMap<String, Vec<usize>>,

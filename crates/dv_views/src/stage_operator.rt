@@ -122,7 +122,7 @@ impl Operator for StageOperator {
     }
 }
 
-/// The stages, where they have taken in nothing. Fails where memory is wanting.
+/// The stages, where they have taken in nothing. Fails when memory runs out.
 pub(crate) fn operators_of(alloc: Global, stages: &[Stage]) -> Result<Vec<StageOperator>, NoMemory>
     ensures { IfOk result (λ operators. AreFresh stages.now operators.items) }
 {
@@ -134,7 +134,7 @@ pub(crate) fn operators_of(alloc: Global, stages: &[Stage]) -> Result<Vec<StageO
     Ok(operators)
 }
 
-/// The stage, where it has taken in nothing. Fails where memory is wanting.
+/// The stage, where it has taken in nothing. Fails when memory runs out.
 #[tactic(auto, unfolding(crate::specs::Placed::stage_at))]
 fn operator_of(alloc: Global, stage: &Stage) -> Result<StageOperator, NoMemory>
     ensures { IfOk result (λ operator. IsFreshStage stage.now operator) }

@@ -237,8 +237,8 @@ impl ToldRegistry {
         Ok(self.add(name, source, pipeline, sources)?)
     }
 
-    /// Adds a view under a new name behind the others, none of which that it reads is stale. Fails where memory is wanting;
-    /// then nothing is changed.
+    /// Adds a view under a new name behind the others, none of which that it reads is stale. Fails when memory runs out; then
+    /// nothing is changed.
     fn add(
         &mut self,
         name: &str,
@@ -330,8 +330,8 @@ impl ToldRegistry {
         Ok(())
     }
 
-    /// Makes the view at a place anew, where it is stale and its name is one of these. Fails where memory is wanting; then
-    /// nothing is changed.
+    /// Makes the view at a place anew, where it is stale and its name is one of these. Fails when memory runs out; then nothing
+    /// is changed.
     fn refresh_at(
         &mut self,
         place: usize,

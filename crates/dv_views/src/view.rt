@@ -88,7 +88,7 @@ impl View {
         }
     }
 
-    /// The namespace whose documents it has as its rows at first.
+    /// The collection or view that its pipeline reads.
     pub(crate) fn source(&self) -> &str
         ensures { result.now ≡ self.now.source }
     {

@@ -10,7 +10,7 @@ use Rattle.dv_command.specs.Asked.{Asked, ViewOn, create, drop}
 use Rattle.dv_refusal.specs.declared.refusal.Refusal.{Refusal}
 use Rattle.dv_core.specs.Marks.{AreMarkedAll, AreMarkedByEach, AreMarkedByWrite, AreMarkedWhereDropped, due_changes, marks_behind_all, marks_of_drop, marks_where_made, marks_where_read, marks_written, read_by}
 use Rattle.dv_core.specs.State.{State}
-use Rattle.dv_core.specs.Statements.{WriteCounts, Written, nothing_written, with_next}
+use Rattle.dv_core.specs.Statements.{WriteSteps, Written, nothing_written, with_next}
 use Rattle.dv_core.specs.Writes.{write_by}
 use Rattle.dv_views.specs.Flow.{Share}
 use Rattle.dv_views.specs.Forms.{ViewForm, is_name_among, names_read, needed}
@@ -51,7 +51,7 @@ module _ (namespace : List ℕ) (ordered : Bool) (views : List ViewForm) where
 -- ---- behind a command
 
 module _ (old : State) (marks : Marks) (are_live : AreAllLive marks) where
-  write_counted : (view : Bool) (write : WriteCounts) → AreMarkedByWrite view write old marks
+  write_counted : (view : Bool) (write : WriteSteps) → AreMarkedByWrite view write old marks
       → marks ≡ (if view then old.marks else marks_written write.namespace write.ordered old.catalog.views (nothing_written old.catalog.namespaces) write.statements old.marks)
   write_counted true write is = is
   write_counted false write each = (each_counted write.namespace write.ordered old.catalog.views (nothing_written old.catalog.namespaces) write.statements old.marks marks each are_live).1

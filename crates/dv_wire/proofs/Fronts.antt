@@ -39,7 +39,7 @@ module _ (by_front : SplitByFronts) where
   pub split_whole : (bytes : List ℕ) (message : Message) (following : List ℕ) → stream_front bytes ≡ whole message following → split bytes ≡ split_behind message (split following)
   split_whole bytes message following e = by_front bytes ∙ rw e refl
 
--- what the code sees is the front, unless memory was wanting to look at its sections
+-- what the code sees is the front, unless memory ran out to look at its sections
 pub seen_is : (seen : code.Front) (shown : StreamFront) → (front_seen seen ≡ shown) ⊎ (seen ≡ Closing NoMemory) → (seen ≡ Closing NoMemory → ⊥) → shown ≡ front_seen seen
 seen_is seen shown (inl e) other = sym e
 seen_is seen shown (inr want) other = absurd (other want)

@@ -1,14 +1,13 @@
 -- What was read of a session, as it is fed message by message.
-use Rattle.std.proofs.Common.{◌≡◌, ℕ, ◌-◌, ◌≤◌, ◌<◌, min, max, eqb, true, List, [], ◌∷◌, ◌++◌, length, take, drop, Option, Some, None, refl, sym, ap, subst, ◌∙◌, append_assoc, arith, inl, inr}
+use Rattle.std.proofs.Common.{◌≡◌, ℕ, ◌<◌, eqb, true, List, [], ◌++◌, length, take, drop, Option, Some, None, refl, sym, ap, subst, ◌∙◌, append_assoc, arith, inl, inr}
 use Rattle.std.specs.List.{concat}
-use Rattle.std.specs.Io.KnownBytes.{Appends}
-use Rattle.std.proofs.KnownBytes.{Appends-nil, Appends-trans}
+use Rattle.std.proofs.KnownBytes.{Appends-trans}
 use Rattle.std.proofs.lemmas.List.{append-nil, take-append-drop}
 use Rattle.std.proofs.lemmas.List.Folds.{concat-append}
-use Rattle.dv_message.specs.Message.{Conversation, reading, closed, shown_length}
+use Rattle.dv_message.specs.Message.{Conversation}
 use Rattle.dv_wire.specs.declared.hub.Fed.{Fed}
 use Rattle.dv_wire.specs.declared.session.Counts.{Counts}
-use Rattle.dv_wire.specs.Schedule.{World, Comes, conversation_of, whole_front, in_front, world_behind}
+use Rattle.dv_wire.specs.Schedule.{World, Comes, conversation_of, in_front, world_behind}
 use Rattle.dv_wire.specs.Inner.View.{AnswersAll, Came, Counted, Writes}
 use Rattle.dv_wire.proofs.Counting.{Counted-append, Counted-none}
 use Rattle.dv_wire.proofs.Cuts.{hears_joined, world_twice}
@@ -16,15 +15,6 @@ use Rattle.dv_wire.proofs.Fronts.{GoOn}
 use Rattle.dv_wire.proofs.Worlds.{conversation_of-with}
 
 -- ---- where a piece is cut
-
-within_some : (n m : ℕ) → 0 < n → (0 < min n (max 1 m)) × (min n (max 1 m) ≤ n)
-within_some n m some = (omega (arith, some), omega arith)
-
-pub front_within : (here : Option Conversation) (piece : List ℕ) → 0 < length piece → (0 < whole_front here piece) × (whole_front here piece ≤ length piece)
-front_within None piece some = (some, omega arith)
-front_within (Some (closed fault)) piece some = (some, omega arith)
-front_within (Some (reading [])) piece some = within_some (length piece) (shown_length piece) some
-front_within (Some (reading (b ∷ kept))) piece some = within_some (length piece) (shown_length (b ∷ kept) - length (b ∷ kept)) some
 
 -- ---- one piece behind another
 
@@ -95,17 +85,6 @@ pub record Answering (session : ℕ) (old : World) (read rest left : List ℕ) (
   pub counted : Counted first answers now
   pub writes : Writes (concat answers) left before after
   pub none_left : rest ≡ [] → left ≡ []
-
-pub begins : (session : ℕ) (old : World) (read left : List ℕ) (counts : Counts) (told : Fed) (before : Option (List ℕ)) → left ≡ [] → Answering session old read read left counts counts told old before before
-begins session old read left counts told before none = record {
-  front = [];
-  answers = [];
-  parts = refl;
-  came = inl (refl, refl, refl);
-  counted = Counted-none counts;
-  writes = ([], sym none, Appends-nil before);
-  none_left = λ end. none;
-}
 
 module _ (go_on : GoOn) (session : ℕ) (old here new : World) (read rest left : List ℕ) (first now counts : Counts) (told : Fed) (before mid : Option (List ℕ))
     (answering : Answering session old read rest left first now told here before mid) (count : ℕ) (answers : List (List ℕ)) (last : Fed) (both : List ℕ)
@@ -191,9 +170,3 @@ hears_next go_on session old here new all rest first now counts count answers la
   came = came_more go_on session old here new hearing.front (take count rest) hearing.answers answers hearing.told last hearing.came comes;
   counted = Counted-append hearing.answers answers first now counts hearing.counted counted;
 }
-
-pub hears_all : (session : ℕ) (old new : World) (all rest : List ℕ) (first counts : Counts) → rest ≡ [] → Hearing session old all rest first counts new
-    → (answers : List (List ℕ)) × (told : Fed) × Came old session all answers told new × Counted first answers counts
-hears_all session old new all rest first counts end hearing =
-    let whole : all ≡ hearing.front = hearing.parts ∙ ap (λ (b : List ℕ). hearing.front ++ b) end ∙ append-nil hearing.front in
-    (hearing.answers, hearing.told, subst (λ (b : List ℕ). Came old session b hearing.answers hearing.told new) (sym whole) hearing.came, hearing.counted)

@@ -35,7 +35,7 @@ pub unmarked : (old : State) (asked : Result Asked Refusal) (marks : Marks) → 
 unmarked old (Ok asked) marks same = inl same
 unmarked old (Err refusal) marks same = same
 
--- where memory was wanting to read a command, that is told of it which may be told of any command
+-- when memory ran out to read a command, that is told of it which may be told of any command
 steps_unread : (session : ℕ) (old new : State) (command : Command) (outcome : Outcome) → MemoryStep old session (Invalid bson.NoMemory) outcome new → TellsOfWant outcome → MemoryStep old session command outcome new
 steps_unread session old new command (Reply reply) steps told = absurd told
 steps_unread session old new command (Wanting reply) (inl (refused, same)) told = inl (refused, unmarked old (asked_by command) new.marks same)
@@ -49,7 +49,7 @@ pub steps_as : (session : ℕ) (old new : State) (meant read : Command) (outcome
 steps_as session old new meant read outcome (inl e) steps told = rw e steps
 steps_as session old new meant read outcome (inr e) steps told = steps_unread session old new meant outcome (rw e at steps) (told e)
 
--- the answers of a command for which memory is wanting, by what it asks
+-- the answers of a command for which memory runs out, by what it asks
 abbrev WantsAsked : State → Result Asked Refusal → Answer → Marks → Type 0
 WantsAsked old asked answer marks = ((answer ≡ answered old (Err WantOfMemory)) × AreMarkedForWant old asked marks) ⊎ Cut old asked answer marks
 

@@ -17,7 +17,7 @@ use Rattle.dv_wire.specs.declared.hub.Fed.{Fed}
 use Rattle.dv_wire.specs.declared.hub.SessionId.{SessionId}
 use Rattle.dv_message.specs.Bytes.{BringsBytes, BringBytes, KeepsBytes, IsByteSplit}
 use Rattle.dv_message.specs.Sections.{Section, body, named}
-use Rattle.dv_message.specs.Commands.{fields_in, each_read, Brought, brought_body, brought_list, brought_by, body_among, lists_among, read_in, command_from, command_of}
+use Rattle.dv_message.specs.Commands.{fields_in, each_read, SectionRead, read_body, read_list, section_read, body_among, lists_among, read_in, command_from, command_of}
 use Rattle.dv_message.specs.Message.{Message, Conversation, reading, closed, Split, split}
 use Rattle.dv_wire.specs.Schedule.{Run, World, world_of, conversation_of, with_conversation, sessions_but, bytes_to, CarriesOutMessages, TakesSplit, takes_all, takes_some, Hears, Opens, Feeds, end}
 use Rattle.dv_wire.specs.Sound.{IsSoundWorld}
@@ -61,23 +61,23 @@ record IsSoundRun (run : Run) : Type 0 where
   state : IsSound run.state
   keeps : KeepsBytes run.conversation
 
-abbrev IsSoundlyBrought : Brought → Type 0
-IsSoundlyBrought (brought_body fields) = IsSoundDocument fields
-IsSoundlyBrought (brought_list name documents) = AllByRecursion IsSoundDocument documents
+abbrev IsSoundlyBrought : SectionRead → Type 0
+IsSoundlyBrought (read_body fields) = IsSoundDocument fields
+IsSoundlyBrought (read_list name documents) = AllByRecursion IsSoundDocument documents
 
 nothing_sound : IsSoundDocument []
 unfolding payload fields_spelling framed
 nothing_sound = record { valid = tt; fits = record { size = lit≤ tt; depth = lit≤ tt } }
 
-body_sound : (before : List Field) (brought : List Brought) → IsSoundDocument before → AllByRecursion IsSoundlyBrought brought → IsSoundDocument (body_among before brought)
+body_sound : (before : List Field) (brought : List SectionRead) → IsSoundDocument before → AllByRecursion IsSoundlyBrought brought → IsSoundDocument (body_among before brought)
 body_sound before [] sound all = sound
-body_sound before (brought_body fields ∷ others) sound all = body_sound fields others all.0 all.1
-body_sound before (brought_list name documents ∷ others) sound all = body_sound before others sound all.1
+body_sound before (read_body fields ∷ others) sound all = body_sound fields others all.0 all.1
+body_sound before (read_list name documents ∷ others) sound all = body_sound before others sound all.1
 
-lists_sound : (brought : List Brought) → AllByRecursion IsSoundlyBrought brought → AllByRecursion (λ list. AllByRecursion IsSoundDocument list.1) (lists_among brought)
+lists_sound : (brought : List SectionRead) → AllByRecursion IsSoundlyBrought brought → AllByRecursion (λ list. AllByRecursion IsSoundDocument list.1) (lists_among brought)
 lists_sound [] all = tt
-lists_sound (brought_body fields ∷ others) all = lists_sound others all.1
-lists_sound (brought_list name documents ∷ others) all = (all.0, lists_sound others all.1)
+lists_sound (read_body fields ∷ others) all = lists_sound others all.1
+lists_sound (read_list name documents ∷ others) all = (all.0, lists_sound others all.1)
 
 -- the first is read, and the others
 first_read : {A : Type 0} (x : Result A BsonFault) (xs : Result (List A) BsonFault) (all : List A) → (x >>= λ y. xs >>= λ ys. Ok (y ∷ ys)) ≡ Ok all
@@ -101,27 +101,27 @@ module _ (bring : laws.BringBytes) (reads : ReadsSound) (stays : StaysSound) whe
   fields_sound : (bytes : List ℕ) (fields : List Field) → IsBytes bytes → fields_in bytes ≡ Ok fields → IsSoundDocument fields
   fields_sound bytes fields h e = fields_by bytes (document_at bytes) fields h refl e
 
-  body_by : (read : Result (List Field) BsonFault) (brought : Brought) → ((fields : List Field) → read ≡ Ok fields → IsSoundDocument fields) → (read >>= λ fields. Ok (brought_body fields)) ≡ Ok brought → IsSoundlyBrought brought
-  body_by (Ok fields) brought sound e = let same : brought_body fields ≡ brought = cc in subst IsSoundlyBrought same (sound fields refl)
+  body_by : (read : Result (List Field) BsonFault) (brought : SectionRead) → ((fields : List Field) → read ≡ Ok fields → IsSoundDocument fields) → (read >>= λ fields. Ok (read_body fields)) ≡ Ok brought → IsSoundlyBrought brought
+  body_by (Ok fields) brought sound e = let same : read_body fields ≡ brought = cc in subst IsSoundlyBrought same (sound fields refl)
   body_by (Err fault) brought sound e = absurd cc
 
-  list_by : (name : List ℕ) (read : Result (List (List Field)) BsonFault) (brought : Brought) → ((all : List (List Field)) → read ≡ Ok all → AllByRecursion IsSoundDocument all)
-      → (read >>= λ all. Ok (brought_list name all)) ≡ Ok brought → IsSoundlyBrought brought
-  list_by name (Ok all) brought sound e = let same : brought_list name all ≡ brought = cc in subst IsSoundlyBrought same (sound all refl)
+  list_by : (name : List ℕ) (read : Result (List (List Field)) BsonFault) (brought : SectionRead) → ((all : List (List Field)) → read ≡ Ok all → AllByRecursion IsSoundDocument all)
+      → (read >>= λ all. Ok (read_list name all)) ≡ Ok brought → IsSoundlyBrought brought
+  list_by name (Ok all) brought sound e = let same : read_list name all ≡ brought = cc in subst IsSoundlyBrought same (sound all refl)
   list_by name (Err fault) brought sound e = absurd cc
 
-  brought_sound : (section : Section) (brought : Brought) → BringsBytes section → brought_by section ≡ Ok brought → IsSoundlyBrought brought
+  brought_sound : (section : Section) (brought : SectionRead) → BringsBytes section → section_read section ≡ Ok brought → IsSoundlyBrought brought
   brought_sound (body document) brought h e = body_by (fields_in document) brought (λ fields is. fields_sound document fields h is) e
   brought_sound (named name documents) brought h e =
       list_by name (each_read fields_in documents) brought (λ all are. each_sound IsBytes IsSoundDocument fields_in fields_sound documents all h are) e
 
-  command_by : (read : Result (List Brought) BsonFault) → ((brought : List Brought) → read ≡ Ok brought → AllByRecursion IsSoundlyBrought brought)
+  command_by : (read : Result (List SectionRead) BsonFault) → ((brought : List SectionRead) → read ≡ Ok brought → AllByRecursion IsSoundlyBrought brought)
       → IsSoundCommand (command_from (read >>= λ brought. Ok (body_among [] brought, lists_among brought)))
   command_by (Ok brought) sound = (body_sound [] brought nothing_sound (sound brought refl), lists_sound brought (sound brought refl))
   command_by (Err fault) sound = tt
 
   command_sound : (sections : List Section) → AllByRecursion BringsBytes sections → IsSoundCommand (command_from (read_in sections))
-  command_sound sections h = command_by (each_read brought_by sections) (λ brought are. each_sound BringsBytes IsSoundlyBrought brought_by brought_sound sections brought h are)
+  command_sound sections h = command_by (each_read section_read sections) (λ brought are. each_sound BringsBytes IsSoundlyBrought section_read brought_sound sections brought h are)
 
   carries_sound : (session : ℕ) (old : State) (messages : List Message) (conversation : Conversation) (run : Run) → IsSound old → BringBytes messages → KeepsBytes conversation
       → CarriesOutMessages session old messages conversation run → IsSoundRun run

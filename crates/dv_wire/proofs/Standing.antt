@@ -16,7 +16,7 @@ use Rattle.dv_core.specs.Find.{reply_to_find, reply_to_aggregate}
 use Rattle.dv_core.specs.Indexes.{find_explained, indexed, unindexed}
 use Rattle.dv_core.specs.More.{killed, next_batch}
 use Rattle.dv_core.specs.State.{State, standing}
-use Rattle.dv_core.specs.Statements.{WriteCounts, Written, carry_out}
+use Rattle.dv_core.specs.Statements.{WriteSteps, Written, carry_out}
 use Rattle.dv_core.specs.Step.{Answer, answer_to, answered, on_catalog, on_cursors, read_answer, replying, step, write_answer}
 use Rattle.dv_core.specs.Writes.{write_by}
 use Rattle.dv_wire.specs.Standing.{AsksNoStats, asks_stats}
@@ -30,7 +30,7 @@ module _ (marks : Marks) (state : State) where
   read_standing (Ok reply) = refl
   read_standing (Err refusal) = refl
 
-  write_standing : (view : Bool) (write : WriteCounts) (did : Written)
+  write_standing : (view : Bool) (write : WriteSteps) (did : Written)
       → answered (standing marks state) (if view then Err OnView else Ok (write_answer (standing marks state) write did)) ≡ answer_standing marks (answered state (if view then Err OnView else Ok (write_answer state write did)))
   write_standing true write did = refl
   write_standing false write did = refl

@@ -91,7 +91,7 @@ module _ (by_front : SplitByFronts) (session : ℕ) (old mid : State) (stream he
       → Answered out_before out_now before now (λ answers. TakesSplit session old (split stream) (record { answers = answers; state = mid; conversation = closed fault }))
   at_closing fault shown = (progress.answers, progress.answered, progress.counted, whole_run (closed fault) (split_closing by_front here fault shown))
 
-  -- memory is wanting to look at the next message
+  -- memory runs out to look at the next message
   pub at_want : Answered out_before out_now before now (λ answers. TakesSplit session old (split stream) (record { answers = answers; state = mid; conversation = closed NoMemory }))
   at_want =
       let run : Run = record { answers = progress.answers; state = mid; conversation = closed NoMemory } in

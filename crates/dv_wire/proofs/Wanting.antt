@@ -1,4 +1,4 @@
--- What is answered where memory is wanting tells of it.
+-- What is answered when memory runs out tells of it.
 use Rattle.std.proofs.Common.{◌≡◌, ℕ, ◌⊎◌, Bool, true, false, List, [], ◌∷◌, ◌++◌, map, Result, Ok, Err, sym, ap, ◌∙◌, append_assoc, inl, inr, if◌then◌else◌}
 use Rattle.std.specs.List.{concat}
 use Rattle.dv_value.specs.Tree.{Tree, Field}
@@ -10,7 +10,7 @@ use Rattle.dv_command.specs.declared.asking.WriteKind.{WriteKind}
 use Rattle.dv_command.specs.declared.asking.WriteKind.TheVariants.{Insert, Update, Delete}
 use Rattle.dv_command.specs.declared.command.Command.{Command}
 use Rattle.dv_core.specs.State.{State}
-use Rattle.dv_core.specs.Statements.{IsCutWrite, WriteCounts, Written, nothing_written, with_all}
+use Rattle.dv_core.specs.Statements.{IsCutWrite, WriteSteps, Written, nothing_written, with_all}
 use Rattle.dv_core.specs.Step.{Answer, Cut, Wants}
 use Rattle.dv_core.specs.Writes.{reply_by, write_by}
 use Rattle.dv_refusal.specs.declared.refusal.Refusal.{Refusal}
@@ -18,7 +18,7 @@ use Rattle.dv_message.specs.Message.{Message}
 use Rattle.dv_wire.specs.Schedule.{reply_bytes}
 use Rattle.dv_wire.specs.Wants.{HoldsWant, IsReplyOfWant, sent, with_cut}
 
-errors_of : (old : State) (write : WriteCounts) (left : Written) → IsCutWrite write old.catalog.namespaces left → (errors : List Tree) × (place : ℕ) × (made : ℕ) × (left.errors ≡ with_cut errors place made)
+errors_of : (old : State) (write : WriteSteps) (left : Written) → IsCutWrite write old.catalog.namespaces left → (errors : List Tree) × (place : ℕ) × (made : ℕ) × (left.errors ≡ with_cut errors place made)
 errors_of old write left is =
     let so_far = with_all write.namespace write.ordered (nothing_written old.catalog.namespaces) is.before in
     (so_far.errors, so_far.statements, is.made, ap (λ (w : Written). w.errors) is.left_so)

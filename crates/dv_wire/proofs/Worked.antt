@@ -15,7 +15,7 @@ use Rattle.dv_core.specs.State.{State}
 use Rattle.dv_core.specs.Step.{Answer, answered, counted_step}
 use Rattle.dv_message.specs.Sections.{row_within, each_in, section_frame, section_at, sections_in}
 use Rattle.dv_message.specs.Message.{Message, Conversation, reading, stream_front, split_within, split, message_spelling}
-use Rattle.dv_message.specs.Commands.{brought_body, body_among, lists_among, command_from, command_of}
+use Rattle.dv_message.specs.Commands.{read_body, body_among, lists_among, command_from, command_of}
 use Rattle.dv_wire.specs.Schedule.{reply_bytes, in_front, silence, plain_behind, plain_messages, plain_run}
 use Rattle.dv_wire.proofs.Replies.{unmarked}
 use Rattle.dv_message.specs.Inner.Examples.{asks, empty_document}
@@ -51,7 +51,7 @@ read_ping = ap (λ (fields : Result (List Field) BsonFault). fields >>= λ fs. O
 -- the command of a body alone, as it is read
 abbrev command_by : Result (List Field × ℕ) BsonFault → Command
 command_by read =
-    command_from ((((read >>= (λ found. Ok found.0)) >>= (λ fields. Ok (brought_body fields))) >>= (λ first. Ok (first ∷ []))) >>= (λ brought. Ok (body_among [] brought, lists_among brought)))
+    command_from ((((read >>= (λ found. Ok found.0)) >>= (λ fields. Ok (read_body fields))) >>= (λ first. Ok (first ∷ []))) >>= (λ brought. Ok (body_among [] brought, lists_among brought)))
 
 command_is : (more_to_come : Bool) (document : List ℕ) → command_of (asks more_to_come document) ≡ command_by (document_at document)
 command_is more_to_come document = refl

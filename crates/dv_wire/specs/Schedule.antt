@@ -22,12 +22,12 @@ use Rattle.dv_core.specs.Step.{Answer, MemoryStep, counted_step, end_session, st
 
 -- ---- the messages of a session, one after the other
 
--- the bytes of a reply; none if the message has the flag moreToCome
+-- the bytes of a reply; empty if the message has the flag moreToCome
 abbrev pub reply_bytes : Message → List Field → List ℕ
 reply_bytes message reply = if message.more_to_come then [] else message_spelling 0 message.request_id 0 (section_spelling (body (spelling reply)))
 
--- The bytes that are sent for the outcome of a message. There are none, and the session is closed, if there is no reply, or if
--- moreToCome would suppress a reply that reports that memory ran out. So no command fails unreported.
+-- The bytes that are sent for the outcome of a message, which may be empty; `None` if the session is closed instead: there is no reply,
+-- or moreToCome would suppress a reply that reports that memory ran out. So no command fails unreported.
 abbrev pub bytes_to : Message → Outcome → Option (List ℕ)
 bytes_to message (Reply reply) = Some (reply_bytes message reply)
 bytes_to message (Wanting reply) = if message.more_to_come then None else Some (reply_bytes message reply)
@@ -56,8 +56,8 @@ silence state conversation = record { answers = []; state = state; conversation 
 abbrev pub unanswered : State → Conversation → Run
 unanswered state conversation = record { answers = [] ∷ []; state = state; conversation = conversation }
 
--- After a step its bytes are sent, if there are any, and then the other messages follow. The session is closed instead if there are
--- none, or if memory runs out for them.
+-- After a step its bytes are sent, which may be empty, and then the other messages follow. The session is closed instead if the step
+-- gives `None`, or if memory runs out for its bytes.
 abbrev pub Follows : Option (List ℕ) → State → (Run → Type 0) → Run → Type 0
 Follows None state Others run = run ≡ unanswered state (closed NoMemory)
 Follows (Some bytes) state Others run = ((others : Run) × Others others × (run ≡ in_front (bytes ∷ []) others)) ⊎ (run ≡ unanswered state (closed NoMemory))
@@ -168,7 +168,7 @@ abbrev pub sessions_but : ℕ → List (ℕ × Conversation) → List (ℕ × Co
 sessions_but session [] = []
 sessions_but session (s ∷ ss) = if s.0 == session then ss else s ∷ sessions_but session ss
 
--- the greatest number of sessions at one time
+-- the greatest number of sessions that were opened and have not ended
 abbrev pub session_limit : ℕ
 session_limit = 1000
 
@@ -178,7 +178,8 @@ number_limit = 2 ^ 32
 
 -- ---- events
 
--- a session is opened with the next number; refused if 1,000 are open, if the numbers are used up, or if memory runs out
+-- a session is opened with the next number; refused if 1,000 were opened and have not ended, those closed by a fault included; if the
+-- numbers are used up; or if memory runs out
 abbrev pub Opens : World → Result SessionId HubFault → World → Type 0
 Opens old (Ok session) new =
     (length old.sessions < session_limit) × (old.next < number_limit) × (session.number ≡ old.next)

@@ -87,8 +87,8 @@ impl Hub {
         }
     }
 
-    /// Opens a session, and returns its number. Refused with `TooManySessions` if 1,000 were opened and haven't ended, be they
-    /// closed, or no number is left, and with `NoMemory`; then nothing is changed.
+    /// Opens a session, and returns its number. Refused with `TooManySessions` if 1,000 sessions, closed ones among them,
+    /// haven't ended, or no number is left; and with `NoMemory` when memory runs out. Then nothing is changed.
     pub fn open(&mut self) -> Result<SessionId, HubFault>
         ensures opened { Opens self.old result self.new }
         ensures state { self.new.state ≡ self.old.state }

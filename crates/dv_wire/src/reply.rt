@@ -19,7 +19,7 @@ pub(crate) enum Body {
 impl Body {
     ghost use Rattle.dv_wire.specs.Inner.View.{body_seen};
 
-    /// Appends a message with this body as the reply to a request. Where memory is wanting nothing is appended.
+    /// Appends a message with this body as the reply to a request. If memory runs out nothing is appended.
     pub(crate) fn append(&self, request_id: u32, out: &mut Vec<u8>) -> Result<(), NoMemory>
         ensures ok { OnOk result (out.new.items ≡ out.old.items ++ message_spelling 0 request_id 0 (0 ∷ spelling (body_seen self.now))) }
         ensures err { OnErr result (out.new.items ≡ out.old.items) }

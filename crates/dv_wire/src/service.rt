@@ -12,7 +12,8 @@ use crate::hub::{Fed, Hub, SessionId};
 use crate::session::{Counts, ROOM_KEPT};
 use dv_message::{CloseFault, laws};
 use dv_streams::{ByteIn, ByteOut, Failed, give_all};
-use std::alloc::{AllocError, Global};
+use dv_value::NoMemory;
+use std::alloc::Global;
 
 /// The most reads that a session takes.
 const MOST_READS: u64 = 4_294_967_296;
@@ -21,7 +22,7 @@ const MOST_READS: u64 = 4_294_967_296;
 const PIECE: usize = 65_536;
 
 /// How many bytes of replies are enough to be written before the next message is looked at.
-const ENOUGH: usize = 65_536;
+const REPLIES_WRITTEN_AT: usize = 65_536;
 
 /// What is reported of a session that ended.
 #[derive(Clone, Copy, Debug, PartialEq, Eq)]
@@ -150,7 +151,7 @@ fn write_enough<W: ByteOut>(writer: &mut W, replies: &mut Vec<u8>, all: bool) ->
     ensures written { OnOk result (W.failures writer.new ≡ W.failures writer.old) }
     ensures failed { OnErr result (W.failures writer.new ≡ once_more (W.failures writer.old)) }
 {
-    if !all && replies.len() < ENOUGH {
+    if !all && replies.len() < REPLIES_WRITTEN_AT {
         return Ok(());
     }
     give_all(writer, replies)?;
@@ -191,7 +192,7 @@ fn closing_in(fed: Fed) -> Option<CloseFault>
 }
 
 /// Room for so many bytes. Apart, and of any size, so that no proof spells all of them out.
-fn room(alloc: Global, size: usize) -> Result<Vec<u8>, AllocError>
+fn room(alloc: Global, size: usize) -> Result<Vec<u8>, NoMemory>
     ensures { IfOk result (λ piece. length piece.items ≡ size) }
 {
     vec![in alloc; 0u8; size]

@@ -22,7 +22,7 @@ use std::alloc::{AllocError, Global};
 pub(crate) const ROOM_KEPT: usize = 262_144;
 
 /// The longest unfinished message for which the store's reserve is given back.
-const SHORT: usize = 65_536;
+const SHORT_MESSAGE: usize = 65_536;
 
 /// How many messages were carried out and how many replies were sent, each at most `u64::MAX`.
 #[derive(Clone, Copy)]
@@ -178,8 +178,8 @@ fn take_straight(
     Ok(())
 }
 
-/// Appends a piece to the bytes that a session keeps. Where memory is wanting, the store's reserve is given back for them, unless
-/// they are many. Fails where it is wanting still.
+/// Appends a piece to the bytes that a session keeps. If memory runs out, the store's reserve is given back for them, unless they
+/// are many. Fails where it is wanting still.
 fn keep(store: &mut Store, kept: &mut Vec<u8>, piece: &[u8]) -> Result<(), NoMemory>
     ensures kept { OnOk result (kept.new.items ≡ kept.old.items ++ piece.now) }
     ensures store { store.new ≡ store.old }
@@ -187,7 +187,7 @@ fn keep(store: &mut Store, kept: &mut Vec<u8>, piece: &[u8]) -> Result<(), NoMem
     if kept.extend_from_slice(piece).is_ok() {
         return Ok(());
     }
-    if kept.len().saturating_add(piece.len()) <= SHORT {
+    if kept.len().saturating_add(piece.len()) <= SHORT_MESSAGE {
         store.give_back();
     }
     kept.extend_from_slice(piece)
@@ -238,7 +238,7 @@ fn carry_out_all(
     Ok(stream.len())
 }
 
-/// Looks at the front of a stream. Where memory is wanting, the store's reserve is given back for that.
+/// Looks at the front of a stream. If memory runs out, the store's reserve is given back for that.
 fn front<'a>(alloc: Global, store: &mut Store, stream: &'a [u8]) -> Front<'a>
     ensures front { (front_seen result ≡ stream_front stream.now) ⊎ (result ≡ Front.Closing CloseFault.NoMemory) }
     ensures store { store.new ≡ store.old }
@@ -251,8 +251,8 @@ fn front<'a>(alloc: Global, store: &mut Store, stream: &'a [u8]) -> Front<'a>
     front_of(alloc, stream)
 }
 
-/// Carries out a message, appends its reply, and counts them. An error says that memory is wanting for the reply, or
-/// that a reply which tells of want of memory isn't to be sent.
+/// Carries out a message, appends its reply, and counts them. An error says that memory runs out for the reply, or that a reply
+/// which tells of want of memory isn't to be sent.
 fn carry_out(
     alloc: Global,
     store: &mut Store,
@@ -299,7 +299,7 @@ fn other_reply_to(message: &Message<'_>, outcome: Outcome) -> Result<Option<Body
     }
 }
 
-/// Appends the reply to a request. Where memory is wanting, the store's reserve is given back for it; where it is wanting still,
+/// Appends the reply to a request. If memory runs out, the store's reserve is given back for it; where it is wanting still,
 /// nothing is appended.
 fn send(store: &mut Store, request_id: u32, reply: &Body, out: &mut Vec<u8>) -> Result<(), NoMemory>
     ensures ok { OnOk result (out.new.items ≡ out.old.items ++ message_spelling 0 request_id 0 (0 ∷ spelling (body_seen reply.now))) }
@@ -313,8 +313,8 @@ fn send(store: &mut Store, request_id: u32, reply: &Body, out: &mut Vec<u8>) -> 
     reply.append(request_id, out)
 }
 
-/// The command that a message's sections bring, with no more of its lists than it needs, or that memory is wanting to read it,
-/// also with the store's reserve.
+/// The command that a message's sections bring, with no more of its lists than it needs, or that memory runs out to read it, also
+/// with the store's reserve.
 fn read(alloc: Global, store: &mut Store, shapes: &mut Shapes, message: &Message<'_>) -> Command
     ensures command { (needed (command_of (message_seen message.now)) ≡ result) ⊎ (result ≡ Command.Invalid BsonFault.NoMemory) }
     ensures store { store.new ≡ store.old }

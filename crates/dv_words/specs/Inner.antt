@@ -1,4 +1,3 @@
 -- Definitions and lemmas that need not be believed: invariants, codings, and words of bodies and proofs.
-pub mod Faults
 pub mod Reading
 pub mod Words

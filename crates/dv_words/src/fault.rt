@@ -1,7 +1,7 @@
 //! Why the program ends without having done all.
 
 ghost use Rattle.std.specs.Prelude.{◌≡◌, ◌≢◌};
-ghost use Rattle.dv_words.specs.Inner.Faults.{NamesCode, TellsLoad, fault_of_check};
+ghost use Rattle.dv_words.specs.Faults.{NamesCode, TellsLoad, fault_of_check};
 
 use clap::Error as WordFault;
 use clap::error::ErrorKind;
@@ -109,7 +109,7 @@ impl DocdFault {
     }
 }
 
-// The name of a code with which a document is refused.
+/// The name of a code with which a document is refused.
 fn why_refused(code: i32) -> &'static str
     ensures { NamesCode code result.now }
 {

@@ -18,7 +18,8 @@ pub const NUMBERS: u32 = 1_000;
 
 /// What the bytes of a line say, without its LF: nothing if they are empty or begin with `#`; else a number from 0 to 999 without
 /// leading zeros and one space, and then pairs of hexadecimal digits, with any number of spaces between two pairs, or the word
-/// `end`. `BadLine` if they have none of these forms, or are more than 131,200.
+/// `end`. `BadLine` if they have none of these forms, or are more than 131,200. Fails with
+/// `NoMemory` when memory runs out.
 pub fn line(alloc: Global, bytes: &[u8]) -> Result<Line, LineFault>
     ensures read { IfOk result (λ found. IsLine found bytes.now) }
     ensures only { (meant : Line) → IsLine meant bytes.now → (result ≡ Ok meant) ⊎ (result ≡ Err LineFault.NoMemory) }
@@ -39,7 +40,7 @@ pub fn line(alloc: Global, bytes: &[u8]) -> Result<Line, LineFault>
     Ok(Line::Bytes(number, decoded(alloc, rest)?))
 }
 
-// Whether a line is empty or a comment.
+/// Whether a line is empty or a comment.
 fn is_skipped(bytes: &[u8]) -> bool
     ensures yes { IsTrue result → IsSkipped bytes.now }
     ensures no { IsSkipped bytes.now → IsTrue result }
@@ -47,7 +48,7 @@ fn is_skipped(bytes: &[u8]) -> bool
     matches!(bytes, [] | [b'#', ..])
 }
 
-// The number in front of the first space, and what stands behind that space.
+/// The number in front of the first space, and what stands behind that space.
 fn numbered(bytes: &[u8]) -> Option<(u32, &[u8])>
     ensures { MatchOption result ((n : ℕ) (rest : List ℕ) → n < 1000 → bytes.now ≢ decimal n ++ 32 ∷ rest)
         (λ found. (found.0 < 1000) × (bytes.now ≡ decimal found.0 ++ 32 ∷ found.1.now)) }
@@ -67,7 +68,7 @@ fn first_space(bytes: &[u8]) -> Option<usize>
     bytes.iter().position(|byte| *byte == b' ')
 }
 
-// The number from 0 to 999 that the digits are, without leading zeros.
+/// The number from 0 to 999 that the digits are, without leading zeros.
 fn number(digits: &[u8]) -> Option<u32>
     ensures { MatchOption result ((n : ℕ) → n < 1000 → digits.now ≢ decimal n)
         (λ found. (found < 1000) × (digits.now ≡ decimal found)) }
@@ -81,7 +82,7 @@ fn number(digits: &[u8]) -> Option<u32>
     }
 }
 
-// Whether a number's text has neither a sign nor a leading zero, and isn't empty.
+/// Whether a number's text has neither a sign nor a leading zero, and isn't empty.
 fn is_plain(text: &[u8]) -> bool
     ensures { IsTrue result ↔ IsPlain text.now }
 {
@@ -92,7 +93,7 @@ fn is_plain(text: &[u8]) -> bool
     }
 }
 
-// The number that a text is, with a sign or leading zeros too.
+/// The number that a text is, with a sign or leading zeros too.
 fn parsed(text: &[u8]) -> Option<u32>
     ensures plain { IfSome result (λ n. IsPlain text.now → text.now ≡ decimal n) }
     ensures decimal { (n : ℕ) → n < 1000 → text.now ≡ decimal n → result ≡ Some n }
@@ -103,7 +104,7 @@ fn parsed(text: &[u8]) -> Option<u32>
     text.parse().ok()
 }
 
-// The bytes of pairs of hexadecimal digits.
+/// The bytes of pairs of hexadecimal digits.
 fn decoded(alloc: Global, text: &[u8]) -> Result<Bytes, LineFault>
     ensures { Decodes text.now result }
 {
@@ -128,7 +129,7 @@ fn without_spaces(alloc: Global, text: &[u8]) -> Result<Vec<u8>, AllocError>
         .collect(alloc)
 }
 
-// Whether the text is pairs of hexadecimal digits, with spaces between two pairs alone.
+/// Whether the text is pairs of hexadecimal digits, with spaces between two pairs alone.
 fn are_pairs(text: &[u8]) -> bool
     ensures yes { IsTrue result → IsPairs text.now }
     ensures no { IsPairs text.now → IsTrue result }
@@ -143,7 +144,7 @@ fn are_pairs(text: &[u8]) -> bool
     false
 }
 
-// What stands behind the pair of digits in front.
+/// What stands behind the pair of digits in front.
 fn behind_pair(text: &[u8]) -> Option<&[u8]>
     ensures { MatchOption result ((behind : List ℕ) → BeginsWithPair text.now behind → ⊥) (λ behind. BeginsWithPair text.now behind.now) }
 {
@@ -163,7 +164,7 @@ fn is_digit(byte: u8) -> bool
     byte.is_ascii_hexdigit()
 }
 
-// What stands behind the spaces in front.
+/// What stands behind the spaces in front.
 fn behind_spaces(text: &[u8]) -> &[u8]
     ensures { BeginsWithSpaces text.now result.now }
 {

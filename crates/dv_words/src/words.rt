@@ -77,7 +77,7 @@ pub fn words(alloc: Global, words: &[String]) -> Result<Job, DocdFault> {
     }
 }
 
-// The forms that the words may have.
+/// The forms that the words may have.
 fn docd<'a>(alloc: Global) -> Result<Command<'a>, AllocError> {
     Command::new(alloc, "docd")
         .subcommand(run(alloc)?)?
@@ -132,7 +132,7 @@ fn load_argument<'a>(alloc: Global) -> Arg<'a> {
         .action(ArgAction::Append)
 }
 
-// The loads that are given, in order.
+/// The loads that are given, in order.
 fn loads(alloc: Global, given: &ArgMatches<'_>) -> Result<Vec<Load>, DocdFault> {
     let mut loads = Vec::new(alloc);
     for text in given.get_strs("load").unwrap_or_default() {
@@ -143,7 +143,7 @@ fn loads(alloc: Global, given: &ArgMatches<'_>) -> Result<Vec<Load>, DocdFault> 
     Ok(loads)
 }
 
-// What a load's text says: the namespace in front of its first `=`, which has a dot, and the file behind it.
+/// What a load's text says: the namespace in front of its first `=`, which has a dot, and the file behind it.
 fn load_of(alloc: Global, text: &str) -> Result<Load, DocdFault>
     ensures found { IfOk result (λ load. load_in text.now ≡ Some (string_bytes load.namespace, string_bytes load.file)) }
     ensures refused { result ≡ Err DocdFault.Usage → load_in text.now ≡ None }

@@ -52,26 +52,25 @@ numbered i (v ∷ vs) = (decimal i, v) ∷ numbered (suc i) vs
 abbrev pub fields_from : ℕ → ℕ → List Field → List ℕ → ℕ → Result (List Field) BsonFault
 fields_from levels at fields bytes last = fields_at (body_at levels) (length bytes) false at fields bytes last
 
--- What a function returned is a part of what reading gives, and its fault is reading's first one, unless memory is wanting.
+-- What a function returned is a part of what reading gives, and its fault is reading's first one, unless memory runs out.
 abbrev pub GivesPart : {X Y Z : Type 0} → (X → Z) → (Y → Z) → Result X ReadError → Result Y BsonFault → Type 0
 GivesPart {Y = Y} view part (Ok x) read = (y : Y) × (read ≡ Ok y) × (part y ≡ view x)
 GivesPart view part (Err e) read = Fails e read
 
 -- What a function returned is the next field's value and what is behind it, and the field has the name of the one at a place of other
--- fields; its fault is reading's first one, unless memory is wanting.
+-- fields; its fault is reading's first one, unless memory runs out.
 abbrev pub GivesNext : {X : Type 0} → List Field → ℕ → (X → Tree × List ℕ) → Result (Option X) ReadError → Result (Field × List ℕ) BsonFault → Type 0
 GivesNext like place view (Ok None) read = Unit {0}
 GivesNext like place view (Ok (Some x)) read = (f : Field) × (slice_get like place ≡ Some f) × (read ≡ Ok ((f.0, (view x).0), (view x).1))
 GivesNext like place view (Err e) read = Fails e read
 
 -- What is left to be read behind what a function returned gives what reading gives, and its fault is reading's first one, unless memory
--- is wanting.
+-- runs out.
 abbrev pub LeavesToRead : {X Y : Type 0} → (X → Result Y BsonFault) → Result X ReadError → Result Y BsonFault → Type 0
 LeavesToRead left (Ok x) read = left x ≡ read
 LeavesToRead left (Err e) read = Fails e read
 
--- Reading goes on to the end where a function says so, and else the function's fault is reading's first one, unless memory is
--- wanting.
+-- Reading goes on to the end where a function says so, and else the function's fault is reading's first one, unless memory runs out.
 abbrev pub Passes : {X Y : Type 0} → Result X ReadError → Result Y BsonFault → Type 0
 Passes {Y = Y} (Ok x) read = (y : Y) × (read ≡ Ok y)
 Passes (Err e) read = Fails e read

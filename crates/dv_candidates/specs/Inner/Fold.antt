@@ -3,10 +3,6 @@ use Rattle.std.specs.Prelude.{◌≡◌, Bool, true, List, [], ◌∷◌, ◌++�
 use Rattle.std.specs.List.{list_any, FoldsTo}
 use Rattle.dv_candidates.specs.Candidates.{Candidate}
 
--- whatever a call answers of x is the test of what x is seen as
-pub record Answers {X Y : Type 0} (seen : X → Y) (call : X → Bool → Type 0) (test : Y → Bool) : Type 0 where
-  pub at : (x : X) (b : Bool) → call x b → b ≡ test (seen x)
-
 -- a call at what is seen as this candidate takes t to u
 pub record Takes {T X E : Type 0} (seen : X → Candidate) (call : T → X → Result T E → Type 0) (t : T) (c : Candidate) (u : T) : Type 0 where
   pub at : X

@@ -3,10 +3,10 @@ use Rattle.std.specs.Prelude.{Bool}
 use Rattle.dv_order.specs.Key.{KeyTree}
 use Rattle.dv_keyed.specs.Inner.Interval.{is_between}
 use Rattle.dv_keyed.specs.Inner.Keys.{has_key}
-use Rattle.dv_catalog.specs.declared.asked.Asked.{Asked}
-use Rattle.dv_catalog.specs.declared.asked.Asked.TheVariants.{Between, Among}
+use Rattle.dv_catalog.specs.declared.asked.WantedIds.{WantedIds}
+use Rattle.dv_catalog.specs.declared.asked.WantedIds.TheVariants.{Between, Among}
 
 -- whether a key is among them
-abbrev pub is_asked : Asked → KeyTree → Bool
+abbrev pub is_asked : WantedIds → KeyTree → Bool
 is_asked (Between ends) k = is_between ends k
 is_asked (Among keys) k = has_key k keys.items

@@ -15,7 +15,7 @@ pub record IsRefused (does : Result Effect Refusal) (old : Namespaces) (stopped 
   pub none : stopped.done ≡ 0
   pub kept : new ≡ old
 
--- memory is wanting behind the first so many of its changes, and these are made: not all of them, or none
+-- memory runs out behind the first so many of its changes, and these are made: not all of them, or none
 pub record IsCut (namespace : List ℕ) (does : Result Effect Refusal) (old : Namespaces) (stopped : Stopped) (new : Namespaces) : Type 0 where
   pub so : stopped.refusal ≡ WantOfMemory
   pub fewer : (stopped.done ≡ 0) ⊎ (stopped.done < length (changes_of does))
@@ -80,8 +80,8 @@ abbrev pub Reads : {B E : Type 0} → List (List ℕ) → Marked → Result B E 
 Reads names old (Ok x) new = new ≡ record old { marks = marks_read names old.state.views old.marks }
 Reads names old (Err e) new = (new.state ≡ old.state) × ArePartlyRead names old.state.views old.marks new.marks
 
--- behind the making of what stands over some names: so, where it is done; where memory is wanting, some of the stale views that it needs
--- may be made anew; and where it is refused for another cause, views are as they were
+-- behind the making of what stands over some names: so, where it is done; when memory runs out, some of the stale views that it needs may
+-- be made anew; and where it is refused for another cause, views are as they were
 abbrev pub StandMade : {B : Type 0} → List (List ℕ) → Marks → Marked → Result B Refusal → Marks → Type 0
 StandMade names made old (Ok x) after = after ≡ made
 StandMade names made old (Err refusal) after = ((refusal ≡ WantOfMemory) × ArePartlyRead names old.state.views old.marks after) ⊎ (after ≡ old.marks)

@@ -13,8 +13,8 @@ use crate::effect::Changes;
 use crate::failure::Stopped;
 use dv_command::{Deletion, Refusal};
 
-/// How many documents go at most where memory is wanting for all of them.
-const MOST_OF_SOME: usize = 1_048_576;
+/// How many documents go at most when memory runs out for all of them.
+const FIRST_PART: usize = 1_048_576;
 
 /// Memory is wanting before the first change.
 const UNBEGUN: Stopped = Stopped {
@@ -63,7 +63,7 @@ impl Catalog {
         requires several { deletion.now.only_first ≡ false }
         ensures { Cuts namespace.now (delete_chosen (deletion_seen deletion.now)) self.old result self.new }
     {
-        let mut most = MOST_OF_SOME;
+        let mut most = FIRST_PART;
         'halves: while most > 1 {
             let stopped = self.delete_first(namespace, deletion, most);
             if stopped.done > 0 {
@@ -74,8 +74,8 @@ impl Catalog {
         self.delete_first(namespace, deletion, 1)
     }
 
-    /// Takes out the first `most` documents that a deletion is for, one of several documents, but never all of them; where memory
-    /// is wanting for so many, fewer or none.
+    /// Takes out the first `most` documents that a deletion is for, one of several documents, but never all of them; when memory
+    /// runs out for so many, fewer or none.
     fn delete_first(&mut self, namespace: &str, deletion: &Deletion, most: usize) -> Stopped
         requires collection { is_view namespace.now self.old.state.views ≡ false }
         requires several { deletion.now.only_first ≡ false }

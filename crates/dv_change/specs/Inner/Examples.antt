@@ -5,7 +5,7 @@ use Rattle.dv_order.specs.Key.{KeyTree, value}
 use Rattle.dv_change.specs.declared.position.Part.TheVariants.{At}
 use Rattle.dv_change.specs.Changes.{Positioned}
 use Rattle.dv_change.specs.Positions.{PosTree}
-use Rattle.dv_change.specs.Work.{Form}
+use Rattle.dv_change.specs.Work.{Transform}
 
 -- the key of a number, an int32
 abbrev pub number_key : ℕ → KeyTree
@@ -29,11 +29,11 @@ abbrev pub wide_number : ℕ → List Field
 wide_number n = (codes "a", int64 (pos n)) ∷ []
 
 -- a stage that makes what comes to it
-abbrev pub as_it_comes : Form
+abbrev pub as_it_comes : Transform
 as_it_comes = record { makes = λ named rows. rows; named = [] }
 
 -- a stage that makes the first row of those that come to it
-abbrev pub first_alone : Form
+abbrev pub first_alone : Transform
 first_alone = record { makes = λ named rows. take 1 rows; named = [] }
 
 abbrev pub first_named : List Positioned → Positioned
@@ -41,15 +41,15 @@ first_named [] = []
 first_named (rows ∷ others) = rows
 
 -- a stage that makes the rows of the list that it looks into
-abbrev pub looked_up_form : Positioned → Form
+abbrev pub looked_up_form : Positioned → Transform
 looked_up_form rows = record { makes = λ named left. first_named named; named = rows ∷ [] }
 
 -- chains of them, the second one with an empty list for its look-up
-abbrev pub two_stages : List Form
+abbrev pub two_stages : List Transform
 two_stages = as_it_comes ∷ first_alone ∷ []
 
-abbrev pub three_stages : List Form
+abbrev pub three_stages : List Transform
 three_stages = as_it_comes ∷ looked_up_form [] ∷ first_alone ∷ []
 
-abbrev pub two_look_ups : List Form
+abbrev pub two_look_ups : List Transform
 two_look_ups = looked_up_form [] ∷ looked_up_form [] ∷ []

@@ -10,7 +10,7 @@ use Rattle.dv_change.specs.Inner.Changes.{IsExactChange}
 use Rattle.dv_change.specs.Inputs.{left_after}
 use Rattle.dv_change.specs.Raised.{raised}
 use Rattle.dv_change.specs.Inner.Told.{list_at, told_along, with_old}
-use Rattle.dv_change.specs.Work.{Form, handed, pass, pass_in, stage_rows, through_forms, work, work_in}
+use Rattle.dv_change.specs.Work.{Transform, handed, pass, pass_in, stage_rows, through_forms, work, work_in}
 use Rattle.dv_change.specs.Inner.Work.{HasAny, forms_after}
 
 -- an operator that makes rows of rows has taken in its first ones, by changes that put them in; what it tells leads to what it makes
@@ -57,16 +57,16 @@ pub record IsUnderway (makes : Positioned → Positioned) (holds : Positioned �
   pub no_fewer : first ≤ after
 
 -- the list at a place, where the lists that stages look into are counted through all of them
-abbrev pub rows_named : ℕ → List Form → Positioned
+abbrev pub rows_named : ℕ → List Transform → Positioned
 rows_named i [] = []
 rows_named i (form ∷ forms) = if nat_lt i (length form.named) then list_at i form.named else rows_named (i - length form.named) forms
 
-abbrev pub rows_in : Input → List Form → Positioned → Positioned
+abbrev pub rows_in : Input → List Transform → Positioned → Positioned
 rows_in Left forms rows = rows
 rows_in (Named i) forms rows = rows_named i forms
 
 -- a change of an input of stages, told with what stood there
-pub record ComesIn (input : Input) (taken : Taken) (change : Change) (forms : List Form) (rows : Positioned) : Type 0 where
+pub record ComesIn (input : Input) (taken : Taken) (change : Change) (forms : List Transform) (rows : Positioned) : Type 0 where
   pub there : HasAny input forms
   pub told : taken ≡ with_old (rows_in input forms rows) change
   pub exact : IsExactChange change
@@ -74,28 +74,28 @@ pub record ComesIn (input : Input) (taken : Taken) (change : Change) (forms : Li
 -- of operators: what they make of the lists that they look into and of rows, and which of these they have taken in
 module _ {O : Type 0} (makes : O → List Positioned → Positioned → Positioned) (holds : O → List Positioned → Positioned → Type 0) where
   -- the operators are of these forms; the first one has taken in these rows, each other one what the one before it makes
-  abbrev pub AreHeld : List O → List Form → Positioned → Type 0
+  abbrev pub AreHeld : List O → List Transform → Positioned → Type 0
   AreHeld [] [] rows = ⊤
   AreHeld [] (form ∷ forms) rows = ⊥
   AreHeld (o ∷ operators) [] rows = ⊥
   AreHeld (o ∷ operators) (form ∷ forms) rows = (makes o ≡ form.makes) × holds o form.named rows × AreHeld operators forms (stage_rows form rows)
 
   -- the operators are of these forms, and have taken in no rows
-  abbrev pub AreFresh : List O → List Form → Type 0
+  abbrev pub AreFresh : List O → List Transform → Type 0
   AreFresh [] [] = ⊤
   AreFresh [] (form ∷ forms) = ⊥
   AreFresh (o ∷ operators) [] = ⊥
   AreFresh (o ∷ operators) (form ∷ forms) = (makes o ≡ form.makes) × holds o form.named [] × AreFresh operators forms
 
   -- changes went through them
-  pub record IsPassed (operators : List O) (forms : List Form) (rows : Positioned) (changes : List Change) (before now : List Taken) (first after : ℕ) : Type 0 where
+  pub record IsPassed (operators : List O) (forms : List Transform) (rows : Positioned) (changes : List Change) (before now : List Taken) (first after : ℕ) : Type 0 where
     pub held : AreHeld operators forms (with_changes rows changes)
     pub out : now ≡ before ++ told_along (through_forms forms rows) (pass forms rows changes)
     pub ticks : after ≡ raised first (work forms rows changes)
     pub leads : with_changes (through_forms forms rows) (pass forms rows changes) ≡ through_forms forms (with_changes rows changes)
 
   -- a change of an input went through them
-  pub record IsPassedIn (input : Input) (change : Change) (operators : List O) (forms : List Form) (rows : Positioned) (before now : List Taken) (first after : ℕ) : Type 0 where
+  pub record IsPassedIn (input : Input) (change : Change) (operators : List O) (forms : List Transform) (rows : Positioned) (before now : List Taken) (first after : ℕ) : Type 0 where
     pub held : AreHeld operators (forms_after input change forms) (left_after input change rows)
     pub out : now ≡ before ++ told_along (through_forms forms rows) (pass_in input change forms rows)
     pub ticks : after ≡ raised first (work_in input change forms rows)
@@ -103,22 +103,22 @@ module _ {O : Type 0} (makes : O → List Positioned → Positioned → Position
 
   -- whatever they hold, the changes that they are told go through them, where the rows that the last one has made are those that are kept
   abbrev pub ChainTakes : Option Positioned → List O → List O → List Taken → List Taken → List Taken → ℕ → ℕ → Type 0
-  ChainTakes made old new all before now first after = (forms : List Form) (rows : Positioned) (changes : List Change) → AreHeld old forms rows → AllByRecursion IsExactChange changes → all ≡ told_along rows changes → AreKept made (through_forms forms rows) → IsPassed new forms rows changes before now first after
+  ChainTakes made old new all before now first after = (forms : List Transform) (rows : Positioned) (changes : List Change) → AreHeld old forms rows → AllByRecursion IsExactChange changes → all ≡ told_along rows changes → AreKept made (through_forms forms rows) → IsPassed new forms rows changes before now first after
 
   -- so does a change of an input
   abbrev pub ChainTakesIn : Option Positioned → Input → Taken → List O → List O → List Taken → List Taken → ℕ → ℕ → Type 0
-  ChainTakesIn made input taken old new before now first after = (forms : List Form) (rows : Positioned) (change : Change) → AreHeld old forms rows → ComesIn input taken change forms rows → AreKept made (through_forms forms rows) → IsPassedIn input change new forms rows before now first after
+  ChainTakesIn made input taken old new before now first after = (forms : List Transform) (rows : Positioned) (change : Change) → AreHeld old forms rows → ComesIn input taken change forms rows → AreKept made (through_forms forms rows) → IsPassedIn input change new forms rows before now first after
 
   -- whatever lists they hold, with no rows, they are filled by the changes that they are told
   abbrev pub ChainFills : List O → List O → List Taken → List Taken → Type 0
-  ChainFills old new all made = (forms : List Form) (changes : List Change) → AreHeld old forms [] → AllByRecursion IsExactChange changes → all ≡ told_along [] changes → IsFilled (through_forms forms) (AreHeld new forms) changes made
+  ChainFills old new all made = (forms : List Transform) (changes : List Change) → AreHeld old forms [] → AllByRecursion IsExactChange changes → all ≡ told_along [] changes → IsFilled (through_forms forms) (AreHeld new forms) changes made
 
   -- whatever they hold, they hold afterwards
   abbrev pub ChainStays : List O → List O → Type 0
-  ChainStays old new = (forms : List Form) (rows : Positioned) → AreHeld old forms rows → AreHeld new forms rows
+  ChainStays old new = (forms : List Transform) (rows : Positioned) → AreHeld old forms rows → AreHeld new forms rows
 
   -- they are about to take in the rest of their first rows, and so far what they told leads from nothing to what they make
-  pub record AreFilling (operators : List O) (forms : List Form) (items : List Taken) (changes : List Change) (made : List Taken) : Type 0 where
+  pub record AreFilling (operators : List O) (forms : List Transform) (items : List Taken) (changes : List Change) (made : List Taken) : Type 0 where
     pub rows : Positioned
     pub rest : List Change
     pub are : items ≡ told_along rows rest

@@ -5,7 +5,7 @@ use Rattle.dv_change.specs.declared.change.Change.{Change}
 use Rattle.dv_change.specs.declared.input.Input.{Input}
 use Rattle.dv_change.specs.Changes.{Positioned, with_changes}
 use Rattle.dv_change.specs.Inputs.{left_after}
-use Rattle.dv_change.specs.Work.{Form, handed, pass, pass_in, stage_rows, through_forms, work, work_in}
+use Rattle.dv_change.specs.Work.{Transform, handed, pass, pass_in, stage_rows, through_forms, work, work_in}
 use Rattle.dv_change.specs.Inner.Turning.{Turning}
 use Rattle.dv_change.specs.Inner.Work.{forms_after, stage_work}
 
@@ -23,7 +23,7 @@ module _ {T : Type 0} (turning : Turning T) where
   work_of_one changes t = stage_work (stage_rows (turning.form t)) (turning.left t) changes
 
   -- the stages that they are
-  abbrev pub forms_of : List T → List Form
+  abbrev pub forms_of : List T → List Transform
   forms_of ts = map turning.form ts
 
   -- the rows that the first one has taken in

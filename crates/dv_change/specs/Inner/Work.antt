@@ -6,28 +6,28 @@ use Rattle.dv_change.specs.declared.input.Input.{Input}
 use Rattle.dv_change.specs.declared.input.Input.TheVariants.{Left, Named}
 use Rattle.dv_change.specs.Changes.{Positioned}
 use Rattle.dv_change.specs.Inputs.{input_changed_at}
-use Rattle.dv_change.specs.Work.{Form, handed}
+use Rattle.dv_change.specs.Work.{Transform, handed}
 
 -- the lists that stages look into, those of one stage behind those of the stages before it
-abbrev pub lists_of : List Form → List Positioned
+abbrev pub lists_of : List Transform → List Positioned
 lists_of forms = flat_map (λ form. form.named) forms
 
 -- how many lists the stages look into
-abbrev pub named_in : List Form → ℕ
+abbrev pub named_in : List Transform → ℕ
 named_in [] = 0
 named_in (form ∷ forms) = length form.named + named_in forms
 
 -- a list is there for the input
-abbrev pub HasAny : Input → List Form → Type 0
+abbrev pub HasAny : Input → List Transform → Type 0
 HasAny Left forms = ⊤
 HasAny (Named i) forms = i < named_in forms
 
-abbrev pub forms_named : ℕ → Change → List Form → List Form
+abbrev pub forms_named : ℕ → Change → List Transform → List Transform
 forms_named i change [] = []
 forms_named i change (form ∷ forms) = if nat_lt i (length form.named) then record { makes = form.makes; named = input_changed_at i change form.named } ∷ forms else form ∷ forms_named (i - length form.named) change forms
 
 -- the stages, after a change of an input
-abbrev pub forms_after : Input → Change → List Form → List Form
+abbrev pub forms_after : Input → Change → List Transform → List Transform
 forms_after Left change forms = forms
 forms_after (Named i) change forms = forms_named i change forms
 

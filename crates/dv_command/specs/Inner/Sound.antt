@@ -10,7 +10,8 @@ use Rattle.dv_command.specs.Asked.{Asked, ViewOn, hello, ping, write, find, aggr
 use Rattle.dv_command.specs.Entries.{IndexAsked}
 use Rattle.dv_command.specs.Lists.{CommandLists}
 use Rattle.dv_command.specs.Namespaces.{longest_namespace}
-use Rattle.dv_command.specs.Sound.{AreSpellable, IsSoundPipeline, IsIndexName}
+use Rattle.dv_pipe.specs.Laws.{AreSpellable}
+use Rattle.dv_command.specs.Sound.{IsSoundPipeline, IsIndexName}
 
 -- and so has each in the lists beside a body
 abbrev pub AreValidLists : CommandLists → Type 0

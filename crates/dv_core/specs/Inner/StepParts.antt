@@ -21,7 +21,7 @@ use Rattle.dv_core.specs.declared.outcome.Outcome.TheVariants.{Reply, Wanting, N
 use Rattle.dv_core.specs.declared.outcome.Told.{Told}
 use Rattle.dv_core.specs.declared.outcome.Told.TheVariants as tells
 
--- a command that is refused: its reply, or that memory is wanting for it
+-- a command that is refused: its reply, or that memory runs out for it
 abbrev pub Refuses : Refusal → Outcome → Type 0
 Refuses refusal (Reply reply) = (reply ≡ refusal_reply refusal) × (refusal ≢ WantOfMemory)
 Refuses refusal (Wanting reply) = reply ≡ refusal_reply WantOfMemory
@@ -75,7 +75,7 @@ Ends {S} defined old outcome new =
     ((done : List Field × S) × (defined ≡ Ok done) × (new ≡ done.1) × TellsOrNot done.0 outcome)
     ⊎ ((refusal : Refusal) × ((defined ≡ Err refusal) ⊎ (refusal ≡ WantOfMemory)) × Refuses refusal outcome × (new ≡ old))
 
--- how views stand behind a command that reads: as behind what it reads, or, where memory is wanting, with some made anew
+-- how views stand behind a command that reads: as behind what it reads, or, when memory runs out, with some made anew
 abbrev pub StandRead : {B : Type 0} → Asked → State → Result B Refusal → Marks → Type 0
 StandRead asked old (Ok x) after = after ≡ marks_where_read (read_by asked) old
 StandRead asked old (Err refusal) after = (after ≡ marks_where_read (read_by asked) old) ⊎ ((refusal ≡ WantOfMemory) × ArePartlyRead (read_by asked) old.catalog.views old.marks after)

@@ -20,13 +20,13 @@ use Rattle.dv_views.specs.Forms.{ViewForm}
 use Rattle.dv_core.specs.State.{State, marked}
 use Rattle.dv_catalog.specs.Changes.{Statement}
 use Rattle.dv_core.specs.Inner.StepParts.{Refuses}
-use Rattle.dv_core.specs.Statements.{WriteCounts, Written, carry_out, nothing_written, with_next, is_due, next_changes, cut, IsCutWrite}
+use Rattle.dv_core.specs.Statements.{WriteSteps, Written, carry_out, nothing_written, with_next, is_due, next_changes, cut, IsCutWrite}
 
 -- what statements did, and what they left
 abbrev pub written_seen : declared.Written → Namespaces → Written
 written_seen w namespaces = record { statements = w.statements; n = w.n; changed = w.changed; errors = map tree w.errors.items; namespaces = namespaces }
 
-abbrev pub reply_seen : WriteCounts → Written → List Field
+abbrev pub reply_seen : WriteSteps → Written → List Field
 reply_seen write did = write.reply did.n did.changed did.errors
 
 -- one statement more, which was carried out, is counted for so many documents, and made so many changes
@@ -34,7 +34,7 @@ abbrev pub with_counted : Written → Counted → Written
 with_counted so_far counted =
     record so_far { statements = suc so_far.statements; n = so_far.n + counted.matched; changed = so_far.changed + counted.changed }
 
--- the error of a statement that was refused; where memory was wanting, behind so many of its changes
+-- the error of a statement that was refused; when memory ran out, behind so many of its changes
 abbrev pub error_by : ℕ → Refusal → ℕ → List Field
 error_by place WantOfMemory done = cut_error place done
 error_by place refusal done = write_error place refusal
@@ -52,7 +52,7 @@ abbrev pub next_behind : Bool → Refusal → Next
 next_behind ordered WantOfMemory = Cut
 next_behind ordered refusal = if ordered then Ended else Due
 
--- a statement that was refused is noted, unless memory is wanting
+-- a statement that was refused is noted, unless memory runs out
 abbrev pub Notes : Bool → Stopped → Written → Result Next AllocError → Written → Type 0
 Notes ordered stopped so_far (Ok next) now = (now ≡ with_stopped so_far stopped) × (next ≡ next_behind ordered stopped.refusal)
 Notes ordered stopped so_far (Err e) now = ⊤
@@ -90,27 +90,27 @@ WritesNext namespace ordered statement so_far old result now new =
     NextStep namespace ordered old.state.views (written_seen so_far old.state.namespaces) statement old.marks result (written_seen now new.state.namespaces) new.marks
 
 -- the statements of a write as they are defined
-pub record CarriesOutWrite (write : WriteCounts) (old new : Marked) : Type 0 where
+pub record CarriesOutWrite (write : WriteSteps) (old new : Marked) : Type 0 where
   pub leaves : new.state.namespaces ≡ (carry_out write old.state.namespaces).namespaces
   pub marked : AreMarkedByEach write.namespace write.ordered old.state.views (nothing_written old.state.namespaces) write.statements old.marks new.marks
 
 -- cut at one of them
-pub record CutsWrite (write : WriteCounts) (old : Marked) (left : Written) (new : Marked) : Type 0 where
+pub record CutsWrite (write : WriteSteps) (old : Marked) (left : Written) (new : Marked) : Type 0 where
   pub is_cut : IsCutWrite write old.state.namespaces left
   pub leaves : new.state.namespaces ≡ left.namespaces
   pub marked : AreMarkedByCut write.namespace write.ordered old.state.views write.statements old.state.namespaces left is_cut old.marks new.marks
 
 -- a write: the statements as they are defined, or cut at one of them; no reply after either
-abbrev pub WritesOrCuts : WriteCounts → Marked → Outcome → Marked → Type 0
+abbrev pub WritesOrCuts : WriteSteps → Marked → Outcome → Marked → Type 0
 WritesOrCuts write old (Reply reply) new = (reply ≡ reply_seen write (carry_out write old.state.namespaces)) × CarriesOutWrite write old new
 WritesOrCuts write old (Wanting reply) new = (left : Written) × (reply ≡ reply_seen write left) × CutsWrite write old left new
 WritesOrCuts write old NoReply new = CarriesOutWrite write old new ⊎ ((left : Written) × CutsWrite write old left new)
 
-abbrev pub WritesWhere : Bool → WriteCounts → State → Outcome → State → Type 0
+abbrev pub WritesWhere : Bool → WriteSteps → State → Outcome → State → Type 0
 WritesWhere false write old outcome new =
     WritesOrCuts write (marked old) outcome (marked new) × (new.catalog.views ≡ old.catalog.views) × (new.cursors ≡ old.cursors)
 WritesWhere true write old outcome new = Refuses OnView outcome × (new ≡ old)
 
 -- a write on a collection; one on a view is refused
-abbrev pub WritesOn : WriteCounts → State → Outcome → State → Type 0
+abbrev pub WritesOn : WriteSteps → State → Outcome → State → Type 0
 WritesOn write old outcome new = WritesWhere (is_view write.namespace old.catalog.views) write old outcome new

@@ -34,7 +34,7 @@ own-array (v ∷ vs) = (own (Some v), each vs)
     each [] = tt
     each (w ∷ ws) = (own (Some w), each ws)
 
-own-candidate : (c : Candidate) → AllByRecursion IsOwn (keys.keys_of c)
+own-candidate : (c : Candidate) → AllByRecursion IsOwn (keys.sort_keys_of c)
 own-candidate None = (own (Some null), tt)
 own-candidate (Some (array vs)) = own-array (list_of_elements vs)
 own-candidate (Some v) = (own (Some v), tt)
@@ -43,9 +43,9 @@ own-some : (ks ls : List KeyTree) → AllByRecursion IsOwn ks → AllByRecursion
 own-some [] ls a b = b
 own-some (k ∷ ks) ls a b = (a.0, own-some ks ls a.1 b)
 
-own-candidates : (cs : List Candidate) → AllByRecursion IsOwn (flat_map keys.keys_of cs)
+own-candidates : (cs : List Candidate) → AllByRecursion IsOwn (flat_map keys.sort_keys_of cs)
 own-candidates [] = tt
-own-candidates (c ∷ cs) = own-some (keys.keys_of c) (flat_map keys.keys_of cs) (own-candidate c) (own-candidates cs)
+own-candidates (c ∷ cs) = own-some (keys.sort_keys_of c) (flat_map keys.sort_keys_of cs) (own-candidate c) (own-candidates cs)
 
 own-best : (d : Direction) (k : KeyTree) (ks : List KeyTree) → IsOwn k → AllByRecursion IsOwn ks → IsOwn (best_of (stands_first d) k ks)
 own-best d k [] one all = one
@@ -61,7 +61,7 @@ own-earliest d (k ∷ ks) all = own-best d k ks all.0 all.1
 
 own-sort_key : (fields : List Field) (path : List (List ℕ)) (d : Direction) → IsOwn (sort_key fields path d)
 unfolding sort_key
-own-sort_key fields path d = own-earliest d (flat_map keys.keys_of (whole fields path)) (own-candidates (whole fields path))
+own-sort_key fields path d = own-earliest d (flat_map keys.sort_keys_of (whole fields path)) (own-candidates (whole fields path))
 
 -- ---- places
 

@@ -1,5 +1,5 @@
 -- What a field of a $group in memory stands for.
-use Rattle.dv_row.specs.Inner.ExpressionView.{expression_seen}
+use Rattle.dv_row.specs.ExpressionView.{expression_seen}
 use Rattle.dv_gather.specs.declared.group.GroupField.{GroupField}
 use Rattle.dv_gather.specs.Grouping.{Accumulation}
 

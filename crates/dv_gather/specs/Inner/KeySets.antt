@@ -1,9 +1,8 @@
 -- Keys of values: words of bodies.
-use Rattle.std.specs.Prelude.{◌≡◌, Bool, List, map}
+use Rattle.std.specs.Prelude.{◌≡◌, Bool, List}
 use Rattle.std.specs.List.{list_any}
 use Rattle.std.specs.Ordering.{is_eq}
-use denote.Ref.{Bor}
-use Rattle.dv_value.specs.Tree.{Tree, Field}
+use Rattle.dv_value.specs.Tree.{Tree}
 use Rattle.dv_order.specs.Key.{KeyTree, key_order}
 use Rattle.dv_path.specs.LeafKeys.{is_some_key}
 
@@ -14,7 +13,3 @@ AreKeysOf ks vs = (k : KeyTree) → list_any (λ l. is_eq (key_order k l)) ks �
 -- whether one of these keys is that of one of these values
 abbrev pub any_key : List KeyTree → List Tree → Bool
 any_key ks vs = list_any (λ k. is_some_key k vs) ks
-
--- the documents behind references
-abbrev pub referred : List (Bor (List Field)) → List (List Field)
-referred = map (λ r. r.now)

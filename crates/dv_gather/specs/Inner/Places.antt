@@ -5,7 +5,7 @@ use Rattle.std.specs.BTreeMap.{BTreeMap, get}
 use Rattle.dv_value.specs.Tree.{Tree, Field}
 use Rattle.dv_order.specs.Key.{KeyTree, key_order}
 use Rattle.dv_path.specs.LeafKeys.{is_some_key, leaf_values}
-use Rattle.dv_gather.specs.Joining.{as_value, matches}
+use Rattle.dv_gather.specs.Joining.{as_value, joined_with}
 
 -- whether a place is one of these
 abbrev pub is_place : List ℕ → ℕ → Bool
@@ -39,7 +39,7 @@ ArePlaces m path ds = (k : KeyTree) (i : ℕ) → is_under m k i ≡ item_passes
 
 -- what the documents are that a document is joined with, by places of documents
 abbrev pub AreMatches : {A : Type 0} → BTreeMap KeyTree (Vec ℕ A) → List (List ℕ) → List (List Field) → List Field → List Tree → Type 0
-AreMatches m local ds d vs = (foreign : List (List ℕ)) → ArePlaces m foreign ds → vs ≡ map as_value (matches local foreign ds d)
+AreMatches m local ds d vs = (foreign : List (List ℕ)) → ArePlaces m foreign ds → vs ≡ map as_value (joined_with local foreign ds d)
 
 -- the items at the places that pass
 abbrev pub items_chosen : {X : Type 0} → (ℕ → Bool) → List X → List X

@@ -33,7 +33,7 @@ use Rattle.dv_gather.specs.Extremes.{is_better, better, extreme_from}
 use Rattle.dv_gather.specs.GroupParsing.{accumulator_named, accumulation, accumulator_alone, accumulation_in, field_in, key_form, grouping, group_of, group_in}
 use Rattle.dv_gather.specs.Grouping.{Accumulation, Grouping, key_in, keyed, with_present, values_over, accumulated, field_over, with_accumulated, key_of_group, group_row, grouped}
 use Rattle.dv_gather.specs.Groups.{documents_under_key, group_keys, groups_of}
-use Rattle.dv_gather.specs.Joining.{as_value, is_joined, matches}
+use Rattle.dv_gather.specs.Joining.{as_value, is_joined, joined_with}
 use Rattle.dv_gather.specs.Lookups.{set_field, joined_documents, looked_up, text_in, target_in, from_option, field_option, as_option, looking, lookup_of, lookup_in}
 use Rattle.dv_gather.specs.Sums.{digits as spelled_out, total, is_int64, spelled}
 use Rattle.dv_value.specs.Widths.{fits_32, fits_64}
@@ -222,7 +222,7 @@ pub looked_up-valid : (l : Lookup) (ds others : List Row) → IsSoundLookup l �
 unfolding looked_up
 looked_up-valid l [] others sound valid fine = tt
 looked_up-valid l (d ∷ ds) others sound valid fine =
-    (set_field-valid l.target (joined_documents l others d) d sound (valid-elements (map as_value (matches l.local l.foreign others d)) (found-values (is_joined l.local l.foreign d) others fine)) valid.0, looked_up-valid l ds others sound valid.1 fine)
+    (set_field-valid l.target (joined_documents l others d) d sound (valid-elements (map as_value (joined_with l.local l.foreign others d)) (found-values (is_joined l.local l.foreign d) others fine)) valid.0, looked_up-valid l ds others sound valid.1 fine)
 
 target-sound : (c : Candidate) → IfSome c IsValue → IfOk (text_in c >>= target_in) IsUtf8
 target-sound None value = tt

@@ -1,6 +1,6 @@
 -- Connections and steps of examples.
-use Rattle.std.specs.Prelude.{ℕ, List, [], ◌∷◌, Option, Some, None}
-use Rattle.dv_host.specs.Schedule.{Step, opened, fed, ended}
+use Rattle.std.specs.Prelude.{ℕ, List, [], ◌∷◌, Option, Some}
+use Rattle.dv_host.specs.Schedule.{Step, opened, fed}
 use Rattle.dv_host.specs.View.{Seen}
 use Rattle.dv_host.specs.declared.sessions.Fed.TheVariants.{Open, Closed}
 

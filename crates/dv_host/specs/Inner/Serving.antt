@@ -2,9 +2,10 @@
 use Rattle.std.specs.Prelude.{◌≡◌, ℕ, ◌+◌, Bool, List, [], Option, None, OnOk, Result, if◌then◌else◌}
 use Rattle.dv_host.specs.Outside.{Closed}
 use Rattle.dv_host.specs.Schedule.{Step}
-use Rattle.dv_host.specs.Host.{Moves}
-use Rattle.dv_host.specs.Stands.{Stands}
-use Rattle.dv_host.specs.View.{Seen, seen_by}
+use Rattle.dv_host.specs.View.{Seen}
+use Rattle.dv_host.specs.Inner.Links.{seen_by}
+use Rattle.dv_host.specs.Inner.Moving.{Moves}
+use Rattle.dv_host.specs.Inner.Hosting.{Stands}
 use Rattle.dv_host.specs.declared.link.Link.{Link}
 
 -- Serving continues: however it began, if everything happened as `Hosts` says up to the old sessions and connections, it did so up to

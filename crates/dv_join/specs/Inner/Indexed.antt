@@ -11,14 +11,14 @@ use Rattle.dv_change.specs.Inner.Changes.{IsPositioned}
 use Rattle.dv_change.specs.Inner.Ordered.{gone, put}
 use Rattle.dv_change.specs.Positions.{PosTree}
 use Rattle.dv_gather.specs.Joining.{as_value}
-use Rattle.dv_join.specs.declared.index.Index.{Index}
+use Rattle.dv_join.specs.declared.index.RowsByKey.{RowsByKey}
 
 -- the rows under a key
-abbrev pub under : KeyTree → Index → Positioned
+abbrev pub under : KeyTree → RowsByKey → Positioned
 under k index = unwrap_or (get key_order index.under k) []
 
 -- under each key are those of the rows that have it
-abbrev pub IsJoinIndexOf : (KeyTree → List Field → Bool) → Positioned → Index → Type 0
+abbrev pub IsJoinIndexOf : (KeyTree → List Field → Bool) → Positioned → RowsByKey → Type 0
 IsJoinIndexOf has rows index = (k : KeyTree) → under k index ≡ filter (λ e. has k e.1) rows
 
 -- whether a row has any of these keys
@@ -35,16 +35,16 @@ abbrev pub moved_in_index : PosTree → Bool → Option (List Field) → Bool �
 moved_in_index pos had row has rows = cond has (row_set pos row rows) (cond had (gone pos rows) rows)
 
 -- an index after a row at a position, under some keys, gave way to another one, under others
-abbrev pub ExchangedIn : PosTree → BTreeSet KeyTree → Option (List Field) → BTreeSet KeyTree → Index → Index → Type 0
+abbrev pub ExchangedIn : PosTree → BTreeSet KeyTree → Option (List Field) → BTreeSet KeyTree → RowsByKey → RowsByKey → Type 0
 ExchangedIn pos old_keys row new_keys old new = (k : KeyTree) → under k new ≡ moved_in_index pos (contains key_order old_keys k) row (contains key_order new_keys k) (under k old)
 
 -- an index after the row at a position went from under each of some keys that isn't one of the others
-abbrev pub TakenOutOf : PosTree → BTreeSet KeyTree → BTreeSet KeyTree → Index → Index → Type 0
+abbrev pub TakenOutOf : PosTree → BTreeSet KeyTree → BTreeSet KeyTree → RowsByKey → RowsByKey → Type 0
 TakenOutOf pos keys others old new = (k : KeyTree) → under k new ≡ cond (contains key_order keys k && not (contains key_order others k)) (gone pos (under k old)) (under k old)
 
 -- whatever rows the index is of, these are the ones that have any of the keys, and these are they as values
-abbrev pub AreRowsUnder : Index → List KeyTree → Positioned → Type 0
+abbrev pub AreRowsUnder : RowsByKey → List KeyTree → Positioned → Type 0
 AreRowsUnder index keys all = (has : KeyTree → List Field → Bool) (rows : Positioned) → IsPositioned rows → IsJoinIndexOf has rows index → all ≡ filter (λ e. has_any has keys e.1) rows
 
-abbrev pub AreValuesUnder : Index → List KeyTree → List Tree → Type 0
+abbrev pub AreValuesUnder : RowsByKey → List KeyTree → List Tree → Type 0
 AreValuesUnder index keys values = (has : KeyTree → List Field → Bool) (rows : Positioned) → IsPositioned rows → IsJoinIndexOf has rows index → values ≡ map as_value (forget (filter (λ e. has_any has keys e.1) rows))

@@ -8,7 +8,7 @@ use Rattle.dv_change.specs.Changes.{Positioned, forget}
 use Rattle.dv_change.specs.Inner.Changes.{IsPositioned, alone}
 use Rattle.dv_change.specs.Inner.Ordered.{put}
 use Rattle.dv_change.specs.Positions.{PosTree}
-use Rattle.dv_join.specs.declared.index.Index.{Index}
+use Rattle.dv_join.specs.declared.index.RowsByKey.{RowsByKey}
 use Rattle.dv_join.specs.Inner.Copied.{DiffersByTarget, Row, made_of}
 use Rattle.dv_join.specs.Inner.Indexed.{IsJoinIndexOf}
 use Rattle.dv_join.specs.Inner.Turning.{AreLocalKeys, has_foreign, has_local}
@@ -18,7 +18,7 @@ use Rattle.dv_join.specs.Placed.{looked_up_at}
 abbrev pub copy_joined : Lookup → Positioned → Row → Row → Row
 copy_joined l documents row copied = set_field l.target (joined_documents l (forget documents) row) copied
 
-module _ (l : Lookup) (foreign : Index) where
+module _ (l : Lookup) (foreign : RowsByKey) where
   -- these are the rows joined, where others were made of them that differ by the target
   abbrev pub AreJoined : Positioned → Positioned → Positioned → Type 0
   AreJoined rows copied joined = (documents : Positioned) (made : Row → Row) → IsPositioned documents → IsJoinIndexOf (has_foreign l) documents foreign → IsPositioned rows → DiffersByTarget l made → copied ≡ made_of made rows → joined ≡ looked_up_at l rows documents

@@ -10,7 +10,7 @@ use Rattle.dv_command.specs.Lists.{CommandLists}
 use Rattle.dv_command.specs.Inner.Needed.{needed}
 use Rattle.dv_message.specs.Commands.{fields_in, each_read}
 
--- what was read is this, or the same fault; or memory was wanting
+-- what was read is this, or the same fault; or memory ran out
 abbrev pub ReadAs : {X Y : Type 0} → (X → Y) → Result X BsonFault → Result Y BsonFault → Type 0
 ReadAs view (Ok x) read = read ≡ Ok (view x)
 ReadAs view (Err fault) read = (fault ≡ NoMemory) ⊎ (read ≡ Err fault)

@@ -32,7 +32,7 @@ abbrev pub sections_seen : Sections → List Section
 sections_seen (One section) = section_seen section ∷ []
 sections_seen (Several sections) = map section_seen sections.items
 
--- there is no such thing, or memory was wanting to look for it
+-- there is no such thing, or memory ran out to look for it
 abbrev pub MissedBy : {Y : Type 0} → CloseFault → Option Y → Type 0
 MissedBy BadSection found = found ≡ None
 MissedBy NoMemory found = ⊤

@@ -9,7 +9,7 @@ use Rattle.std.specs.Ordering.{ordering_then, nat_cmp, int_cmp}
 use Rattle.std.specs.Cmp.{nat_cmp_is, int_cmp_is}
 use Rattle.std.specs.Cmp.Lexicographic.{slice_cmp}
 use Rattle.dv_value.specs.Tree.{Tree, int32, int64, string, document, array, boolean, binary, object_id, date, null, timestamp, min_key, max_key}
-use Rattle.dv_order.specs.Order.{canon, class, order}
+use Rattle.dv_order.specs.Order.{class, order}
 use Rattle.dv_order.specs.Key.{KeyTree, no_element, value, key_class, key_order}
 use Rattle.dv_order.specs.Inner.SameOrder.{lower_class}
 use Rattle.dv_order.specs.Codes.{digit, behind, lead, after, offset, value_high, value_low, key_high, key_low}
@@ -137,12 +137,3 @@ key_ahead no_element no_element e h = never h _
 key_ahead no_element (value w) e h = no_class w (sym e) _
 key_ahead (value v) no_element e h = no_class v e _
 key_ahead (value v) (value w) e h = value_ahead v w e h
-
--- the width of integers is no part of a code
-pub high_of_canon : (v : Tree) → value_high (canon v) ≡ value_high v
-high_of_canon (int32 n) = refl
-high_of_canon v = refl
-
-pub low_of_canon : (v : Tree) → value_low (canon v) ≡ value_low v
-low_of_canon (int32 n) = refl
-low_of_canon v = refl

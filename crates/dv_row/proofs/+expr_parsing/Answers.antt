@@ -4,7 +4,7 @@ use Rattle.dv_value.specs.Tree.{Field, fields_of}
 use Rattle.dv_value.specs.View.{tree}
 use Rattle.dv_value.specs.Inner.Tree.{fields_weight}
 use Rattle.dv_value.specs.Results.{each}
-use Rattle.dv_row.specs.Inner.ExpressionView.{named}
+use Rattle.dv_row.specs.ExpressionView.{named}
 use Rattle.dv_row.specs.Inner.EachLaws.{after_each, none-yet, each-next, each-refused, each-over, gives-fault}
 use Rattle.dv_row.proofs.Members.{computed_field, computed-fault, computed-all}
 use Rattle.dv_row.proofs.+expr_parsing.Goals as goal

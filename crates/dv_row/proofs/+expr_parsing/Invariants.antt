@@ -3,7 +3,7 @@ use Rattle.dv_value.specs.Results.{each}
 use Rattle.dv_value.specs.Tree.{fields_of}
 use Rattle.dv_value.specs.Inner.Tree.{fields_weight, weight}
 use Rattle.dv_value.specs.View.{tree}
-use Rattle.dv_row.specs.Inner.ExpressionView.{named}
+use Rattle.dv_row.specs.ExpressionView.{named}
 use Rattle.dv_row.specs.Inner.EachLaws.{after_each}
 use Rattle.dv_row.proofs.Members.{computed_field}
 use Rattle.dv_row.proofs.+expr_parsing.Given as goal

@@ -1,7 +1,7 @@
 -- What the parts of a $project in memory stand for, while they are read.
 use Rattle.std.specs.Prelude.{map}
 use Rattle.dv_row.specs.declared.asked.Asked as memory
-use Rattle.dv_row.specs.Inner.ExpressionView.{named}
+use Rattle.dv_row.specs.ExpressionView.{named}
 use Rattle.dv_row.specs.ProjectParsing.{AskedMembers}
 
 abbrev pub asked : memory.Asked → AskedMembers

@@ -15,6 +15,6 @@ pub record IsMemberTaken (member : Result AskedMembers PipelineFault) (before : 
   pub stands : member ≡ unless_conflict path before after
   pub asks : (p : List (List ℕ)) → conflicts_with_asked p after ≡ (conflicts_with_asked p before || one_begins p path)
 
--- a member that is taken gives its path, and another one its fault, unless memory is wanting
+-- a member that is taken gives its path, and another one its fault, unless memory runs out
 abbrev pub TakesMember : Result (List (List ℕ)) PipelineFault → Result AskedMembers PipelineFault → AskedMembers → AskedMembers → Type 0
 TakesMember result member before after = MatchResult result (λ path. IsMemberTaken member before path after) (λ e. (e ≡ NoMemory) ⊎ (member ≡ Err e))

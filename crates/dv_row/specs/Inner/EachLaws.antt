@@ -1,5 +1,5 @@
 -- Parts that are parsed one after the other: what loops go by.
-use Rattle.std.proofs.Common.{◌≡◌, ◌∙◌, ap, sym, refl, List, [], ◌∷◌, ◌++◌, ℕ, zero, suc, ◌+◌, ◌<◌, ◌≤◌, add-one, drop, map, length, Some, None, slice_get, get_or, arith, append_assoc, append-nil, Result, Ok, Err, ◌⊎◌, inl, inr}
+use Rattle.std.proofs.Common.{◌≡◌, ◌∙◌, ap, sym, refl, List, [], ◌∷◌, ◌++◌, ℕ, zero, suc, ◌+◌, ◌<◌, ◌≤◌, add-one, drop, map, length, Some, slice_get, get_or, arith, append_assoc, append-nil, Result, Ok, Err, ◌⊎◌, inl, inr}
 use Rattle.std.proofs.lemmas.Option.{slice_get_read}
 use Rattle.dv_row.specs.declared.fault.PipelineFault.{PipelineFault}
 use Rattle.dv_row.specs.declared.fault.PipelineFault.TheVariants.{NoMemory}
@@ -23,11 +23,6 @@ drop-past (x ∷ xs) (suc i) h = drop-past xs i (omega arith)
 -- the element that a look-up gives
 pub drop-found : {X : Type 0} (xs : List X) (i : ℕ) (x : X) → Some x ≡ slice_get xs i → drop i xs ≡ x ∷ drop (i + 1) xs
 drop-found xs i x e = drop-here xs i x (sym e) ∙ ap (λ n. x ∷ drop n xs) (sym (add-one i))
-
-pub none-there : {X : Type 0} (xs : List X) (i : ℕ) → slice_get xs i ≡ None → length xs ≤ i
-none-there [] i e = omega arith
-none-there (x ∷ xs) zero e = absurd cc
-none-there (x ∷ xs) (suc i) e = omega (arith, none-there xs i e)
 
 abbrev pub after_each : {Y : Type 0} → List Y → Result (List Y) PipelineFault → Result (List Y) PipelineFault
 after_each ys (Ok rest) = Ok (ys ++ rest)
@@ -56,9 +51,6 @@ module _ {X Y : Type 0} (f : X → Result Y PipelineFault) (ys : List Y) (rest :
 -- those before a place are parsed: they give ys
 pub record IsParsedTo {X Y : Type 0} (f : X → Result Y PipelineFault) (xs : List X) (i : ℕ) (ys : List Y) : Type 0 where
   pub so_far : each f xs ≡ after_each ys (each f (drop i xs))
-
-pub parsed-none : {X Y : Type 0} (f : X → Result Y PipelineFault) (xs : List X) → IsParsedTo f xs 0 []
-parsed-none f xs = record { so_far = none-yet (each f xs) }
 
 module _ {X Y : Type 0} (f : X → Result Y PipelineFault) (xs : List X) (i : ℕ) (ys : List Y) (parsed : IsParsedTo f xs i ys) where
   pub parsed-next : (x : X) (y : Y) → drop i xs ≡ x ∷ drop (i + 1) xs → f x ≡ Ok y → IsParsedTo f xs (i + 1) (ys ++ y ∷ [])

@@ -7,7 +7,7 @@ use Rattle.dv_row.specs.declared.expr.Expr.TheVariants.{Path, Constant, Document
 use Rattle.dv_row.specs.declared.expr.ComputedField.{ComputedField}
 use Rattle.dv_row.specs.declared.expr.Computed.TheDeep.{deep-Expr, deep-ComputedField}
 use Rattle.dv_row.specs.Expressions.{expression_weight, computed_of, computed_weight}
-use Rattle.dv_row.specs.Inner.ExpressionView.{expression_seen, named}
+use Rattle.dv_row.specs.ExpressionView.{expression_seen, named}
 
 expression_falls : (e : Expr) → deep-Expr e ≤ expression_weight (expression_seen e)
 expression_falls (Path path) = omega arith

@@ -1,9 +1,10 @@
 -- The next connection.
 use Rattle.std.specs.Prelude.{ℕ, List, Option, Result}
+use Rattle.dv_host.specs.Outside.{Accepts}
 use Rattle.dv_wire.specs.Schedule.{World}
 use Rattle.dv_wire.specs.declared.fault.RunFault.{RunFault}
 use Rattle.dv_wire.specs.declared.service.Done.{Done}
-use Rattle.dv_serving.specs.Serve.{Accepts, ClosesConnection, Connection, Ended, HasSession}
+use Rattle.dv_serving.specs.Serve.{ClosesConnection, Connection, Ended, HasSession}
 
 -- the next connection arrives, has its session, of which this is told, and is closed
 abbrev pub ServesNext : Option (List (List ℕ)) → Option (List (List ℕ)) → Option (List Ended) → Option (List Ended) → World → Result Done RunFault → World → Type 0

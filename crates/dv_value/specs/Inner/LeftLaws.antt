@@ -10,10 +10,6 @@ pub record IsLeft {A R : Type 0} (f : List A → List A → R) (xs ys us vs : Li
   pub passed : length us + length ys ≡ length vs + length xs
   pub decides : f us vs ≡ f xs ys
 
--- nothing is passed yet
-pub IsLeft-all : {A R : Type 0} (f : List A → List A → R) (xs ys us vs : List A) → us ≡ xs → vs ≡ ys → IsLeft f xs ys us vs
-IsLeft-all f xs ys us vs p q = rw (p, q) (record { passed = omega arith; decides = refl })
-
 module _ {A R : Type 0} {f : List A → List A → R} {xs ys us vs : List A} (left : IsLeft f xs ys us vs) {x y : A} {us' vs' : List A} (p : us ≡ x ∷ us') (q : vs ≡ y ∷ vs') where
   -- a pair that decides nothing is passed
   pub IsLeft-more : f (x ∷ us') (y ∷ vs') ≡ f us' vs' → IsLeft f xs ys us' vs'

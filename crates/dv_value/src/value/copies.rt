@@ -45,7 +45,7 @@ impl List {
     }
 }
 
-/// Copies of the values, in order. Fails where memory is wanting.
+/// Copies of the values, in order. Fails when memory runs out.
 #[cycle(value)]
 pub(super) fn copies_of(values: &Vec<Value>) -> Result<Vec<Value>, NoMemory>
     ensures { IfOk result (λ copies. map tree copies.items ≡ map tree values.now.items) }
@@ -57,7 +57,7 @@ pub(super) fn copies_of(values: &Vec<Value>) -> Result<Vec<Value>, NoMemory>
     Ok(copies)
 }
 
-/// Copies of the values, in order, with this one in place of the one at `place`. Fails where memory is wanting.
+/// Copies of the values, in order, with this one in place of the one at `place`. Fails when memory runs out.
 pub(super) fn copies_with(
     values: &Vec<Value>,
     place: usize,
@@ -73,7 +73,7 @@ pub(super) fn copies_with(
     Ok(copies)
 }
 
-/// Puts copies of the values behind those that are there. Fails where memory is wanting.
+/// Puts copies of the values behind those that are there. Fails when memory runs out.
 fn put_copies(copies: &mut Vec<Value>, values: &[Value]) -> Result<(), NoMemory>
     ensures { OnOk result (map tree copies.new.items ≡ map tree copies.old.items ++ map tree values.now) }
 {

@@ -173,8 +173,8 @@ impl Document {
         }
     }
 
-    /// Makes room for one more value where there is none, and for no further one: a document that is stored gets few more.
-    /// Fields that a copy shares are copied first. Fails where memory is wanting.
+    /// Makes room for one more value where there is none, and for no further one: a document that is stored gets few more. Fields
+    /// that a copy shares are copied first. Fails when memory runs out.
     pub(crate) fn reserve_one(&mut self) -> Result<(), NoMemory>
         ensures { self.new ≡ self.old }
     {
@@ -221,8 +221,8 @@ impl Document {
         }
     }
 
-    /// Puts the value behind the elements of the array under the name; where there is no array, nothing is changed, and the
-    /// value is dropped. Fields that a copy shares are copied first. Fails where memory is wanting.
+    /// Puts the value behind the elements of the array under the name; where there is no array, nothing is changed, and the value
+    /// is dropped. Fields that a copy shares are copied first. Fails when memory runs out.
     pub(crate) fn push_element(&mut self, name: &str, value: Value) -> Result<(), NoMemory>
         ensures ok { OnOk result (self.new ≡ with_value_pushed name.now (tree value) self.old) }
         ensures err { OnErr result (self.new ≡ self.old) }
@@ -327,7 +327,7 @@ impl Document {
         })
     }
 
-    /// Copies of the fields, which own their values. Fails where memory is wanting.
+    /// Copies of the fields, which own their values. Fails when memory runs out.
     fn owned(&self) -> Result<Measured, NoMemory>
         ensures { IfOk result (λ owned. owned ≡ self.now) }
     {
@@ -387,7 +387,7 @@ fn put_over(
     Ok(None)
 }
 
-/// One field, whose name holds no zero byte. Fails where memory is wanting.
+/// One field, whose name holds no zero byte. Fails when memory runs out.
 fn first_field(alloc: Global, name: &str, value: Value) -> Result<Rc<Measured>, NoMemory>
     requires { has_zero name.now ≡ false }
     ensures { IfOk result (λ fields. fields.value ≡ (name.now, tree value) ∷ []) }

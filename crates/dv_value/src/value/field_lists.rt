@@ -26,7 +26,7 @@ impl Fields {
         })
     }
 
-    /// No fields, with room for as many as the document has, whose names they may share. Fails where memory is wanting.
+    /// No fields, with room for as many as the document has, whose names they may share. Fails when memory runs out.
     pub(super) fn beside(alloc: Global, document: &Document) -> Result<Self, NoMemory>
         ensures { IfOk result (λ fields. fields ≡ []) }
     {
@@ -37,7 +37,7 @@ impl Fields {
         }
     }
 
-    /// No fields, with room for as many as there are here, whose names they may share. Fails where memory is wanting.
+    /// No fields, with room for as many as there are here, whose names they may share. Fails when memory runs out.
     fn none_beside(&self, alloc: Global) -> Result<Self, NoMemory>
         ensures { IfOk result (λ fields. fields ≡ []) }
     {
@@ -64,7 +64,7 @@ impl Fields {
         }
     }
 
-    /// These values under the first names, which are shared. Fails where memory is wanting.
+    /// These values under the first names, which are shared. Fails when memory runs out.
     pub(super) fn with_values(&self, values: Vec<Value>) -> Result<Self, NoMemory>
         requires { length values.items ≤ length self.now }
         ensures { IfOk result (λ fields. fields ≡ with_values self.now (map tree values.items)) }
@@ -142,7 +142,7 @@ impl Fields {
         Ok(())
     }
 
-    /// Makes room for one more value where there is none, and for no further one. Fails where memory is wanting.
+    /// Makes room for one more value where there is none, and for no further one. Fails when memory runs out.
     pub(super) fn reserve_one(&mut self) -> Result<(), NoMemory>
         ensures { self.new ≡ self.old }
     {
@@ -166,7 +166,7 @@ impl Fields {
         self.values[place] = value;
     }
 
-    /// Puts the value behind the elements of the array under the name, where there is one. Fails where memory is wanting.
+    /// Puts the value behind the elements of the array under the name, where there is one. Fails when memory runs out.
     pub(super) fn push_element(&mut self, name: &str, value: Value) -> Result<(), NoMemory>
         ensures ok { OnOk result (self.new ≡ with_value_pushed name.now (tree value) self.old) }
         ensures err { OnErr result (self.new ≡ self.old) }
@@ -177,7 +177,7 @@ impl Fields {
         }
     }
 
-    /// A copy with this value in place of the one at `place`. It shares the names. Fails where memory is wanting.
+    /// A copy with this value in place of the one at `place`. It shares the names. Fails when memory runs out.
     pub(super) fn copy_with(&self, place: usize, value: Value) -> Result<Self, NoMemory>
         requires { place < length self.now }
         ensures { IfOk result (λ copy. copy ≡ with_value_at place (tree value) self.now) }
@@ -216,7 +216,7 @@ impl Fields {
         }
     }
 
-    /// Keeps names of its own, so that those of a longer document can go with it; if memory is wanting, all stays.
+    /// Keeps names of its own, so that those of a longer document can go with it; if memory runs out, all stays.
     fn leave_names(&mut self)
         ensures { self.new ≡ self.old }
     {
@@ -226,7 +226,7 @@ impl Fields {
         }
     }
 
-    /// A copy, which shares the names. In time linear in the number of fields. Fails where memory is wanting.
+    /// A copy, which shares the names. In time linear in the number of fields. Fails when memory runs out.
     pub(super) fn try_clone(&self) -> Result<Self, NoMemory>
         ensures { IfOk result (λ copy. copy ≡ self.now) }
     {
@@ -237,7 +237,7 @@ impl Fields {
     }
 }
 
-/// A copy of the first `count` names, to be shared. Fails where memory is wanting.
+/// A copy of the first `count` names, to be shared. Fails when memory runs out.
 fn own_names(alloc: Global, names: &Names, count: usize) -> Result<Rc<Names>, NoMemory>
     requires { count ≤ length names.now }
     ensures { IfOk result (λ own. own.value ≡ take count names.now) }

@@ -15,7 +15,7 @@ use std::alloc::Global;
 use std::rc::Rc;
 
 impl Overlay {
-    /// No fields, with room for as many as the document has, whose names they may share. Fails where memory is wanting.
+    /// No fields, with room for as many as the document has, whose names they may share. Fails when memory runs out.
     pub(super) fn beside(alloc: Global, document: &Document) -> Result<Self, NoMemory>
         ensures { IfOk result (λ overlay. overlay ≡ []) }
     {
@@ -56,7 +56,7 @@ impl Overlay {
         }
     }
 
-    /// What covers the field at `place`, to be shared, if anything does. Fails where memory is wanting.
+    /// What covers the field at `place`, to be shared, if anything does. Fails when memory runs out.
     pub(super) fn cover(&self, place: usize) -> Result<Option<SharedText>, NoMemory>
         ensures { IfOk result (λ cover. IfSome cover (λ text. text ≡ value_at place self.now)) }
     {
@@ -125,8 +125,8 @@ impl Overlay {
         self.covers[place] = Cover::Absent;
     }
 
-    /// A copy with this value in place of the one at `place`. It shares the names, and what covers the others. Fails where
-    /// memory is wanting.
+    /// A copy with this value in place of the one at `place`. It shares the names, and what covers the others. Fails when memory
+    /// runs out.
     pub(super) fn copy_with(&self, place: usize, value: Value) -> Result<Self, NoMemory>
         requires { place < length self.now }
         ensures { IfOk result (λ copy. copy ≡ with_value_at place (tree value) self.now) }
@@ -158,7 +158,7 @@ impl Clone for Overlay {
 }
 
 impl SharedText {
-    /// The value, a text or a binary, to be shared. Fails where memory is wanting.
+    /// The value, a text or a binary, to be shared. Fails when memory runs out.
     pub(super) fn of(alloc: Global, value: Value) -> Result<Self, NoMemory>
         requires { IsText (tree value) }
         ensures { IfOk result (λ text. text ≡ tree value) }
@@ -175,7 +175,7 @@ impl SharedText {
         self.value.as_ref()
     }
 
-    /// The same text, shared once more. Fails where memory is wanting.
+    /// The same text, shared once more. Fails when memory runs out.
     fn try_clone(&self) -> Result<Self, NoMemory>
         ensures { IfOk result (λ copy. copy ≡ self.now) }
     {
@@ -186,7 +186,7 @@ impl SharedText {
 }
 
 impl Cover {
-    /// The same, which shares the text. Fails where memory is wanting.
+    /// The same, which shares the text. Fails when memory runs out.
     fn try_clone(&self) -> Result<Self, NoMemory>
         ensures { IfOk result (λ copy. covering copy ≡ covering self.now) }
     {
@@ -208,7 +208,7 @@ fn text_over(covers: &Vec<Cover>, place: usize) -> Option<&SharedText>
     }
 }
 
-/// The same covers, in order. Fails where memory is wanting.
+/// The same covers, in order. Fails when memory runs out.
 fn copied_covers(covers: &Vec<Cover>) -> Result<Vec<Cover>, NoMemory>
     ensures { IfOk result (λ copies. map covering copies.items ≡ map covering covers.now.items) }
 {

@@ -40,7 +40,7 @@ impl Document {
         }
     }
 
-    /// A copy of the fields, of which the long ones are shared. Fails where memory is wanting.
+    /// A copy of the fields, of which the long ones are shared. Fails when memory runs out.
     fn overlaid(&self) -> Result<Overlay, NoMemory>
         ensures { IfOk result (λ overlay. overlay ≡ self.now) }
     {
@@ -51,7 +51,7 @@ impl Document {
         Ok(overlay)
     }
 
-    /// Puts a copy of the field at `place` behind those of the fields before it. Fails where memory is wanting.
+    /// Puts a copy of the field at `place` behind those of the fields before it. Fails when memory runs out.
     fn overlay_next(&self, place: usize, overlay: &mut Overlay) -> Result<(), NoMemory>
         requires named { AreNamed self.now }
         requires there { place < length self.now }
@@ -65,7 +65,7 @@ impl Document {
         }
     }
 
-    /// The value of the field at `place`, to be shared, if it is long. Fails where memory is wanting.
+    /// The value of the field at `place`, to be shared, if it is long. Fails when memory runs out.
     fn share(&self, place: usize) -> Result<Option<SharedText>, NoMemory>
         requires { place < length self.now }
         ensures { IfOk result (λ share. IfSome share (λ text. text ≡ value_at place self.now)) }
@@ -78,7 +78,7 @@ impl Document {
         Ok(Some(SharedText::of(self.alloc, value.try_clone()?)?))
     }
 
-    /// The value of the field at `place`, if it is shared. Fails where memory is wanting.
+    /// The value of the field at `place`, if it is shared. Fails when memory runs out.
     fn cover(&self, place: usize) -> Result<Option<SharedText>, NoMemory>
         ensures { IfOk result (λ cover. IfSome cover (λ text. text ≡ value_at place self.now)) }
     {
@@ -117,8 +117,7 @@ impl Document {
         Ok(self.add_shown(name, from, place)?)
     }
 
-    /// The same with a name that is known to be new and without a zero byte. Fails where memory is wanting; then nothing is
-    /// changed.
+    /// The same with a name that is known to be new and without a zero byte. Fails when memory runs out; then nothing is changed.
     fn add_shown(&mut self, name: &str, from: &Document, place: usize) -> Result<(), NoMemory>
         requires whole { has_zero name.now ≡ false }
         requires fresh { has_name name.now self.old ≡ false }
@@ -133,7 +132,7 @@ impl Document {
         }
     }
 
-    /// Adds a field that shows the text. Fails where memory is wanting; then nothing is changed.
+    /// Adds a field that shows the text. Fails when memory runs out; then nothing is changed.
     fn add_shared(&mut self, name: &str, text: SharedText) -> Result<(), NoMemory>
         requires whole { has_zero name.now ≡ false }
         requires fresh { has_name name.now self.old ≡ false }

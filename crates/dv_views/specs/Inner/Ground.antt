@@ -10,7 +10,7 @@ use Rattle.dv_views.specs.Forms.{names_read}
 use Rattle.dv_views.specs.Placed.{ListPlaces, positioned}
 use Rattle.dv_views.specs.Inner.Holding.{HasMade}
 use Rattle.dv_views.specs.Inner.Older.{views_before}
-use Rattle.dv_views.specs.Views.{ViewMark, View, live, stale, taken_from}
+use Rattle.dv_views.specs.Views.{ViewMark, View, live, stale, inputs_from}
 use Rattle.dv_views.specs.Inner.Views.{Views, view_under}
 use Rattle.dv_views.specs.declared.making.Ground.{Ground}
 
@@ -49,5 +49,5 @@ IsPlacedUnder older lists name = IsLiveView (view_under name older) × IsPositio
 -- what is kept over older views and lists: a live mark has taken in what stands there at positions, and all views that it reads are live
 abbrev pub IsBuilt : List Stage → List ℕ → Views → Lists → ViewMark → Type 0
 IsBuilt stages source older lists (live kept) =
-    HasMade stages kept (taken_from stages source (outs_below older lists)) × (kept.ticks ≡ 0) × AllByRecursion (λ name. IsLiveView (view_under name older)) (names_read stages source)
+    HasMade stages kept (inputs_from stages source (outs_below older lists)) × (kept.ticks ≡ 0) × AllByRecursion (λ name. IsLiveView (view_under name older)) (names_read stages source)
 IsBuilt stages source older lists stale = ⊥

@@ -4,7 +4,7 @@ use Rattle.dv_change.specs.Inner.ToldRows.{HaveMade}
 use Rattle.dv_pipe.specs.declared.stage.Stage.{Stage}
 use Rattle.dv_views.specs.Inner.Operating.{HoldsStage, stage_makes}
 use Rattle.dv_views.specs.Placed.{forms, lists_in}
-use Rattle.dv_views.specs.Views.{Kept, Taken}
+use Rattle.dv_views.specs.Views.{Kept, Inputs}
 
 -- how many lists stages look into
 abbrev pub lists_of_all : List Stage → ℕ
@@ -12,6 +12,6 @@ lists_of_all [] = 0
 lists_of_all (s ∷ ss) = lists_in s + lists_of_all ss
 
 -- what is kept are the stages, which have taken in these inputs, of which there are as many as they look into, and the rows that they make
-pub record HasMade (stages : List Stage) (kept : Kept) (t : Taken) : Type 0 where
+pub record HasMade (stages : List Stage) (kept : Kept) (t : Inputs) : Type 0 where
   pub made : HaveMade stage_makes HoldsStage kept.operators kept.rows (forms stages t.named) t.left
   pub count : length t.named ≡ lists_of_all stages

@@ -10,12 +10,12 @@ use Rattle.dv_change.specs.Inner.Told.{input_rows, told_along, with_old}
 use Rattle.dv_change.specs.Inputs.{HasInput}
 use Rattle.dv_change.specs.Raised.{raised}
 use Rattle.dv_pipe.specs.declared.stage.Stage.{Stage}
-use Rattle.dv_views.specs.Flow.{Arrival, handed_by, taken_after, work_by}
+use Rattle.dv_views.specs.Flow.{Arrival, handed_by, inputs_after, work_by}
 use Rattle.dv_views.specs.Forms.{is_name_among, names_read}
 use Rattle.dv_views.specs.Inner.Holding.{HasMade}
 use Rattle.dv_views.specs.Inner.Views.{Views, view_form, is_stale, no_distance, with_distance}
 use Rattle.dv_views.specs.Placed.{lookups_of}
-use Rattle.dv_views.specs.Views.{Kept, ViewMark, Taken, View, live, stale}
+use Rattle.dv_views.specs.Views.{Kept, ViewMark, Inputs, View, live, stale}
 
 -- ---- what is told in memory
 
@@ -60,16 +60,16 @@ coming_to stages source known = coming_under source (lookups_of stages source) k
 -- ---- what a view makes of it
 
 -- the inputs behind changes, one after the other
-abbrev pub taken_by : Taken → List Arrival → Taken
-taken_by t all = fold (λ t a. taken_after a.input a.change t) t all
+abbrev pub taken_by : Inputs → List Arrival → Inputs
+taken_by t all = fold (λ t a. inputs_after a.input a.change t) t all
 
 -- the changes, each told with what stood there
-abbrev pub come_along : List Arrival → Taken → List Come
+abbrev pub come_along : List Arrival → Inputs → List Come
 come_along [] t = []
-come_along (a ∷ all) t = record { input = a.input; taken = with_old (input_rows a.input t.named t.left) a.change } ∷ come_along all (taken_after a.input a.change t)
+come_along (a ∷ all) t = record { input = a.input; taken = with_old (input_rows a.input t.named t.left) a.change } ∷ come_along all (inputs_after a.input a.change t)
 
 -- what is kept behind changes of these inputs, and what was told of its rows behind what was told before
-pub record HasTurned (stages : List Stage) (t : Taken) (all : List Arrival) (before : Kept) (first : List taking.Taken) (after : Kept) (now : List taking.Taken) : Type 0 where
+pub record HasTurned (stages : List Stage) (t : Inputs) (all : List Arrival) (before : Kept) (first : List taking.Taken) (after : Kept) (now : List taking.Taken) : Type 0 where
   pub made : HasMade stages after (taken_by t all)
   pub tells : now ≡ first ++ told_along before.rows (handed_by stages all t)
   pub ticks : after.ticks ≡ raised before.ticks (work_by stages all t)
@@ -78,7 +78,7 @@ pub record HasTurned (stages : List Stage) (t : Taken) (all : List Arrival) (bef
 -- whatever was taken in, changes that come told with what stood there are taken in, one after the other
 abbrev pub Turns : List Come → Kept → List taking.Taken → Kept → List taking.Taken → Type 0
 Turns come before first after now =
-    (stages : List Stage) (t : Taken) (all : List Arrival) → HasMade stages before t → AllByRecursion (λ a. HasInput a.input t.named) all → come ≡ come_along all t → HasTurned stages t all before first after now
+    (stages : List Stage) (t : Inputs) (all : List Arrival) → HasMade stages before t → AllByRecursion (λ a. HasInput a.input t.named) all → come ≡ come_along all t → HasTurned stages t all before first after now
 
 -- a view that keeps its rows by what came, and tells what changes of them
 pub record KeepsOn (come : List Come) (before after : ViewMark) (now : Option (List taking.Taken)) : Type 0 where

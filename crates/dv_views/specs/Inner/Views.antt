@@ -16,7 +16,7 @@ use Rattle.dv_views.specs.declared.fault.ViewFault.{ViewFault}
 use Rattle.dv_views.specs.declared.state.ViewState.{ViewState}
 use Rattle.dv_views.specs.declared.state.ViewState.TheVariants as states
 use Rattle.dv_views.specs.declared.fault.ViewFault.TheVariants.{NoMemory}
-use Rattle.dv_views.specs.Views.{Taken, ViewMark, live, stale, View, taken_from}
+use Rattle.dv_views.specs.Views.{Inputs, ViewMark, live, stale, View, inputs_from}
 
 abbrev pub Views : Type 0
 Views = List View
@@ -26,13 +26,13 @@ abbrev pub view_form : View → ViewForm
 view_form v = record { name = v.name; source = v.source; stages = v.stages }
 
 -- what is kept, if anything is, are these rows, which the stages make of what they have taken in
-abbrev pub AreKept : List Stage → ViewMark → Taken → List Row → Type 0
+abbrev pub AreKept : List Stage → ViewMark → Inputs → List Row → Type 0
 AreKept stages (live kept) taken rows = HasMade stages kept taken × (forget kept.rows ≡ rows)
 AreKept stages stale taken rows = ⊤
 
 -- a live view has the rows of its pipeline from scratch, and has taken in what it reads as it stands
 abbrev pub IsRight : ListPlaces → Lists → View → Type 0
-IsRight places lists v = AreKept v.stages v.mark (taken_from v.stages v.source places) (evaluated v.stages v.source lists)
+IsRight places lists v = AreKept v.stages v.mark (inputs_from v.stages v.source places) (evaluated v.stages v.source lists)
 
 -- each over what the older ones make of the lists
 abbrev pub AreRightOver : ListPlaces → Lists → Views → Type 0
@@ -120,7 +120,7 @@ no_distance name = 0
 abbrev pub distances_of : Views → List ℕ → ℕ
 distances_of views = fold (λ below v. with_distance v below) no_distance views
 
--- refused with the fault, where there is one, and else at most since memory is wanting
+-- refused with the fault, where there is one, and else at most since memory runs out
 abbrev pub IsRefusedFor : {T : Type 0} → Option ViewFault → Result T ViewFault → Type 0
 IsRefusedFor (Some fault) result = result ≡ Err fault
 IsRefusedFor None result = IfErr result (λ fault. fault ≡ NoMemory)

@@ -41,7 +41,7 @@ impl ToldRegistry {
         }
     }
 
-    /// Hands on, in creation order, that a document goes; where memory is wanting for that, each view that it comes to is stale.
+    /// Hands on, in creation order, that a document goes; when memory runs out for that, each view that it comes to is stale.
     fn take_gone(&mut self, namespace: &str, document: &Document)
         requires { HasId document.now }
         ensures taken { HaveTaken (known_at namespace.now (gones_of (document.now ∷ []))) self.old self.new }
@@ -53,7 +53,7 @@ impl ToldRegistry {
         }
     }
 
-    /// Hands a change for which memory was wanting on: each view that it comes to is stale.
+    /// Hands a change for which memory ran out on: each view that it comes to is stale.
     pub(crate) fn lose(&mut self, namespace: &str)
         ensures taken { HaveLost namespace.now self.old self.new }
         ensures sound { IsSoundRegistry self.new }
@@ -63,7 +63,7 @@ impl ToldRegistry {
     }
 }
 
-/// The document, which begins with its `_id`, gone. Fails where memory is wanting.
+/// The document, which begins with its `_id`, gone. Fails when memory runs out.
 fn gone_of(alloc: Global, document: &Document) -> Result<Taken, NoMemory>
     requires { HasId document.now }
     ensures { IfOk result (λ taken. taken ≡ record { pos = own_position document.now; old = Some document.now; new = None }) }

@@ -37,7 +37,7 @@ pub record BeginsWithSpaces (text behind : List ℕ) : Type 0 where
   pub whole : text ≡ replicate spaces 32 ++ behind
   pub all : slice_index behind 0 ≢ 32
 
--- what reading pairs gives: the bytes of the text; or a fault where it is no pairs; or memory is wanting where it is
+-- what reading pairs gives: the bytes of the text; or a fault where it is no pairs; or memory runs out where it is
 abbrev pub Decodes : List ℕ → Result (List ℕ) LineFault → Type 0
 Decodes text (Ok bytes) = IsHexOf bytes text
 Decodes text (Err BadLine) = (bytes : List ℕ) → IsHexOf bytes text → ⊥

@@ -2,7 +2,7 @@ use Rattle.std.proofs.Common.{◌≡◌, Bool, false, Some, map, take}
 use Rattle.std.specs.List.{list_any}
 use Rattle.dv_value.specs.View.{tree}
 use Rattle.dv_candidates.specs.Candidates as candidates
-use Rattle.dv_candidates.specs.Inner.Fold.{Answers}
+use Rattle.dv_candidates.specs.Answering.{Answers}
 use Rattle.dv_candidates.specs.View.{seen}
 use Rattle.dv_candidates.proofs.any.any_element.Given as goal
 

@@ -6,7 +6,7 @@ use Rattle.dv_change.specs.declared.change.Change.{Change}
 use Rattle.dv_change.specs.Inner.Changes.{IsExactChange}
 use Rattle.dv_change.specs.Inner.Fed.{AreFilling, AreHeld}
 use Rattle.dv_change.specs.Inner.Told.{told_along}
-use Rattle.dv_change.specs.Work.{Form}
+use Rattle.dv_change.specs.Work.{Transform}
 use Rattle.dv_change.proofs.operators.fill_each.Given as goal
 
 abbrev pub invariant-changes : goal.invariant-changes
@@ -14,5 +14,5 @@ invariant-changes g l =
     let o = g.O.Operator in
     record {
       sound : AllByRecursion o.sound l.operators;
-      filling : (forms : List Form) (changes : List Change) → AreHeld o.makes o.holds l.fn.operators forms [] → AllByRecursion IsExactChange changes → l.fn.all.items ≡ told_along [] changes → AreFilling o.makes o.holds l.operators forms (into_iter_items l.taken-iterator) changes l.made.items;
+      filling : (forms : List Transform) (changes : List Change) → AreHeld o.makes o.holds l.fn.operators forms [] → AllByRecursion IsExactChange changes → l.fn.all.items ≡ told_along [] changes → AreFilling o.makes o.holds l.operators forms (into_iter_items l.taken-iterator) changes l.made.items;
     }

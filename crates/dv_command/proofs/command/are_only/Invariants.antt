@@ -2,7 +2,7 @@
 use Rattle.std.proofs.Common.{◌≡◌, drop, map}
 use Rattle.std.specs.List.{list_all}
 use Rattle.std.specs.Str.{bytes_eq}
-use Rattle.dv_command.specs.Inner.ListsView.{list_seen}
+use Rattle.dv_command.specs.ListsView.{list_seen}
 use Rattle.dv_command.proofs.command.are_only.Given as goal
 
 abbrev pub invariant-lists : goal.invariant-lists

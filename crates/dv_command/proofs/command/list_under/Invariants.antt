@@ -1,7 +1,7 @@
 -- no list so far is of the name
 use Rattle.std.proofs.Common.{◌≡◌, drop, map}
 use Rattle.dv_command.specs.Lists as lists
-use Rattle.dv_command.specs.Inner.ListsView.{list_seen}
+use Rattle.dv_command.specs.ListsView.{list_seen}
 use Rattle.dv_command.proofs.command.list_under.Given as goal
 
 abbrev pub invariant-lists : goal.invariant-lists

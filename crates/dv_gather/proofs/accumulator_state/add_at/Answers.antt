@@ -1,4 +1,4 @@
-use Rattle.dv_row.specs.Inner.RowValueView.{row_value}
+use Rattle.dv_row.specs.RowValueView.{row_value}
 use Rattle.dv_gather.specs.Inner.SumBounds.{most}
 use Rattle.dv_gather.proofs.AccumulatorStates.{value-added, no-state}
 use Rattle.dv_gather.proofs.Bounded.{at-place, one-more, none-more}

@@ -3,7 +3,7 @@ use Rattle.std.proofs.lemmas.List.{map-append}
 use Rattle.dv_value.specs.Tree.{Field}
 use Rattle.dv_value.specs.View.{tree}
 use Rattle.dv_gather.specs.Joining.{as_value}
-use Rattle.dv_gather.specs.Inner.KeySets.{referred}
+use Rattle.dv_gather.specs.View.{referred}
 use Rattle.dv_gather.specs.Inner.Places.{items_at}
 use Rattle.dv_gather.proofs.Placed.{items-next, items-skipped, items-chosen}
 use Rattle.dv_gather.proofs.joining.documents_at.Goals as goal

@@ -1,7 +1,7 @@
 use Rattle.std.proofs.Common.{◌≡◌, ◌++◌, map}
 use Rattle.dv_value.specs.View.{tree}
 use Rattle.dv_gather.specs.Joining.{as_value}
-use Rattle.dv_gather.specs.Inner.KeySets.{referred}
+use Rattle.dv_gather.specs.View.{referred}
 use Rattle.dv_gather.specs.Inner.Places.{items_at}
 use Rattle.dv_gather.proofs.joining.documents_at.Given as goal
 

@@ -2,7 +2,7 @@ use Rattle.std.proofs.Common.{◌∙◌, ap, map, ℕ}
 use Rattle.std.specs.BTreeSet.{contains}
 use Rattle.std.specs.Ordering.{nat_cmp}
 use Rattle.dv_gather.specs.Joining.{as_value}
-use Rattle.dv_gather.specs.Inner.KeySets.{referred}
+use Rattle.dv_gather.specs.View.{referred}
 use Rattle.dv_gather.proofs.Grouped.{if-ok}
 use Rattle.dv_gather.proofs.Placed.{matches-by_places}
 use Rattle.dv_gather.proofs.joining.matches_of.Goals as goal

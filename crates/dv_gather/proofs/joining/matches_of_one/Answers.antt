@@ -1,7 +1,8 @@
 use Rattle.std.proofs.Common.{◌∙◌, ◌∷◌, [], ap, sym}
 use Rattle.std.specs.Option.{option_copied}
 use Rattle.dv_gather.specs.Joining.{joined_by}
-use Rattle.dv_gather.specs.Inner.KeySets.{AreKeysOf, referred}
+use Rattle.dv_gather.specs.Inner.KeySets.{AreKeysOf}
+use Rattle.dv_gather.specs.View.{referred}
 use Rattle.dv_gather.proofs.Placed.{alone, found-none, found-one, if-some}
 use Rattle.dv_gather.proofs.joining.matches_of_one.Goals as goal
 

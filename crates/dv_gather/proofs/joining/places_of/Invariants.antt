@@ -1,6 +1,6 @@
 use Rattle.std.proofs.Common.{◌≡◌, ℕ, take}
 use Rattle.dv_order.specs.Key.{KeyTree}
-use Rattle.dv_gather.specs.Inner.KeySets.{referred}
+use Rattle.dv_gather.specs.View.{referred}
 use Rattle.dv_gather.specs.Inner.Places.{is_under, is_found, item_passes_at}
 use Rattle.dv_gather.proofs.joining.places_of.Given as goal
 

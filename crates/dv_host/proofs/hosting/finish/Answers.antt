@@ -1,7 +1,7 @@
 use Rattle.std.proofs.Common.{List, ◌<◌, length, arith, map, subst, sym}
-use Rattle.dv_host.specs.Host.{Hosts}
 use Rattle.dv_host.specs.Schedule.{HappensBy, PlaysBy}
-use Rattle.dv_host.specs.View.{seen_by}
+use Rattle.dv_host.specs.Inner.Links.{seen_by}
+use Rattle.dv_host.specs.Inner.Hosting.{Hosts}
 use Rattle.dv_host.specs.declared.link.Link.{Link}
 use Rattle.dv_host.proofs.Linked.{link_closed, read_there}
 use Rattle.dv_host.proofs.hosting.finish.Goals as goal

@@ -1,8 +1,9 @@
 use Rattle.std.proofs.Common.{◌≡◌, ◌+◌, ◌∙◌, ◌++◌, ◌∷◌, [], ℕ, List, Option, Some, ap, arith, map, subst, sym}
-use Rattle.dv_host.specs.Host.{Hosts}
 use Rattle.dv_host.specs.Outside.{Accepts, Closed, Closes, HasTaken, MayAccept}
 use Rattle.dv_host.specs.Schedule.{HappensBy, PlaysBy}
-use Rattle.dv_host.specs.View.{Seen, seen_by}
+use Rattle.dv_host.specs.View.{Seen}
+use Rattle.dv_host.specs.Inner.Links.{seen_by}
+use Rattle.dv_host.specs.Inner.Hosting.{Hosts}
 use Rattle.dv_host.specs.declared.link.Fate.TheVariants.{Failed}
 use Rattle.dv_host.specs.declared.link.Link.{Link}
 use Rattle.dv_host.proofs.Linked.{fresh_so, link_opened}

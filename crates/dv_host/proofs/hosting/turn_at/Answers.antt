@@ -1,7 +1,7 @@
 use Rattle.std.proofs.Common.{arith, subst}
-use Rattle.dv_host.specs.Host.{SettlesIn}
 use Rattle.dv_host.specs.Schedule.{HappensBy}
-use Rattle.dv_host.specs.View.{seen_by}
+use Rattle.dv_host.specs.Inner.Links.{seen_by}
+use Rattle.dv_host.specs.Inner.Moving.{SettlesIn}
 use Rattle.dv_host.specs.declared.link.Link.{Link}
 use Rattle.dv_host.proofs.Linked.{link_moved, set_there}
 use Rattle.dv_host.proofs.hosting.turn_at.Goals as goal

@@ -1,7 +1,7 @@
 use Rattle.std.proofs.Common.{◌+◌, List, map, take, drop, refl, ap, subst, ◌∙◌}
 use Rattle.std.proofs.lemmas.List.{map-append, take_all}
 use Rattle.std.proofs.lemmas.Result.{err_from_is_err_and}
-use Rattle.dv_command.specs.Inner.ListsView.{list_seen}
+use Rattle.dv_command.specs.ListsView.{list_seen}
 use Rattle.dv_message.specs.declared.sections.Section as declared
 use Rattle.dv_message.specs.Sections.{body, named}
 use Rattle.dv_message.specs.Inner.SectionsView.{framed_seen, section_seen}

@@ -1,5 +1,5 @@
 use Rattle.std.proofs.Common.{map, take}
-use Rattle.dv_command.specs.Inner.ListsView.{list_seen}
+use Rattle.dv_command.specs.ListsView.{list_seen}
 use Rattle.dv_message.specs.Inner.SectionsView.{section_seen}
 use Rattle.dv_message.proofs.Brought.{AreKept}
 use Rattle.dv_message.proofs.commands.read_several.Given as goal

@@ -1,5 +1,5 @@
 use Rattle.std.proofs.Common.{◌∙◌, ◌∷◌, [], ap, sym}
-use Rattle.dv_row.specs.Inner.ExpressionView.{named}
+use Rattle.dv_row.specs.ExpressionView.{named}
 use Rattle.dv_row.specs.ProjectParsing.{one_begins}
 use Rattle.dv_row.proofs.Items.{any-here}
 use Rattle.dv_row.proofs.asked.any_field.Goals as goal

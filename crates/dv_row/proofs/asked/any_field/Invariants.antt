@@ -1,6 +1,6 @@
 use Rattle.std.proofs.Common.{◌≡◌, ◌∷◌, [], false, map, take}
 use Rattle.std.specs.List.{list_any}
-use Rattle.dv_row.specs.Inner.ExpressionView.{named}
+use Rattle.dv_row.specs.ExpressionView.{named}
 use Rattle.dv_row.specs.ProjectParsing.{one_begins}
 use Rattle.dv_row.proofs.asked.any_field.Given as goal
 

@@ -1,5 +1,5 @@
 use Rattle.std.proofs.Common.{◌≡◌, map, take}
-use Rattle.dv_row.specs.Inner.ExpressionView.{named}
+use Rattle.dv_row.specs.ExpressionView.{named}
 use Rattle.dv_row.proofs.expr.+expr_copying.Given as goal
 
 abbrev pub invariant-Computed::try_clone-loop-field : goal.invariant-Computed::try_clone-loop-field

@@ -1,6 +1,6 @@
 use Rattle.std.proofs.Common.{◌≡◌, ◌∙◌, ap, ap₂, sym, map, drop, ◌+◌}
 use Rattle.dv_row.specs.Expressions.{computed_of, with_computed, with_field_behind, value_of}
-use Rattle.dv_row.specs.Inner.ExpressionView.{expression_seen, named}
+use Rattle.dv_row.specs.ExpressionView.{expression_seen, named}
 use Rattle.dv_row.proofs.Items.{drop-read, drop-past}
 use Rattle.dv_row.proofs.expr.+values.Goals as goal
 use Rattle.dv_row.proofs.expr.+values.Goals.{Computed::push_values-in-Some+in_ok-show_field-in-Some, Computed::push_values-in-None+in_ok-value-in-None+in_ok-push_field-in-None}

@@ -1,6 +1,6 @@
 use Rattle.std.proofs.Common.{◌≡◌, ◌+◌, ◌*◌, drop, map}
 use Rattle.dv_row.specs.Expressions.{expression_weight, computed_weight, computed_of, with_computed}
-use Rattle.dv_row.specs.Inner.ExpressionView.{expression_seen, named}
+use Rattle.dv_row.specs.ExpressionView.{expression_seen, named}
 use Rattle.dv_row.proofs.expr.+values.Given as goal
 
 abbrev pub decreases-Expr::value : goal.decreases-Expr::value

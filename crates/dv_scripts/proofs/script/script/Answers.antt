@@ -1,6 +1,6 @@
 use Rattle.std.proofs.KnownBytes.{Keeps-refl}
 use Rattle.dv_scripts.specs.Script.{no_sessions, standing_of}
-use Rattle.dv_scripts.proofs.Scripts.{fails_behind, flush_stops, on_ok, ran_begun, ran_known, ran_unflushed, stops_begun}
+use Rattle.dv_scripts.proofs.Scripts.{fails_behind, flush_stops, on_ok, ran_begun, ran_unflushed, ran_whole, stops_begun}
 use Rattle.dv_scripts.proofs.script.script.Goals as goal
 
 pub returns-in-Ok-clause-done : goal.returns-in-Ok-clause-done
@@ -9,7 +9,7 @@ returns-in-Ok-clause-done g c =
     let before = g.W.ByteOut.contents c.args.writer.now in
     let after = g.W.ByteOut.contents c.flush.new.writer in
     let new = standing_of c.read.new.self.sessions c.read.new.hub in
-    on_ok _ _ c.flush.result _ (ran_known from before after (no_sessions c.args.hub.now) new
+    on_ok _ _ c.flush.result _ (ran_whole from before after (no_sessions c.args.hub.now) new
     (ran_begun c.new-progress.result.sessions c.args.hub.now c.new-progress.ensures.none from before (g.W.ByteOut.contents c.read.new.writer) after c.flush.ensures.kept new c.in-Ok.ensures.done))
 
 pub returns-in-Ok-clause-stopped : goal.returns-in-Ok-clause-stopped

@@ -1,5 +1,6 @@
 use Rattle.std.proofs.Common.{rules, subst, sym}
-use Rattle.dv_serving.specs.Serve.{Accepts, ClosesConnection, IsFresh}
+use Rattle.dv_host.specs.Outside.{Accepts}
+use Rattle.dv_serving.specs.Serve.{ClosesConnection, IsFresh}
 use Rattle.dv_serving.proofs.Served.{session_had}
 use Rattle.dv_serving.proofs.serve.serve_next.Goals as goal
 

@@ -19,7 +19,7 @@ returns-clause-applied c =
     let there = c.in-Some-Array.list in
     let one : c.args.values.now ≡ tree v ∷ [] = one-value c.as_slice.result.now c.args.values.now v c.in-len1.len_at_least c.in-len1.len_below c.value-item.is c.as_slice.ensures in
     let here : Some (array (elements_of there)) ≡ value_under name d = sym (ap (λ x. Some (tree x)) c.in-Some-Array.field-0-is) ∙ c.in-Some-Array.ensures in
-    let few : length (list_of_elements (elements_of there)) < 1000000 = omega (arith, ap length (elements_again there), ap length c.as_slice-2.ensures, length-map c.as_slice-2.result.now tree, c.if-as_slice-ge-MANY.false) in
+    let few : length (list_of_elements (elements_of there)) < 1000000 = omega (arith, ap length (elements_again there), ap length c.as_slice-2.ensures, length-map c.as_slice-2.result.now tree, c.if-as_slice-ge-SIX_DIGITS.false) in
     ap (λ vs. applied_under name (append vs) d) one
     ∙ pushes_value name c.requires c.what_a_field_adds.ensures.more d (tree v) (elements_of there) here few (c.has_room.ensures c.if-not-has_room.false)
     ∙ ap (λ x. Ok (with_value_pushed name (tree x) d)) (sym c.in_ok-pushed.ensures)

@@ -13,7 +13,7 @@ use Rattle.dv_views.specs.Inner.Older.{views_before}
 use Rattle.dv_views.specs.declared.stage_operator.StageOperator.{StageOperator}
 use Rattle.dv_views.specs.Inner.Operating.{HoldsStage, IsSoundStage, empty_lists, stage_makes}
 use Rattle.dv_views.specs.Placed.{forms, lookups_of}
-use Rattle.dv_views.specs.Views.{taken_from}
+use Rattle.dv_views.specs.Views.{inputs_from}
 use Rattle.dv_views.specs.Inner.Views.{AreInOrder, view_under}
 use Rattle.dv_views.proofs.Building.{built}
 use Rattle.dv_views.proofs.Filling.{firsts_told, puts_exact, puts_lead}
@@ -56,11 +56,11 @@ returns-clause-built c =
     subst (λ (n : ℕ). HasMade stages (kept_seen c.in_ok-fresh.fresh) (record { left = []; named = empty_lists n })) count c.in_ok-fresh.ensures.made in
     let some : HasMade stages (kept_seen c.in_ok-some.some) (record { left = []; named = map places (lookups_of stages source) }) =
     subst (λ (names : List (List ℕ)). HasMade stages (kept_seen c.in_ok-some.some) (record { left = []; named = map places names })) c.requires.lookups (c.in_ok-some.ensures.made stages first) in
-    let whole : HasMade stages (kept_seen c.in_ok-whole.whole) (taken_from stages source places) =
+    let whole : HasMade stages (kept_seen c.in_ok-whole.whole) (inputs_from stages source places) =
     subst (λ (rows : Positioned). HasMade stages (kept_seen c.in_ok-whole.whole) (record { left = rows; named = map places (lookups_of stages source) })) (puts_lead (places source) own.1)
     (c.in_ok-whole.ensures.made stages (map places (lookups_of stages source)) (puts_of (places source)) some (puts_exact (places source) own.1) (c.in_ok-firsts.ensures.firsts ∙ firsts_told (places source) own.1)) in
     let fs = forms stages (map places (lookups_of stages source)) in
-    let anew : HasMade stages (kept_seen c.counted_anew.result) (taken_from stages source places) = record {
+    let anew : HasMade stages (kept_seen c.counted_anew.result) (inputs_from stages source places) = record {
       made =
           subst (λ (rows : Positioned). HaveMade stage_makes HoldsStage c.counted_anew.result.operators rows fs (places source)) (sym c.counted_anew.ensures.rows)
           (subst (λ (os : List StageOperator). HaveMade stage_makes HoldsStage os c.in_ok-whole.whole.rows.entries fs (places source)) (sym c.counted_anew.ensures.operators) whole.made);

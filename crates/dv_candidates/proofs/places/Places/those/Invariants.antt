@@ -1,5 +1,5 @@
 use Rattle.std.proofs.Common.{◌≡◌, ℕ, ◌&&◌, Bool, List, take}
-use Rattle.dv_candidates.specs.Inner.Fold.{Answers}
+use Rattle.dv_candidates.specs.Answering.{Answers}
 use Rattle.dv_candidates.specs.Inner.Places.{has, passes_at}
 use Rattle.dv_candidates.proofs.places.Places.those.Given as goal
 

@@ -1,7 +1,7 @@
 use Rattle.std.proofs.Common.{◌∙◌, ap, map, rules}
 use Rattle.dv_order.specs.Order.{canon}
 use Rattle.dv_order.specs.Key.{value}
-use Rattle.dv_row.specs.Inner.RowValueView.{row_value}
+use Rattle.dv_row.specs.RowValueView.{row_value}
 use Rattle.dv_gather.specs.Inner.SumBounds.{most}
 use Rattle.dv_gather.specs.Inner.GroupView.{accumulation}
 use Rattle.dv_gather.proofs.Bounded.{found-within, put-within}

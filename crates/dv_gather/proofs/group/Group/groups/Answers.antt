@@ -2,7 +2,7 @@ use Rattle.std.proofs.Common.{◌∙◌, ap, sym, add-one, arith}
 use Rattle.std.proofs.lemmas.Grind.{common_steps}
 use Rattle.dv_row.specs.Inner.EachLaws.{drop-past}
 use Rattle.dv_gather.specs.Inner.SumBounds.{most}
-use Rattle.dv_gather.specs.Inner.KeySets.{referred}
+use Rattle.dv_gather.specs.View.{referred}
 use Rattle.dv_gather.specs.Inner.GroupStates.{groups_with_rows}
 use Rattle.dv_gather.specs.Inner.StateView.{groups_seen}
 use Rattle.dv_gather.proofs.Bounded.{each-later}

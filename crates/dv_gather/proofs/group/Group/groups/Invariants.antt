@@ -1,7 +1,7 @@
 -- What is left is still to be added.
 use Rattle.std.proofs.Common.{◌≡◌, [], drop}
 use Rattle.dv_gather.specs.Inner.SumBounds.{EachWithin}
-use Rattle.dv_gather.specs.Inner.KeySets.{referred}
+use Rattle.dv_gather.specs.View.{referred}
 use Rattle.dv_gather.specs.Inner.GroupStates.{groups_with_rows}
 use Rattle.dv_gather.specs.Inner.StateView.{groups_seen}
 use Rattle.dv_gather.proofs.group.Group.groups.Given as goal

@@ -1,6 +1,6 @@
 use Rattle.std.proofs.Common.{◌∙◌, ap, map}
 use Rattle.dv_order.specs.Key.{KeyTree}
-use Rattle.dv_gather.specs.Inner.KeySets.{referred}
+use Rattle.dv_gather.specs.View.{referred}
 use Rattle.dv_gather.specs.Inner.GroupStates.{GroupState, row_of_state}
 use Rattle.dv_gather.proofs.Grouped.{if-ok}
 use Rattle.dv_gather.proofs.GroupRows.{rows-are}

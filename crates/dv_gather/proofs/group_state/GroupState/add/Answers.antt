@@ -1,5 +1,5 @@
 use Rattle.std.proofs.Common.{sym, subst, map}
-use Rattle.dv_row.specs.Inner.RowValueView.{row_value}
+use Rattle.dv_row.specs.RowValueView.{row_value}
 use Rattle.dv_gather.specs.Inner.SumBounds.{AreWithin, most}
 use Rattle.dv_gather.specs.Inner.GroupView.{accumulation}
 use Rattle.dv_gather.specs.Inner.GroupStates.{GroupState}

@@ -1,7 +1,7 @@
 use Rattle.std.proofs.Common.{rules, ◌≡◌, ◌∙◌, Some, ap, sym}
 use Rattle.std.specs.Option.{option_map}
 use Rattle.dv_value.specs.View.{tree}
-use Rattle.dv_row.specs.Inner.RowValueView.{row_value}
+use Rattle.dv_row.specs.RowValueView.{row_value}
 use Rattle.dv_gather.specs.Inner.GroupView.{accumulation}
 use Rattle.dv_group.specs.Inner.AccumulatorStates.{field_value, state_after, array_state}
 use Rattle.dv_group.specs.Inner.StateView.{state_seen, values_seen}

@@ -1,6 +1,6 @@
 use Rattle.std.proofs.Common.{List, ℕ, refl, subst, take}
 use Rattle.dv_host.specs.Channel.{Gains}
-use Rattle.dv_host.specs.View.{seen_by}
+use Rattle.dv_host.specs.Inner.Links.{seen_by}
 use Rattle.dv_host.proofs.Giving.{rest_of}
 use Rattle.dv_host.proofs.Moving.{gives_some}
 use Rattle.dv_host.proofs.link.Link.flush.Goals as goal

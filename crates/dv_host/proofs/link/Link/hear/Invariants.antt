@@ -1,7 +1,7 @@
 use Rattle.std.proofs.Common.{◌≡◌, length}
-use Rattle.dv_host.specs.Host.{Moves}
 use Rattle.dv_host.specs.Schedule.{HappensBy, PlaysBy}
-use Rattle.dv_host.specs.View.{pending_of, seen_by}
+use Rattle.dv_host.specs.Inner.Links.{pending_of, seen_by}
+use Rattle.dv_host.specs.Inner.Moving.{Moves}
 use Rattle.dv_host.proofs.link.Link.hear.Given as goal
 
 abbrev pub invariant-messages : goal.invariant-messages

@@ -1,5 +1,5 @@
 use Rattle.std.proofs.Common.{arith, refl}
-use Rattle.dv_host.specs.View.{seen_by}
+use Rattle.dv_host.specs.Inner.Links.{seen_by}
 use Rattle.dv_host.proofs.Giving.{rest_of}
 use Rattle.dv_host.proofs.Moving.{moves_front}
 use Rattle.dv_host.proofs.link.Link.hear_front.Goals as goal

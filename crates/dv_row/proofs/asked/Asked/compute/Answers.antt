@@ -1,7 +1,7 @@
 use Rattle.std.proofs.Common.{◌∙◌, sym}
 use Rattle.dv_value.specs.View.{tree}
 use Rattle.dv_row.specs.Inner.AskedView.{asked}
-use Rattle.dv_row.specs.Inner.ExpressionView.{expression_seen}
+use Rattle.dv_row.specs.ExpressionView.{expression_seen}
 use Rattle.dv_row.proofs.Taken.{computed-taken}
 use Rattle.dv_row.proofs.asked.Asked.compute.Goals as goal
 

@@ -1,6 +1,6 @@
 use Rattle.std.proofs.Common.{◌≡◌, ◌∙◌, ◌++◌, ◌∷◌, [], ap, sym, inl, Ok, Err, rules, codes, List, ℕ, Bool, if◌then◌else◌}
 use Rattle.dv_row.specs.Inner.AskedView.{asked}
-use Rattle.dv_row.specs.Inner.Fault.{pipeline_fault_of_path}
+use Rattle.dv_row.specs.Fault.{pipeline_fault_of_path}
 use Rattle.dv_row.specs.ProjectParsing.{conflicts_with_asked}
 use Rattle.dv_row.proofs.Members.{id-fault, id-is, form-is}
 use Rattle.dv_row.proofs.asked.Asked.into_project.Goals as goal

@@ -2,7 +2,7 @@ use Rattle.std.proofs.Common.{◌≡◌, ◌∙◌, ◌∷◌, [], ap, sym, arit
 use Rattle.dv_value.specs.Names.{value_under}
 use Rattle.dv_path.specs.Expression.{expr}
 use Rattle.dv_row.specs.Expressions.{value_of}
-use Rattle.dv_row.specs.Inner.ExpressionView.{expression_seen}
+use Rattle.dv_row.specs.ExpressionView.{expression_seen}
 use Rattle.dv_row.proofs.Items.{drop-read, drop-past}
 use Rattle.dv_row.proofs.Standing.{alone-leads, shown-at}
 use Rattle.dv_row.proofs.expr.Expr.place_in.Goals as goal

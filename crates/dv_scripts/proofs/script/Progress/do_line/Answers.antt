@@ -4,7 +4,7 @@ use Rattle.std.proofs.lemmas.Result.{IfErr-weaker, IfOk-weaker}
 use Rattle.dv_words.specs.Line.{IsLine}
 use Rattle.dv_scripts.specs.Script.{DoesOneLine, standing_of}
 use Rattle.dv_words.specs.declared.said.Line.TheVariants.{Bytes, End}
-use Rattle.dv_scripts.specs.Stops.{StopsLine}
+use Rattle.dv_scripts.specs.Inner.Lines.{StopsLine}
 use Rattle.dv_scripts.proofs.Stopped.{ends_at, streams_still}
 use Rattle.dv_scripts.proofs.script.Progress.do_line.Goals as goal
 

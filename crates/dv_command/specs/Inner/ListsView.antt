@@ -1,7 +1,0 @@
--- A list of documents that stands beside a body, with its name.
-use Rattle.std.specs.Prelude.{ℕ, List}
-use Rattle.dv_value.specs.Tree.{Field}
-use Rattle.dv_command.specs.declared.command.DocumentList.{DocumentList}
-
-abbrev pub list_seen : DocumentList → List ℕ × List (List Field)
-list_seen l = (l.name, l.documents.items)
