@@ -11,6 +11,7 @@ where it is missing.
     /usr/bin/python3 bench/connections.py
     /usr/bin/python3 bench/connections.py --count 10000 --program crates/docd/out/docd
 """
+import atexit
 import itertools
 import math
 import multiprocessing
@@ -28,7 +29,7 @@ import bson
 from bson.int64 import Int64
 
 import measuring
-from listening import let_open_many
+from listening import let_open_many, memory_of
 from measuring import documents_to_find, heads, inserts, load, processor_time, row, stream_of
 from model.messages import HEADER
 from served import free_port
@@ -54,6 +55,7 @@ class Started:
 
     def __init__(self, words, port, loading, replies):
         self.port, self.process = port, subprocess.Popen(words, stdout=subprocess.DEVNULL)
+        atexit.register(self.process.kill)
         self.connection = connected(port)
         for request, size in zip(loading, replies):
             self.asked(request, size)
@@ -68,9 +70,7 @@ class Started:
 
     def memory(self):
         """How many bytes are resident."""
-        with open("/proc/%d/status" % self.process.pid) as lines:
-            said = dict(line.split(":", 1) for line in lines)
-        return int(said["VmRSS"].split()[0]) << 10
+        return memory_of(self.process)
 
     def end(self):
         self.connection.close()

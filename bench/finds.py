@@ -3,7 +3,7 @@
 
 Needs what bench/measuring.py says. The documents have ten fields; SQLite holds them as JSON, in memory and without an
 index (`json_extract`), mongomock (`apt-get install python3-mongomock`; it is left out where that is missing) holds a tenth
-of them. All three give as many documents. All times are processor time, the least of some runs in turn.
+of them. docd and SQLite give as many documents. All times are processor time, the least of some runs in turn.
 
     /usr/bin/python3 bench/finds.py
     /usr/bin/python3 bench/finds.py --count 10000 --program crates/docd/out/docd

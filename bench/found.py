@@ -59,7 +59,7 @@ def aggregates(name, stages, sql, values):
 def requests_of_views():
     """The requests of views: each with its case."""
     cases = {case.name: case for case in CASES}
-    return [(cases["a lookup of one, its row changed"], write_and_find), (cases["a group of one row"], find_a_row)]
+    return [(cases["a lookup of one, its row changed"], write_and_find), (cases["groups of one document"], find_a_row)]
 
 
 def find_of(identity):

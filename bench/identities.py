@@ -16,8 +16,9 @@ import random
 from bson.objectid import ObjectId
 
 import measuring
+from listening import memory_of
 from measuring import heads, in_turn, inserts, load, row
-from memory import resident
+from program import program_at
 
 WRITES = 5_000  # in a run
 GROUPS = 1_000
@@ -58,9 +59,9 @@ class Store:
 
     def make(self, stages):
         """Makes a view, and returns the bytes that it adds for a document."""
-        before = resident(self.docd.process)
+        before = memory_of(self.docd.process)
         self.answered({"create": "v", "viewOn": "c", "pipeline": stages})
-        return (resident(self.docd.process) - before) / len(self.identities)
+        return (memory_of(self.docd.process) - before) / len(self.identities)
 
     def writes(self):
         """An action that carries out the next of as many streams of updates as there are runs."""
@@ -87,7 +88,7 @@ def main():
     words.add_argument("--count", type=int, default=100_000, help="how many documents")
     words.add_argument("--beside", help="another program")
     given = measuring.asked(words)
-    programs = [given.program, *([given.beside] if given.beside else [])]
+    programs = [given.program, *([program_at(given.beside, "bench")] if given.beside else [])]
     print("%d documents; %s.\n" % (given.count, load()))
     heads("`_id`", "view", *itertools.chain.from_iterable(("bytes" + of, "microseconds" + of) for of in ["", " beside"][:len(programs)]))
     for kind, made in KINDS.items():

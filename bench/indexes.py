@@ -19,6 +19,7 @@ import time
 from collections import namedtuple
 
 import measuring
+from listening import memory_of
 from measuring import documents_to_find, heads, in_turn, inserts, load, loaded, loaded_sqlite, row
 
 FIELDS = ["bucket", "serial", "age", "balance"]  # those that have indexes, in the order in which they get them
@@ -291,7 +292,7 @@ def updates_of_all(docd, base, count):
     for _ in range(measuring.RUNS):
         before = forget_peak(docd)
         spent.append([seconds(lambda: update_all(docd, count), docd.clock), seconds(lambda: update_all_sqlite(base, count))])
-        most = max(most, resident(docd, "VmHWM") - before)
+        most = max(most, memory_of(docd.process, "VmHWM") - before)
     return list(map(min, zip(*spent))), most
 
 
@@ -329,12 +330,7 @@ def forget_peak(docd):
     """Has the system forget how many bytes a running program had resident at most, and gives how many it has."""
     with open("/proc/%d/clear_refs" % docd.process.pid, "w") as file:
         file.write("5")
-    return resident(docd, "VmRSS")
-
-
-def resident(docd, word):
-    with open("/proc/%d/status" % docd.process.pid) as lines:
-        return 1_024 * next(int(line.split()[1]) for line in lines if line.startswith(word + ":"))
+    return memory_of(docd.process)
 
 
 def main():

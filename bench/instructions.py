@@ -16,6 +16,7 @@ import sys
 
 import measuring
 from measuring import heads, row, stream_of
+from program import program_at
 
 COMMANDS = 300  # in the first run
 DOCUMENTS = 2_000
@@ -31,6 +32,10 @@ def update(place):
     return {"update": "c", "updates": [{"q": {"_id": place}, "u": {"$set": {"amount": place * 31 % VALUES}}}]}
 
 
+def update_of_element(place):
+    return {"update": "c", "updates": [{"q": {"_id": place}, "u": {"$set": {"tags.1": VALUES + place}}}]}
+
+
 def insert(place):
     return {"insert": "c", "documents": [document(DOCUMENTS + place)]}
 
@@ -42,10 +47,11 @@ ALONE = {
     "delete by `_id`": lambda place: {"delete": "c", "deletes": [{"q": {"_id": place}, "limit": 1}]},
 }
 UNDER_VIEWS = {"update": update, "insert": insert}
+UNWIND = "`$unwind` of 3 elements"
 VIEWS = {
     "`$match`": [{"$match": {"amount": {"$lt": VALUES // 2}}}],
     "`$project`": [{"$project": {"group": 1, "amount": 1}}],
-    "`$unwind` of 3 elements": [{"$unwind": "$tags"}],
+    UNWIND: [{"$unwind": "$tags"}],
     "`$sort`, `$limit`": [{"$sort": {"amount": 1}}, {"$limit": 10}],
     "`$group`": [{"$group": {"_id": "$group", "n": {"$sum": 1}, "sum": {"$sum": "$amount"}}}],
     "`$lookup`": [{"$lookup": {"from": "o", "localField": "group", "foreignField": "_id", "as": "others"}}],
@@ -66,10 +72,12 @@ def commands(stages, made, count):
 def collected(program, stages, made, count):
     """The instructions of a run, of which each command has to succeed."""
     words = ["valgrind", "--tool=callgrind", "--callgrind-out-file=" + os.devnull, program, "run"]
-    done = subprocess.run(words, input=stream_of(commands(stages, made, count)), stdout=subprocess.PIPE, stderr=subprocess.PIPE)
-    found = re.search(rb"Collected : (\d+)", done.stderr)
-    if not found or any(measuring.bson.decode(body)["ok"] != 1 for body in measuring.replies_in(done.stdout)):
-        sys.exit("bench: valgrind or a command failed: %s" % done.stderr.decode(errors="replace")[-300:])
+    asked = [*commands(stages, made, count)]
+    done = subprocess.run(words, input=stream_of(asked), stdout=subprocess.PIPE, stderr=subprocess.PIPE)
+    found, bodies = re.search(rb"Collected : (\d+)", done.stderr), [*measuring.replies_in(done.stdout)]
+    if not found or done.returncode or len(bodies) != len(asked):
+        sys.exit("bench: valgrind or docd failed: %s" % done.stderr.decode(errors="replace")[-300:])
+    measuring.stop_at_refusals(bodies)
     return int(found[1])
 
 
@@ -83,13 +91,14 @@ def main():
     options = argparse.ArgumentParser(description=__doc__, formatter_class=argparse.RawDescriptionHelpFormatter)
     options.add_argument("--beside", help="another program, to compare with")
     given = measuring.asked(options)
-    programs = [given.program] + ([given.beside] if given.beside else [])
+    programs = [given.program] + ([program_at(given.beside, "bench")] if given.beside else [])
     heads("command", *["instructions", "beside"][:len(programs)])
     for name, made in ALONE.items():
         row(name, *(cost(program, None, made) for program in programs))
     for view, stages in VIEWS.items():
         for name, made in UNDER_VIEWS.items():
             row("%s under %s" % (name, view), *(cost(program, stages, made) for program in programs))
+    row("update of an element under %s" % UNWIND, *(cost(program, VIEWS[UNWIND], update_of_element) for program in programs))
 
 
 if __name__ == "__main__":

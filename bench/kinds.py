@@ -6,6 +6,7 @@ it in the answer of a find; the times of an insert hold the store too. The other
 documents.
 
     /usr/bin/python3 bench/kinds.py
+    /usr/bin/python3 bench/kinds.py --program crates/docd/out/docd
 """
 import datetime
 
@@ -18,7 +19,7 @@ from bson.objectid import ObjectId
 from bson.timestamp import Timestamp
 
 import measuring
-from measuring import ALL, check_tools, heads, least, row, seconds, stream_of
+from measuring import ALL, heads, least, row, seconds, stream_of, take_words
 
 DOCUMENTS = 5_000
 FIELDS = 20
@@ -42,7 +43,7 @@ KINDS = {
 
 
 def main():
-    check_tools()
+    take_words(__doc__)
     idle = seconds(b"", 0)
     heads("kind", "bytes a document", "nanoseconds a value inserted", "found", "python3-bson decoded", "encoded")
     for name, value in KINDS.items():

@@ -26,26 +26,30 @@ TOOLS = os.path.join(os.path.dirname(os.path.dirname(os.path.abspath(__file__)))
 sys.path += [TOOLS, os.path.join(TOOLS, "client"), os.path.join(TOOLS, "check")]
 
 from model.messages import HEADER  # noqa: E402
-from program import DOCD, parsed  # noqa: E402
+from program import parsed  # noqa: E402
 from spelled import message, script_lines  # noqa: E402
 
+DOCD = None  # the program that is measured, as the words ask for it
 RUNS = 5
 TUNABLES = "GLIBC_TUNABLES"  # the variable by which ./docd says how memory is to be taken
 ALL = 2**31 - 1  # as many rows in a first batch as its bytes let
+REFUSAL = b"\x02errmsg\0"  # in a reply that refuses a command or a statement
 
 
-def check_tools():
-    if not os.path.exists(DOCD):
-        sys.exit("bench: build the program first: ./docd run < /dev/null")
-    if not bson.has_c():
-        sys.exit("bench: python3-bson has no C extension; install python3-bson-ext")
+def options_of(description):
+    return argparse.ArgumentParser(description=description, formatter_class=argparse.RawDescriptionHelpFormatter)
 
 
 def count_asked(description):
     """How many documents the words ask for, 100,000 by default; they may name the program too."""
-    options = argparse.ArgumentParser(description=description, formatter_class=argparse.RawDescriptionHelpFormatter)
+    options = options_of(description)
     options.add_argument("--count", type=int, default=100_000, help="how many documents")
     return asked(options).count
+
+
+def take_words(description):
+    """Reads the words of a script that has none of its own: they may name the program."""
+    asked(options_of(description))
 
 
 def take_memory_as_docd():
@@ -62,7 +66,8 @@ def asked(options):
     take_memory_as_docd()
     given = parsed(options, "bench")
     DOCD = given.program
-    check_tools()
+    if not bson.has_c():
+        sys.exit("bench: python3-bson has no C extension; install python3-bson-ext")
     return given
 
 
@@ -118,22 +123,31 @@ def load():
     return "%.1f processes run or wait on %d processors" % (os.getloadavg()[0], os.cpu_count())
 
 
+def stop_at_refusals(bodies):
+    """Stops at a reply that refuses something, which is no work to be measured."""
+    for body in bodies:
+        if REFUSAL in body:
+            sys.exit("bench: docd refuses: %.1000r" % bson.decode(body))
+
+
 def seconds(stream, replies):
-    """The time of a run of docd, which answers the messages of the stream by so many."""
+    """The time of a run of docd, which answers the messages of the stream by so many, and refuses none."""
     def run():
         done = subprocess.run([DOCD, "run"], input=stream, stdout=subprocess.PIPE, check=True)
-        if (given := sum(1 for _ in replies_in(done.stdout))) != replies:
-            sys.exit("bench: %d replies, not %d" % (given, replies))
+        bodies = [*replies_in(done.stdout)]
+        if len(bodies) != replies:
+            sys.exit("bench: %d replies, not %d" % (len(bodies), replies))
+        stop_at_refusals(bodies)
 
     return least(run, ended_time)
 
 
 def seconds_of_script(script, replies):
-    """The time of a run of docd on a hex script, which prints so many lines."""
+    """The time of a run of docd on a hex script, which prints so many lines, and refuses nothing."""
     def run():
         done = subprocess.run([DOCD, "run", "--hex"], input=script, stdout=subprocess.PIPE, check=True)
-        if (given := done.stdout.count(b"\n")) != replies:
-            sys.exit("bench: %d lines, not %d" % (given, replies))
+        if (given := done.stdout.count(b"\n")) != replies or REFUSAL.hex().encode() in done.stdout:
+            sys.exit("bench: %d lines, not %d, or a refusal among them" % (given, replies))
 
     return least(run, ended_time)
 
@@ -153,6 +167,10 @@ class Docd:
         self.bodies.put(None)
 
     def send(self, stream, replies):
+        """Sends messages, which are answered by so many replies. None of them may be a refusal."""
+        stop_at_refusals(self.replies_to(stream, replies))
+
+    def replies_to(self, stream, replies):
         """Sends messages, and gives the bodies of the replies, which are so many."""
         self.process.stdin.write(stream)
         self.process.stdin.flush()
@@ -162,8 +180,8 @@ class Docd:
         return bodies
 
     def ask(self, *commands):
-        """Sends commands of the database `t`, and gives the replies."""
-        return [bson.decode(body) for body in self.send(stream_of(commands), len(commands))]
+        """Sends commands of the database `t`, and gives the replies, refusals too."""
+        return [bson.decode(body) for body in self.replies_to(stream_of(commands), len(commands))]
 
     def clock(self):
         """The processor time that it has taken when all that it was sent is done."""

@@ -6,14 +6,16 @@ as a reader cuts them. Then, while its input is still open, the program's own Vm
 starts with what its parent held. From it goes what the program took before the first insert. Redis
 (`apt-get install redis-server`) holds the same BSON bytes as strings under the documents' numbers.
 
-A picture shows what is resident beside the BSON bytes, of documents that come alone. It is drawn of the run, or, with `--figures`,
-of a file that has the table of an earlier one.
+A picture shows what is resident beside the BSON bytes, of documents that come alone. bench/memory.svg is drawn where as many documents
+as usual are measured, and Redis too, or, with `--figures`, of a file that has the table of an earlier run. `--picture` has one drawn
+of whatever is measured.
 
     /usr/bin/python3 bench/memory.py
     /usr/bin/python3 bench/memory.py --count 10000 --program crates/docd/out/docd
     /usr/bin/python3 bench/memory.py --figures bench/README.md
 """
 import argparse
+import atexit
 import os
 import random
 import shutil
@@ -29,8 +31,10 @@ from bson.int64 import Int64
 import measuring
 from bars import Row, drawn
 from inserts import document
-from measuring import Docd, heads, inserts, row
+from listening import memory_of
+from measuring import Docd, heads, inserts, row, stream_of
 
+USUAL = 100_000  # documents
 PICTURE = os.path.join(os.path.dirname(os.path.abspath(__file__)), "memory.svg")
 HEADS = ["shape", "BSON bytes", "alone", "times", "a hundred in a message", "times", "Redis", "times"]
 SHOWN = ["BSON bytes", "alone", "Redis"]  # of these by the picture
@@ -54,7 +58,7 @@ def nested(rng, identity):
     return {"_id": identity, "items": [{"item": rng.randrange(1000), "count": rng.randrange(10)} for _ in range(50)]}
 
 
-# the shape, how a document of it is made, how many are inserted where 100,000 are asked for
+# the shape, how a document of it is made, how many are inserted where as many as usual are asked for
 SHAPES = [
     ("10 fields", document, 100_000),
     ("3 numbers", numbers, 200_000),
@@ -64,21 +68,13 @@ SHAPES = [
 ]
 
 
-def resident(process):
-    with open("/proc/%d/status" % process.pid) as status:
-        for line in status:
-            if line.startswith("VmRSS:"):
-                return 1024 * int(line.split()[1])
-    sys.exit("bench: the program has ended")
-
-
 def stored_by_docd(documents, batch):
     """The bytes that a document takes."""
     docd = Docd()
     docd.ask({"ping": 1})
-    idle = resident(docd.process)
-    docd.ask(*inserts(documents, batch))
-    taken = resident(docd.process) - idle
+    idle, commands = memory_of(docd.process), inserts(documents, batch)
+    docd.send(stream_of(commands), len(commands))
+    taken = memory_of(docd.process) - idle
     docd.close()
     return taken / len(documents)
 
@@ -88,9 +84,10 @@ def stored_by_redis(documents):
         path = os.path.join(folder, "socket")
         words = ["redis-server", "--port", "0", "--unixsocket", path, "--save", "", "--dir", folder]
         process = subprocess.Popen(words, stdout=subprocess.DEVNULL)
+        atexit.register(process.kill)
         while not os.path.exists(path):
             time.sleep(0.05)
-        idle = resident(process)
+        idle = memory_of(process)
         with socket.socket(socket.AF_UNIX) as connection:
             connection.connect(path)
             answers = connection.makefile("rb")
@@ -98,19 +95,18 @@ def stored_by_redis(documents):
                 key, value = b"%d" % one["_id"], bson.encode(one)
                 connection.sendall(b"*3\r\n$3\r\nSET\r\n$%d\r\n%s\r\n$%d\r\n%s\r\n" % (len(key), key, len(value), value))
                 answers.readline()
-            taken = resident(process) - idle
+            taken = memory_of(process) - idle
         process.terminate()
         process.wait()
         return taken / len(documents)
 
 
-def measured(asked):
+def measured(asked, has_redis):
     """Prints the table row by row, and gives its rows, each by its columns."""
-    has_redis = shutil.which("redis-server") is not None
     heads(*HEADS)
     for name, made, count in SHAPES:
         rng = random.Random(count)
-        documents = [made(rng, identity) for identity in range(count * asked // 100_000)]
+        documents = [made(rng, identity) for identity in range(count * asked // USUAL)]
         spelled = sum(len(bson.encode(one)) for one in documents[:1000]) / 1000
         alone, many = stored_by_docd(documents, 1), stored_by_docd(documents, 100)
         redis = stored_by_redis(documents) if has_redis else None
@@ -142,13 +138,14 @@ def picture_of(rows):
 
 def main():
     options = argparse.ArgumentParser(description=__doc__, formatter_class=argparse.RawDescriptionHelpFormatter)
-    options.add_argument("--count", type=int, default=100_000, help="how many documents")
+    options.add_argument("--count", type=int, default=USUAL, help="how many documents")
     options.add_argument("--figures", metavar="FILE", help="measure nothing: draw the table that stands in a file")
-    options.add_argument("--picture", default=PICTURE, help="where the picture is written")
-    given = options.parse_known_args()[0]
-    rows = printed(given.figures) if given.figures else list(measured(measuring.asked(options).count))
-    with open(given.picture, "w", encoding="utf-8") as file:
-        file.write(picture_of(rows))
+    options.add_argument("--picture", metavar="FILE", help="where the picture is written, of whatever is measured")
+    given, has_redis = options.parse_known_args()[0], shutil.which("redis-server") is not None
+    rows = printed(given.figures) if given.figures else list(measured(measuring.asked(options).count, has_redis))
+    if given.picture or given.figures or has_redis and given.count == USUAL:
+        with open(given.picture or PICTURE, "w", encoding="utf-8") as file:
+            file.write(picture_of(rows))
 
 
 if __name__ == "__main__":

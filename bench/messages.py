@@ -6,10 +6,11 @@ Needs what bench/measuring.py says. Inputs are fixed, so that runs compare. Smal
 times hold the lines and their digits, which the same bytes in long lines tell of.
 
     /usr/bin/python3 bench/messages.py
+    /usr/bin/python3 bench/messages.py --program crates/docd/out/docd
 """
 import bson
 
-from measuring import check_tools, heads, least, lines, row, seconds, seconds_of_script, stream_of
+from measuring import heads, least, lines, row, seconds, seconds_of_script, stream_of, take_words
 from spelled import PIECE, message
 
 WAYS = ("lines of 65,000 bytes", PIECE), ("a byte a line", 1)
@@ -21,7 +22,7 @@ def decode(bodies):
 
 
 def main():
-    check_tools()
+    take_words(__doc__)
     idle = seconds(b"", 0)
     heads("pings", "how they come", "seconds", "microseconds each")
     for count in (1_000, 10_000):

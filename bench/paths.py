@@ -7,10 +7,11 @@ leaves at the path, a sort takes its least key; each looks at a value once for e
 one find beside a find of the same documents by a name that they don't have, without the program's start.
 
     /usr/bin/python3 bench/paths.py
+    /usr/bin/python3 bench/paths.py --program crates/docd/out/docd
 """
 import sys
 
-from measuring import Docd, check_tools, heads, inserts, row, seconds, stream_of
+from measuring import Docd, heads, inserts, row, seconds, stream_of, take_words
 
 COMPONENTS = 50
 FINDS = 2_000
@@ -44,7 +45,7 @@ def microseconds(levels, **fields):
 
 
 def main():
-    check_tools()
+    take_words(__doc__)
     check_find()
     heads("levels", "microseconds of a filter", "of a sort", "of a filter, a value", "of a sort, a value")
     for levels in (10, 20, 30, 40, 50, 60, 70, 80, 90, 98):

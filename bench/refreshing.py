@@ -14,6 +14,7 @@ TOOLS = ("initdb", "pg_ctl", "psql")
 TYPES = {"name": "text", "items": "integer[]"}
 SETTINGS = "-c fsync=off -c max_parallel_workers_per_gather=0 -c max_parallel_maintenance_workers=0 -c autovacuum=off"
 END = "--end--"
+INSTALL = "apt-get install postgresql, and put /usr/lib/postgresql/*/bin on the PATH"
 
 
 # The process of the server that carries out what the session asks.
@@ -25,22 +26,25 @@ class Postgres:
 
     def __init__(self):
         missing = [one for one in TOOLS if not shutil.which(one)]
-        self.told = "No REFRESH: PostgreSQL isn't installed (no %s)." % ", ".join(missing) if missing else None
-        self.folder = None
+        self.told = "No REFRESH (%s not found): %s." % (", ".join(missing), INSTALL) if missing else None
+        self.folder = self.session = None
 
     def __enter__(self):
         if not self.told:
             try:
                 self.start()
-            except (OSError, subprocess.CalledProcessError, KeyError) as fault:
+            except (OSError, subprocess.CalledProcessError, LookupError) as fault:
                 self.told = "No REFRESH: PostgreSQL doesn't start: %s" % fault
+            except BaseException:
+                self.__exit__()
+                raise
         return self
 
     def start(self):
         self.folder = tempfile.mkdtemp(prefix="bench-postgres-")
+        self.data = os.path.join(self.folder, "data")
         self.user = "postgres" if os.getuid() == 0 else pwd.getpwuid(os.getuid()).pw_name
         shutil.chown(self.folder, self.user)
-        self.data = os.path.join(self.folder, "data")
         self.run("initdb", "-D", self.data, "-A", "trust", "-U", "bench", "-E", "UTF8", "--locale=C")
         settings = "-k %s -h '' %s" % (self.folder, SETTINGS)
         self.run("pg_ctl", "-D", self.data, "-o", settings, "-l", os.path.join(self.folder, "log"), "-w", "start")
@@ -58,7 +62,7 @@ class Postgres:
     def __exit__(self, *_):
         if not self.folder:
             return
-        if hasattr(self, "session"):
+        if self.session:
             self.session.communicate()
         if os.path.exists(os.path.join(self.data, "postmaster.pid")):
             self.run("pg_ctl", "-D", self.data, "-m", "immediate", "stop")

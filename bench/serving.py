@@ -10,10 +10,10 @@ has about 200 MB; libbson's visit is bench/visit.c (`apt-get install libbson-dev
     /usr/bin/python3 bench/serving.py
     /usr/bin/python3 bench/serving.py --count 10000 --program crates/docd/out/docd
 """
+import atexit
 import contextlib
 import os
 import random
-import shlex
 import shutil
 import socket
 import struct
@@ -73,6 +73,7 @@ class Server:
     def __init__(self, words, port, size, ping, pong):
         self.size, self.ping, self.pong = size, ping, pong
         self.process = subprocess.Popen(words, stdout=subprocess.DEVNULL)
+        atexit.register(self.process.kill)
         self.connection = connected(port)
         self.connection.setsockopt(socket.IPPROTO_TCP, socket.TCP_NODELAY, 1)
 
@@ -127,13 +128,13 @@ def redis_size(taken):
     end = taken.find(b"\r\n")
     if end < 0:
         return None
-    return end + 2 if taken[:1] != b"$" else end + 4 + int(taken[1:end])
+    return end + 4 + int(taken[1:end]) if taken[:1] == b"$" and taken[1:2] != b"-" else end + 2
 
 
 def served_docd():
     port = free_port()
     ping, pong = docd_message({"ping": 1}), bson.encode({"ok": 1})
-    return Server([*shlex.split(measuring.DOCD), "serve", "--port", str(port), "--connections", "1"], port, docd_size, ping,
+    return Server([measuring.DOCD, "serve", "--port", str(port), "--connections", "1"], port, docd_size, ping,
                   struct.pack("<iiiiIB", HEADER + len(pong), 0, 1, 2013, 0, 0) + pong)
 
 
@@ -177,8 +178,14 @@ def check_docd(replies, count):
 
 
 def check_redis(replies, count):
-    if replies[:1] == b"-":
-        sys.exit("bench: Redis answers %r" % replies[:80])
+    """Stops where there are others than so many replies, or one that is a refusal or finds nothing."""
+    at = told = 0
+    while at < len(replies):
+        if replies[at:at + 1] == b"-" or replies[at:at + 2] == b"$-":
+            sys.exit("bench: Redis answers %r" % replies[at:at + 80])
+        at, told = at + redis_size(replies[at:at + 80]), told + 1
+    if told != count:
+        sys.exit("bench: Redis answers %d of %d requests" % (told, count))
 
 
 def least_of(rounds):
@@ -210,11 +217,15 @@ def print_served(documents):
 
 
 def visiting_program(folder):
-    """The program of bench/visit.c, or None where libbson isn't installed."""
+    """The program of bench/visit.c, or None where it can't be compiled."""
     program, source = os.path.join(folder, "visit"), os.path.join(ROOT, "bench", "visit.c")
-    found = subprocess.run(["pkg-config", "--cflags", "--libs", "libbson-1.0"], capture_output=True, text=True)
-    made = ["cc", "-O2", "-o", program, source, *found.stdout.split()]
-    return program if subprocess.run(made, stderr=subprocess.DEVNULL).returncode == 0 else None
+    with contextlib.suppress(OSError, subprocess.CalledProcessError):
+        words = ["pkg-config", "--cflags", "--libs", "libbson-1.0"]
+        found = subprocess.run(words, capture_output=True, text=True, check=True)
+        subprocess.run(["cc", "-O2", "-o", program, source, *found.stdout.split()], stderr=subprocess.DEVNULL, check=True)
+        return program
+    print("libbson's visit doesn't compile (apt-get install gcc pkg-config libbson-dev), and is left out\n")
+    return None
 
 
 def print_check(documents):
@@ -225,7 +236,7 @@ def print_check(documents):
         path = os.path.join(folder, "documents")
         with open(path, "wb") as file:
             file.write(spelled * times)
-        programs = {"docd check": [*shlex.split(measuring.DOCD), "check"], "libbson's visit": [visiting_program(folder)]}
+        programs = {"docd check": [measuring.DOCD, "check"], "libbson's visit": [visiting_program(folder)]}
         programs = {name: words for name, words in programs.items() if None not in words}
 
         def run(words):

@@ -7,8 +7,8 @@ import json
 import random
 from collections import namedtuple
 
-PART = 10  # elements of an array, rows of a small group, matches of a row
-FEW = 100  # rows of a large group
+PART = 10  # elements of an array, documents of a small group, matches of a row
+FEW = 100  # documents of a large group
 SHOWN = 101  # rows of a read, as a first batch has
 MOST = 1_000_000  # of an amount
 
@@ -102,7 +102,7 @@ def trigger(on, actions):
 # What SQLite keeps by hand, and how it is read. A table `v` is kept by triggers; the first rows of a sort are kept by an index.
 
 
-def kept_rows(query, insert, on_key="id"):
+def kept_rows(query, insert):
     """Rows that are taken out and put in again where their document changes."""
     make = "CREATE TABLE v AS " + query
     return [make, "CREATE INDEX by_id ON v (id)",
@@ -153,9 +153,9 @@ CASES = [
          kept_rows(ELEMENTS[0], "SELECT new.id, key, value FROM json_each(new.items)"), item, with_items),
     case("a sort with limit 10", [{"$sort": {"amount": -1}}, {"$limit": 10}, {"$project": {"amount": 1, "name": 1}}], both(TOP),
          (["CREATE INDEX by_amount ON c (amount DESC, id)"], TOP)),
-    case("a group of 100 rows", grouped("$few"), both(GROUPED % ("few", "few")), kept_groups("few")),
-    case("a group of one row", grouped("$code"), both(GROUPED % ("code", "code")), kept_groups("code")),
-    case("a group of all rows, the least changed", grouped(None), both(ALL_GROUPED % "0"),
+    case("groups of 100 documents", grouped("$few"), both(GROUPED % ("few", "few")), kept_groups("few")),
+    case("groups of one document", grouped("$code"), both(GROUPED % ("code", "code")), kept_groups("code")),
+    case("one group, its least value changed", grouped(None), both(ALL_GROUPED % "0"),
          kept_sums(ALL_GROUPED % "0", "amount", "", "0"), greater_amount, least=True),
     case("a `$push` of ten", [{"$group": {"_id": "$tens", "amounts": {"$push": "$amount"}}}], PUSHED, kept_pushed()),
     *lookups("a lookup of one", plain, one_each),

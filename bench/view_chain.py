@@ -4,7 +4,7 @@ A change of one of the first documents goes through all of them: its group stays
 """
 from collections import namedtuple
 
-from view_cases import MOST, PART, case, greater_amount, plain, trigger
+from view_cases import MOST, PART, both, case, greater_amount, plain, trigger
 
 FIRST = 100  # groups that the sort leaves
 CHANGED = FIRST * PART  # documents, those of these groups
@@ -20,10 +20,6 @@ def documents(count):
 def kinds(count):
     """One of ten kinds for each group."""
     return [{"_id": place, "code": place, "name": "kind %d" % (place % PART)} for place in range(count // PART)]
-
-
-def both(query):
-    return query, query
 
 
 LEVELS = [

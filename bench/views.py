@@ -16,6 +16,9 @@ eight in their order.
 All times are processor time, the least of some runs in turn; docd's hold the reading of its messages and the writing of
 its replies, SQLite's the making of the statement and of Python's rows, PostgreSQL's that of its own process.
 
+The picture bench/views.svg is drawn where all views are measured, without `--only` and `--rows` and with PostgreSQL; `--picture` has
+one drawn of whatever is measured.
+
     /usr/bin/python3 bench/views.py
     /usr/bin/python3 bench/views.py --rows 1000,10000 --only "group,sort" --program crates/docd/out/docd
 """
@@ -30,13 +33,15 @@ import time
 from collections import namedtuple
 
 import measuring
+from listening import memory_of
 from measuring import heads, in_turn, inserts, load, row
-from memory import resident
 from picture import Line, drawn
+from program import named
 from refreshing import Postgres
 from view_cases import CASES, COLUMNS, MOST, PART, SHOWN, as_json, rows_of
 from view_chain import CHAIN, CHANGED, FIRST, LEVELS, NAMES, POSTGRES
 
+ROWS = "1000,10000,100000"
 READS = 200  # in a run
 LARGEST = 200_000  # documents that a run goes through, about, in which rows are made anew
 CREATE = "CREATE TABLE %s (%s)"
@@ -273,7 +278,7 @@ def kept_bytes(case, count):
     for has_view in (False, True):
         docd = Docd(case, count, has_view)
         docd.docd.ask({"ping": 1})
-        taken.append(resident(docd.docd.process))
+        taken.append(memory_of(docd.docd.process))
         docd.docd.close()
     return (taken[1] - taken[0]) / len(case.documents(count))
 
@@ -295,32 +300,46 @@ def lines_of(found):
     return [Line(name, list(zip(counts, [1e6 * one for one in seconds]))) for name, seconds in lines if None not in seconds]
 
 
+def tell_views(cases, sizes, writes, postgres):
+    """Writes the table of these views. What was measured of each, by its name."""
+    heads("a view, microseconds", "documents", "a write without it", "a write", "SQLite", "a read", "SQLite",
+          "recomputed: docd", "SQLite", "PostgreSQL: REFRESH", "bytes kept for a document")
+    found = {}
+    for case in cases:
+        for count in sizes:
+            it = measured(case, count, writes, postgres)
+            found.setdefault(case.name, []).append(it)
+            tell(it, kept_bytes(case, count) if count == max(sizes) else None)
+    return found
+
+
+def draw(found, path):
+    with open(path, "w", encoding="utf-8") as file:
+        file.write(drawn({name: lines_of(some) for name, some in found.items()}, CAPTION))
+
+
 def main():
     options = argparse.ArgumentParser(description=__doc__, formatter_class=argparse.RawDescriptionHelpFormatter)
-    options.add_argument("--rows", default="1000,10000,100000", help="over how many documents, joined by commas")
+    options.add_argument("--rows", default=ROWS, help="over how many documents, joined by commas")
     options.add_argument("--only", default="", help="words, joined by commas, of which the names of the views have one")
     options.add_argument("--writes", type=int, default=1_000, help="how many writes a run has at most")
-    options.add_argument("--picture", default=PICTURE, help="where the picture is written")
+    options.add_argument("--picture", metavar="FILE", help="where the picture is written, of whatever is measured")
     given = measuring.asked(options)
-    sizes, words = [int(one) for one in given.rows.split(",")], given.only.split(",")
-    chosen, found = [case for case in CASES if any(word in case.name for word in words)], {}
+    sizes = [int(one) for one in given.rows.split(",")]
+    names = named("bench", given.only, [*(case.name for case in CASES), CHAIN.name])
+    cases, found = [case for case in CASES if case.name in names], {}
     signal.signal(signal.SIGTERM, lambda *_: sys.exit("bench: ended"))  # so that the server of PostgreSQL ends too
     with Postgres() as postgres:
         print(postgres.told if postgres.told else "PostgreSQL has refreshed its views.")
         print(load() + "\n")
-        if any(word in CHAIN.name for word in words):
-            tell_chain(sizes, given.writes, None if postgres.told else postgres)
-        if not chosen:
-            return
-        heads("a view, microseconds", "documents", "a write without it", "a write", "SQLite", "a read", "SQLite",
-              "recomputed: docd", "SQLite", "PostgreSQL: REFRESH", "bytes kept for a document")
-        for case in chosen:
-            for count in sizes:
-                it = measured(case, count, given.writes, None if postgres.told else postgres)
-                found.setdefault(case.name, []).append(it)
-                tell(it, kept_bytes(case, count) if count == max(sizes) else None)
-    with open(given.picture, "w", encoding="utf-8") as file:
-        file.write(drawn({name: lines_of(some) for name, some in found.items()}, CAPTION))
+        server = None if postgres.told else postgres
+        if CHAIN.name in names:
+            tell_chain(sizes, given.writes, server)
+        if cases:
+            found = tell_views(cases, sizes, given.writes, server)
+    is_whole = server and (given.rows, cases) == (ROWS, CASES)
+    if found and (given.picture or is_whole):
+        draw(found, given.picture or PICTURE)
 
 
 if __name__ == "__main__":

@@ -5,8 +5,9 @@
  *     cc -o client examples/client.c $(pkg-config --cflags --libs libmongoc-1.0)
  *     ./client 27017
  *
- * docd takes OP_MSG alone, and `serve` one connection after the other: hence the version of the Stable API, which makes the
- * driver's first message an OP_MSG too, the direct connection, and a client that isn't a pool.
+ * docd accepts only OP_MSG. Version 1 of the Stable API makes the driver's first message an OP_MSG too. The direct connection may be
+ * left out. A client by itself has one connection, so it works under `docd serve` as well as under `docd listen`; examples/pool.c
+ * has a pool of clients.
  */
 #include <mongoc/mongoc.h>
 #include <stdio.h>
@@ -64,7 +65,7 @@ static void insert_orders(mongoc_collection_t *orders) {
     for (int at = 0; at < 4; at++) bson_destroy(made[at]);
 }
 
-/* Prints the documents that match, in batches of two: each batch behind the first is a getMore. */
+/* Prints the documents that match, in batches of two: each batch after the first is a getMore. */
 static void print_found(mongoc_collection_t *collection, const char *head, bson_t *filter, bson_t *options) {
     mongoc_cursor_t *cursor = mongoc_collection_find_with_opts(collection, filter, options, NULL);
     const bson_t *found;
@@ -103,7 +104,7 @@ static bson_t *view_of_sums(void) {
 
 int main(int count, char **words) {
     if (count != 2) {
-        fprintf(stderr, "client: the word to give is the port\n");
+        fprintf(stderr, "usage: client PORT\n");
         return 2;
     }
     mongoc_init();

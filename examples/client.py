@@ -58,7 +58,7 @@ def show(head, documents):
 
 def main():
     if len(sys.argv) != 2 or not sys.argv[1].isdigit():
-        sys.exit("client: the word to give is the port, a number")
+        sys.exit("usage: python3 examples/client.py PORT")
     try:
         stall = Stall(int(sys.argv[1]))
     except OSError as error:

@@ -5,9 +5,9 @@
  *     cc -pthread -o pool examples/pool.c $(pkg-config --cflags --libs libmongoc-1.0)
  *     ./pool 27017
  *
- * It needs `docd listen`. Each client of the pool has a connection, and so has the pool's look-out for the server. The version of
- * the Stable API makes the first message of each an OP_MSG, which is all that docd takes. Later looks are none, in spite of the
- * version: a heartbeat of a day puts them off.
+ * It needs `docd listen`. Each client of the pool has a connection, and the pool checks the server on one more. docd accepts only
+ * OP_MSG. Version 1 of the Stable API makes the first message of each connection an OP_MSG. But from its second check on, the pool
+ * sends an OP_QUERY in spite of the version: the heartbeat of a day postpones this check.
  */
 #include <mongoc/mongoc.h>
 #include <pthread.h>
@@ -92,7 +92,7 @@ static void print_takings(mongoc_client_t *client) {
 
 int main(int count, char **words) {
     if (count != 2) {
-        fprintf(stderr, "pool: the word to give is the port\n");
+        fprintf(stderr, "usage: pool PORT\n");
         return 2;
     }
     mongoc_init();
@@ -106,7 +106,7 @@ int main(int count, char **words) {
     for (int at = 0; at < TILLS; at++) {
         tills[at] = (till_t) {pool, at};
         if (pthread_create(&threads[at], NULL, ring_up, &tills[at])) {
-            fprintf(stderr, "pool: no thread is to be had\n");
+            fprintf(stderr, "pool: cannot start a thread\n");
             return 1;
         }
     }

@@ -105,6 +105,14 @@ def start(name, jobs, log):
     return subprocess.Popen(words, stdin=subprocess.DEVNULL, stdout=log, stderr=log, preexec_fn=os.setpgrp)
 
 
+def groups_of(number):
+    """The groups of a check's processes: its own, and that into which the kit puts the prover."""
+    yield number
+    for thread in pathlib.Path("/proc", str(number), "task").glob("*/children"):
+        with contextlib.suppress(OSError):  # one has ended meanwhile
+            yield from map(os.getpgid, map(int, thread.read_text().split()))
+
+
 def prove(kit, name, jobs):
     """Proves one crate. The program is linked too, and run on an empty script. The caller holds the locks of all."""
     crate = next(it for it in kit.crates_below(str(HERE)) if it.name == name)
@@ -157,7 +165,8 @@ class Build:
         order = sorted(self.running, key=lambda name: self.crates.behind(name) - (now - self.running[name][1]), reverse=True)
         for place, name in enumerate(order):
             with contextlib.suppress(OSError):  # who isn't root can't take a lower priority back
-                os.setpriority(os.PRIO_PGRP, self.running[name][0].pid, LESS_URGENT * place)
+                for group in groups_of(self.running[name][0].pid):
+                    os.setpriority(os.PRIO_PGRP, group, LESS_URGENT * place)
 
     def take_ended(self):
         """Notes the crates whose proof has ended since the last look, and stops at one that failed. Whether there were any."""
@@ -172,9 +181,10 @@ class Build:
         return bool(ended)
 
     def stop(self):
-        """Ends what still runs: each crate's group, which has the prover too."""
+        """Ends what still runs: the check of each crate, with which the kit ends the prover."""
         for process, _, _ in self.running.values():
-            os.killpg(process.pid, signal.SIGINT)
+            with contextlib.suppress(ProcessLookupError):  # it has ended meanwhile
+                os.killpg(process.pid, signal.SIGINT)
         for process, _, _ in self.running.values():
             process.wait()
 

@@ -4,7 +4,8 @@
 `rt ci` proves each crate from nothing, tries the edits that must be refused, and runs the tests and the program. Then the parts
 below run, as many side by side as there are processors. Each has to end well, and to say that it looked at no less than is
 known of it: one that crashes, says nothing or looks at nothing has failed. The last line counts what passed, `rt ci`'s first
-number and the parts, and what failed. A part that fails is named with the first lines that it printed, and its log is kept.
+number and the parts, and what failed. A part that fails is named with the first lines that it printed, and its log is kept. An
+interruption ends all that runs.
 
 Needs the kit and Python alone.
 
@@ -12,9 +13,11 @@ Needs the kit and Python alone.
     tools/check.py --program PROGRAM [--parts WORD,WORD]     only the parts, or some of them, on a program: not the gate
 """
 import argparse
+import contextlib
 import os
 import re
 import shutil
+import signal
 import subprocess
 import sys
 import tempfile
@@ -23,7 +26,8 @@ import time
 from collections import namedtuple
 from concurrent.futures import ThreadPoolExecutor
 
-from program import PROVED, ROOT
+from program import PROVED, ROOT, named
+from unproved import interrupt
 
 COUNTS = re.compile(r"(\d+) passed, (\d+) failed")
 A_PART = 3_600  # seconds that a part may take
@@ -35,14 +39,15 @@ Part = namedtuple("Part", "name words says least runs", defaults=[True])
 
 RIGHT = r"(\d+) right, 0 wrong"
 REFUSED = r"(\d+) requests refused, 0 wrong"
-COMPARED = r"(\d+) scripts \(seed \d+\) with \d+ messages, and \d+ at the limits: no difference"
+COMPARED = r"(\d+) scripts \(seed \d+\) with \d+ messages, and 0 at the limits: no difference"
+AT_LIMITS = r"0 scripts \(seed \d+\) with 0 messages, and (\d+) at the limits: no difference"
 
 # Those that take longest come first.
 PARTS = [
     Part("worked examples cut after each byte, and with each byte replaced", ["each_byte.py"], r"(\d+) runs, 0 wrong", 80_000),
     *[Part("random scripts compared with the model, from number %d" % start,
-           ["compare.py", "--start", str(start), "--count", "75"] + ["--without-limits"] * (start > 0), COMPARED, 70)
-      for start in range(0, 300, 75)],
+           ["compare.py", "--start", str(start), "--count", "75", "--without-limits"], COMPARED, 70) for start in range(0, 300, 75)],
+    Part("scripts at the limits compared with the model", ["compare.py", "--count", "0"], AT_LIMITS, 38),
     *[Part("each request for memory refused in turn, part %d of 4" % number,
            ["refuse_allocations.py", "--part", "%d/4" % number], REFUSED, 6_000) for number in range(1, 5)],
     *[Part("broken messages compared with the model, %s" % way,
@@ -53,7 +58,7 @@ PARTS = [
     Part("the prompt, on examples by hand", ["prompt_rows.py"], RIGHT, 700, False),
     Part("the worked examples", ["worked_examples.py"], r"(\d+) examples, 0 wrong", 200),
     Part("the files of the worked examples", ["worked_examples.py", "--look"], r"(\d+) examples, 0 wrong", 200, False),
-    Part("the manual's examples", ["manual.py"], RIGHT, 100),
+    Part("the manual's examples, and the replies told in examples", ["manual.py"], RIGHT, 170),
     Part("the notation, on examples by hand", ["notation_rows.py"], RIGHT, 2_000, False),
     Part("requests for memory under a thousand rows", ["requests_counted.py"], r"(\d+) counted, 0 wrong", 8),
     Part("what has to be believed is apart from all other definitions", ["trust.py", "--check"], r"(\d+) files looked at, \d+ outer: 0 faults", 300, False),
@@ -83,16 +88,56 @@ def proved():
     return passed, max(failed, 1) if gate.returncode else failed
 
 
-def is_well(part, program, log):
+class Tools:
+    """The tools that run. Each has a session of its own with all that it starts, so that all of it can be ended."""
+
+    def __init__(self):
+        self.running, self.lock, self.is_over = set(), threading.Lock(), False
+
+    def ended(self, words, said):
+        """Runs a tool to its end: its exit status, and the seconds of a processor that it took with what it ran. What it leaves running
+        is ended."""
+        tool = subprocess.Popen(words, cwd=ROOT, stdin=subprocess.DEVNULL, stdout=said, stderr=subprocess.STDOUT, start_new_session=True)
+        self.running.add(tool.pid)
+        clock = threading.Timer(A_PART, self.end, [tool.pid])
+        clock.start()
+        # (The number of its group is its own until it is waited for.)
+        os.waitid(os.P_PID, tool.pid, os.WEXITED | os.WNOWAIT)
+        clock.cancel()
+        self.end(tool.pid)
+        with self.lock:
+            self.running.remove(tool.pid)
+            _, status, used = os.wait4(tool.pid, 0)
+        tool.returncode = os.waitstatus_to_exitcode(status)
+        return tool.returncode, used.ru_utime + used.ru_stime
+
+    def end(self, number):
+        """Ends a tool with what it runs, if it is running."""
+        with self.lock, contextlib.suppress(ProcessLookupError):
+            if number in self.running:
+                os.killpg(number, signal.SIGKILL)
+
+    def end_all(self, parts):
+        """Ends all tools, until these parts are done."""
+        self.is_over = True
+        while not all(one.done() for one in parts):
+            for number in tuple(self.running):
+                self.end(number)
+            time.sleep(0.1)
+
+
+def is_well(part, program, log, tools):
     """Tries a part on the program, and prints how it ended."""
     words = [sys.executable, os.path.join(ROOT, "tools", "check", part.words[0]), *part.words[1:]]
     words += ["--program", program] if part.runs else []
     begun = time.monotonic()
     with open(log, "wb") as said:
-        status, seconds = ended(words, said)
+        status, seconds = tools.ended(words, said)
     with open(log, errors="replace") as said:
         lines = said.read().splitlines()
     counts = [int(found[1]) for found in map(re.compile(part.says).search, lines) if found]
+    if tools.is_over:
+        return False
     if status == 0 and sum(counts) >= part.least:
         say("%s: passed: %d, in %d s, %d of them of a processor" % (part.name, sum(counts), time.monotonic() - begun, seconds))
         return True
@@ -102,29 +147,23 @@ def is_well(part, program, log):
     return False
 
 
-def ended(words, said):
-    """Runs a tool to its end: its exit status, and the seconds of a processor that it took with what it ran."""
-    tool = subprocess.Popen(words, cwd=ROOT, stdin=subprocess.DEVNULL, stdout=said, stderr=subprocess.STDOUT)
-    clock = threading.Timer(A_PART, tool.kill)
-    clock.start()
-    try:
-        _, status, used = os.wait4(tool.pid, 0)
-    finally:
-        clock.cancel()
-    tool.returncode = os.waitstatus_to_exitcode(status)
-    return tool.returncode, used.ru_utime + used.ru_stime
-
-
 def tried_parts(made, parts):
     """Whether each part is well, tried on a copy of the program that was made, as many side by side as there are processors. The
-    logs stay where one isn't."""
+    logs stay where one isn't. An interruption ends all that runs."""
     folder = tempfile.mkdtemp(prefix="lofgrim-check-")
     program = os.path.join(folder, "docd")
     shutil.copyfile(made, program)
     os.chmod(program, 0o755)
     logs = [os.path.join(folder, "%02d-%s.log" % (place, part.words[0])) for place, part in enumerate(parts)]
-    with ThreadPoolExecutor(len(os.sched_getaffinity(0))) as pool:
-        each = [pool.submit(is_well, part, program, log) for part, log in zip(parts, logs)]
+    tools, pool = Tools(), ThreadPoolExecutor(len(os.sched_getaffinity(0)))
+    each = [pool.submit(is_well, part, program, log, tools) for part, log in zip(parts, logs)]
+    try:
+        pool.shutdown()
+    except KeyboardInterrupt:
+        pool.shutdown(wait=False, cancel_futures=True)
+        tools.end_all(each)
+        shutil.rmtree(folder)
+        raise
     tried = [one.exception() is None and one.result() for one in each]
     for part, one in zip(parts, each):
         if one.exception():
@@ -134,6 +173,19 @@ def tried_parts(made, parts):
     return tried
 
 
+def counted(program, tools):
+    """Runs `rt ci`, where no program is given, and then the parts of these tools. How many passed and failed."""
+    passed, failed = (0, 0) if program else proved()
+    made = program or PROVED
+    if not failed and not os.path.exists(made):
+        say("%s does not exist: name a program that does, or build one: ./docd --prove" % made)
+        failed = 1
+    if not failed:
+        tried = tried_parts(made, [part for part in PARTS if part.words[0] in tools])
+        passed, failed = passed + tried.count(True), tried.count(False)
+    return passed, failed
+
+
 def main():
     options = argparse.ArgumentParser(description=__doc__, formatter_class=argparse.RawDescriptionHelpFormatter)
     options.add_argument("--program", help="run only the parts, on this program")
@@ -141,14 +193,15 @@ def main():
     given = options.parse_args()
     if given.parts and not given.program:
         options.error("--parts needs --program; without both, the whole gate runs, for hours")
-    passed, failed = (0, 0) if given.program else proved()
-    made = given.program or PROVED
-    if not failed and not os.path.exists(made):
-        say("%s does not exist: name a program that does, or build one: ./docd --prove" % made)
-        failed = 1
-    if not failed:
-        tried = tried_parts(made, [part for part in PARTS if any(word in part.words[0] for word in given.parts.split(","))])
-        passed, failed = passed + tried.count(True), tried.count(False)
+    tools = named("check", given.parts, dict.fromkeys(part.words[0] for part in PARTS))
+    for one in signal.SIGTERM, signal.SIGHUP:
+        if signal.getsignal(one) is signal.SIG_DFL:
+            signal.signal(one, interrupt)
+    try:
+        passed, failed = counted(given.program, tools)
+    except KeyboardInterrupt:
+        say("interrupted")
+        return 1
     say("%d passed, %d failed" % (passed, failed))
     return 1 if failed or not passed else 0
 

@@ -1,18 +1,69 @@
-"""Where the repository is, and the built program, which the tools run."""
+"""Where the repository is, the built program, which the tools run, and what the tools' words name."""
+import glob
 import os
 import sys
 
 ROOT = os.path.dirname(os.path.dirname(os.path.abspath(__file__)))
 OUT = os.path.join(ROOT, "crates", "docd", "out")
 PROVED, UNPROVED = os.path.join(OUT, "docd"), os.path.join(OUT, "unproved", "docd")
-# The proved program, where it is built, or else the one without a proof, as ./docd runs them.
-DOCD = PROVED if os.path.exists(PROVED) else UNPROVED
+SOURCES = [os.path.join(ROOT, one) for one in ("KIT", "crates.txt", "crates/*/src", "crates/*/specs", "crates/*/proofs")]
+COMPILER = os.path.join(ROOT, "tools", "unproved.py")  # of the program without a proof
+TESTS = "tests", "tests.rt"  # which the program has nothing of
+
+
+def sources():
+    """The files and folders that the program is built from. (A folder is newer where a file was added or removed.)"""
+    for top in sum(map(glob.glob, SOURCES), []):
+        yield top
+        for folder, folders, files in os.walk(top):
+            folders[:] = [one for one in folders if one not in TESTS]
+            yield from (os.path.join(folder, one) for one in [*folders, *files] if one not in TESTS)
+
+
+def is_newer(path, nanoseconds):
+    try:
+        return os.lstat(path).st_mtime_ns > nanoseconds
+    except OSError:  # it has gone meanwhile
+        return False
+
+
+def is_current(program, *others):
+    """Whether a program is built, and no source is newer, as ./docd finds it out; some others may count as sources."""
+    if not os.access(program, os.X_OK):
+        return False
+    since = os.stat(program).st_mtime_ns
+    return not any(is_newer(one, since) for one in [*sources(), *others])
+
+
+def built():
+    """The program that ./docd runs: the proved one, or the one without a proof where a source is newer; None where one is newer than
+    both."""
+    if is_current(PROVED):
+        return PROVED
+    return UNPROVED if is_current(UNPROVED, COMPILER) else None
+
+
+def program_at(path, who):
+    """The whole path of a program that the words name. Stops where there is none."""
+    if not (os.path.isfile(path) and os.access(path, os.X_OK)):
+        sys.exit("%s: there is no program %s" % (who, path))
+    return os.path.abspath(path)
 
 
 def parsed(options, who):
-    """What the words of a tool give, the program among it. Stops where that isn't built."""
-    options.add_argument("--program", default=DOCD)
+    """What the words of a tool give, the whole path of the program among it. Stops where there is none."""
+    options.add_argument("--program", metavar="FILE", help="the program; without this, the one that ./docd runs")
     given = options.parse_args()
-    if not os.path.exists(given.program):
-        sys.exit("%s: build the program first: ./docd run < /dev/null" % who)
+    given.program = program_at(given.program, who) if given.program is not None else built()
+    if not given.program:
+        sys.exit("%s: no program is built from the present sources: build one (./docd run < /dev/null), or name one (--program FILE)" % who)
     return given
+
+
+def named(who, words, names):
+    """The names that have one of the words in them, which are joined by commas. Stops at a word that none has."""
+    words = words.split(",")
+    for word in words:
+        if not any(word in name for name in names):
+            sys.exit("%s: nothing is named %s; there are: %s" % (who, word, "; ".join(names)))
+    return [name for name in names if any(word in name for word in words)]

@@ -22,7 +22,7 @@ import folders  # noqa: F401
 from checking import status_of
 from connection import Connection, INSERTED, MEGABYTE, PATIENCE, find, insert, large_ping, ping, pong
 from listening import Listening, let_open_many
-from program import parsed
+from program import named, parsed
 
 PLACES = 1_000  # connections at a time
 A_WHILE = 0.5  # seconds in which nothing has to happen
@@ -307,7 +307,7 @@ def the_port(program, tell):
     case.docd.end()
 
 
-CASES = [crowd, few_descriptors, resets, half_closed, unread, bytewise, faults, unfinished, the_port]
+CASES = {one.__name__: one for one in [crowd, few_descriptors, resets, half_closed, unread, bytewise, faults, unfinished, the_port]}
 
 
 def main():
@@ -315,8 +315,8 @@ def main():
     options.add_argument("--cases", default="", help="words, joined by commas, of which the names of the cases have one")
     given = parsed(options, "broken_connections")
     let_open_many()
-    cases = [one for one in CASES if any(word in one.__name__ for word in given.cases.split(","))]
-    return status_of("broken_connections", *(lambda tell, one=one: one(given.program, tell) for one in cases))
+    cases = named("broken_connections", given.cases, CASES)
+    return status_of("broken_connections", *(lambda tell, one=CASES[name]: one(given.program, tell) for name in cases))
 
 
 if __name__ == "__main__":

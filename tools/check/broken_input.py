@@ -246,8 +246,9 @@ def compare(way, name, seed, wanted):
             print("broken_input: seed %d, %s, input %d differs:" % (seed, name, place))
             tell(way, smaller(way, pieces))
             return None
-        seen["messages answered"] += sum(b" end " not in line for line in lines)
-        seen["closings"] += sum(b" closed " in line for line in lines)
+        closings = sum(b" closed " in line for line in lines)
+        seen["messages answered"] += sum(b" end " not in line for line in lines) - closings
+        seen["closings"] += closings
         seen["documents refused for their bytes"] += sum(REFUSED_BYTES in line for line in lines)
         count_replies(b"\n".join(lines), seen)
         place += 1

@@ -3,7 +3,7 @@
 
 def status_of(who, *checks):
     """Runs the checks, each of which is given a function that it tells whether something is right, and what it is. What is
-    wrong is printed, and how many are right and wrong; gives the exit status."""
+    wrong is printed, and how many are right and wrong; gives the exit status, which is 1 too where nothing was looked at."""
     right, wrong = [], []
 
     def tell(is_right, text):
@@ -14,4 +14,4 @@ def status_of(who, *checks):
     for check in checks:
         check(tell)
     print("%d right, %d wrong" % (len(right), len(wrong)))
-    return 1 if wrong else 0
+    return 0 if right and not wrong else 1

@@ -30,6 +30,8 @@ from notation import shown
 from program import parsed
 from random_scripts import Maker
 
+A_RUN = 600  # seconds that docd may take for a script
+NO_END = "no end within %d seconds" % A_RUN
 MOST_TRIES = 3_000  # runs of docd that cutting a script down may take
 A_LOOK = 500  # scripts from one line of how far it is to the next
 MOST_SECONDS = 60  # of processor time that a script may take to be made and to be answered by the model
@@ -44,8 +46,11 @@ def stop(*_):
 
 
 def answer(program, lines):
-    """What docd prints for these lines: the status, and both outputs."""
-    done = subprocess.run([program, "run", "--hex"], input=b"\n".join([*lines, b""]), capture_output=True, timeout=600)
+    """What docd prints for these lines: the status, and both outputs. Where it doesn't end in time, that stands for the status."""
+    try:
+        done = subprocess.run([program, "run", "--hex"], input=b"\n".join([*lines, b""]), capture_output=True, timeout=A_RUN)
+    except subprocess.TimeoutExpired:
+        return NO_END, b"", b""
     return done.returncode, done.stdout, done.stderr
 
 
@@ -152,10 +157,24 @@ def tell(program, lines):
         print(line.decode(errors="replace") if len(line) < 4_000 else "%s.. (%d bytes)" % (line[:200].decode(), len(line)))
         print(readable(line))
     for who, (status, output, error) in (("docd", answer(program, lines)), ("the model", wanted_answer(lines))):
-        print("%s: status %d %s" % (who, status, error.decode(errors="replace").strip()))
+        print("%s: status %s %s" % (who, status, error.decode(errors="replace").strip()))
         for line in output.splitlines():
             print("    " + line[:2_000].decode(errors="replace"))
             print(readable(line))
+
+
+def is_right(program, name, lines, wanted, plain=None):
+    """Whether docd answers a script as it should. What it answers otherwise is printed: of a smaller script, where plain lines bring the
+    same messages, which can be cut down."""
+    said = answer(program, lines)
+    if said == wanted:
+        return True
+    if said[0] == NO_END:
+        print("compare: %s: %s" % (name, NO_END))
+        return False
+    print("compare: %s differs:" % name, flush=True)
+    tell(program, Cutting(program).cut(lines, plain) if plain else lines)
+    return False
 
 
 def count_replies(output, seen):
@@ -198,9 +217,7 @@ def main():
             print("compare: seed %d, script %d is skipped: the model takes too long" % (given.seed, place), file=sys.stderr, flush=True)
             continue
         cut, plain, count, wanted = made
-        if answer(given.program, cut) != wanted:
-            print("compare: seed %d, script %d differs:" % (given.seed, place))
-            tell(given.program, Cutting(given.program).cut(cut, plain))
+        if not is_right(given.program, "seed %d, script %d" % (given.seed, place), cut, wanted, plain):
             return 1
         compared, messages = compared + 1, messages + count
         count_replies(wanted[1], seen)
@@ -208,9 +225,7 @@ def main():
         if compared % A_LOOK == 0:
             print("compare: no difference in %d scripts so far" % compared, file=sys.stderr, flush=True)
     for lines in () if given.without_limits else edges():
-        if answer(given.program, lines) != wanted_answer(lines):
-            print("compare: script %d at the limits differs:" % at_limits)
-            tell(given.program, lines)
+        if not is_right(given.program, "script %d at the limits" % at_limits, lines, wanted_answer(lines)):
             return 1
         at_limits += 1
     print("%d scripts (seed %d) with %d messages, and %d at the limits: no difference; %d passed over"

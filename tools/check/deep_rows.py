@@ -28,7 +28,7 @@ import folders  # noqa: F401
 from extended_json import json_of, value_of
 from model.messages import answer
 from model.values import DOCUMENT, spelling
-from program import parsed
+from program import named, parsed
 from spelled import joined, section
 
 VIEWS, STAGES = 8, 16  # how many views stand over one another, and how many stages a pipeline has
@@ -299,7 +299,7 @@ def main():
     options.add_argument("--measure", action="store_true", help="print the stack that is used instead")
     given = parsed(options, "deep_rows")
     deep = Tower(WRAPPED, given.views).cases()
-    names = [name for name in deep if any(word in name for word in given.cases.split(","))]
+    names = named("deep_rows", given.cases, deep)
     with ThreadPoolExecutor(len(os.sched_getaffinity(0))) as pool:
         if given.measure:
             flat = Tower(1, given.views).cases()

@@ -129,11 +129,11 @@ def rows(cursor):
 
 def try_pool(program):
     """Ten threads at work on the driver's pool."""
-    return status_of("drivers", lambda tell: share_pool(program, tell))
+    with Listening(program) as docd:
+        return status_of("drivers", lambda tell: share_pool(docd, tell))
 
 
-def share_pool(program, tell):
-    docd = Listening(program)
+def share_pool(docd, tell):
     pool = Pool(docd.port, b"&maxPoolSize=%d" % CLIENTS)
     client = pool.client(DATABASE)
     client.ask({"insert": "shared", "documents": [{"_id": "count", "n": 0}], "ordered": True})
@@ -153,14 +153,13 @@ def told_fates(docd, count, tell):
     """So many connections have to have come, and each has to have ended by itself."""
     fates = docd.fates_of(count)
     tell(fates == ["ended"] * count, "the connections end by %r" % fates)
-    docd.end()
 
 
 def try_php(program):
     """The script, which prints what it finds."""
-    docd = Listening(program)
-    done = subprocess.run(["php", SCRIPT, str(docd.port)], timeout=A_SCRIPT)
-    return done.returncode or status_of("drivers", lambda tell: told_fates(docd, 1, tell))
+    with Listening(program) as docd:
+        done = subprocess.run(["php", SCRIPT, str(docd.port)], timeout=A_SCRIPT)
+        return done.returncode or status_of("drivers", lambda tell: told_fates(docd, 1, tell))
 
 
 def version_of_c():

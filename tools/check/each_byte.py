@@ -77,20 +77,22 @@ class Look:
 
     def every_cut(self, name, lines):
         """Runs the lines whole and cut in each way. How often it was run."""
-        wanted, before = machine.run(script_of(lines)), self.runs
+        (output, error), before = machine.run(script_of(lines)), self.runs
+        wanted = 1 if error else 0, output, error
         for one in [lines, *cut_in_two(lines)]:
             self.runs += 1
-            if self.answered(one) != wanted:
+            if (said := self.answered(one)) != wanted:
                 self.wrong += 1
-                print("%s: %s\n    written: %s\n    printed: %s" % (name, one, *(wanted, self.answered(one))))
+                print("%s: %s\n    written: %s\n    printed: %s" % (name, one, wanted, said))
         return self.runs - before
 
     def answered(self, lines):
+        """The exit status, and both outputs."""
         try:
             done = subprocess.run([self.program, "run", "--hex"], input=script_of(lines), capture_output=True, timeout=A_RUN)
         except subprocess.TimeoutExpired:
-            return b"", b"no end within %d seconds" % A_RUN
-        return done.stdout, done.stderr
+            return "no end within %d seconds" % A_RUN, b"", b""
+        return done.returncode, done.stdout, done.stderr
 
     def examples_byte_by_byte(self):
         """Runs the examples byte by byte. How many there were."""

@@ -36,8 +36,8 @@ class Wrong(Exception):
 class Store:
     """A docd of little memory, and how many documents it has."""
 
-    def __init__(self, program, megabytes, rich):
-        self.docd, self.count, self.views = Docd(program), 0, VIEWS if rich else {}
+    def __init__(self, docd, megabytes, rich):
+        self.docd, self.count, self.views = docd, 0, VIEWS if rich else {}
         self.ask("{ping: 1}")
         self.docd.bound(megabytes << 20)
         if rich:
@@ -124,9 +124,21 @@ def drop_all(store, cursor, rich):
     return "a killCursors and drops"
 
 
-def fill_and_empty(program, megabytes, rich, drops):
-    """What is told of one run."""
-    store = Store(program, megabytes, rich)
+def tried(program, *how):
+    """What is told of one run, behind which docd has to end well."""
+    docd = Docd(program)
+    try:
+        told = fill_and_empty(docd, *how)
+        if status := docd.end():
+            raise Wrong("docd ends with status %d, after %s" % (status, told))
+        return told
+    finally:
+        docd.process.kill()
+        docd.process.wait()
+
+
+def fill_and_empty(docd, megabytes, rich, drops):
+    store = Store(docd, megabytes, rich)
     store.insert(10)
     cursor = store.ask('{find: "c", batchSize: 1}')["cursor"]["id"]["$numberLong"]
     under_views = store.fill()
@@ -151,7 +163,7 @@ def main():
         for rich in False, True:
             for drops in False, True:
                 try:
-                    said = fill_and_empty(given.program, megabytes, rich, drops)
+                    said = tried(given.program, megabytes, rich, drops)
                 except Wrong as fault:
                     said, wrong = "WRONG: %s" % fault, wrong + 1
                 print("%d MB%s: %s" % (megabytes, ", two indexes and two views" if rich else "", said), flush=True)

@@ -31,7 +31,7 @@ import cases.views
 from cases.commands import CASES, DATABASE
 from cases.messages import sessions
 from model.values import read_document
-from program import parsed
+from program import named, parsed
 from spelled import message, spelled
 
 ADDRESSES = 8 << 30
@@ -105,12 +105,13 @@ def measured(program, name, part, folder):
             took.append(run(program, make is sessions, given, answer))
         best = [min(runs) for runs in zip(best, took)] if best else took
         ratios = best[1].seconds / max(best[0].seconds, 0.001), best[1].memory / best[0].memory
-        is_right = not stands_out(best[1], ratios)
-        if is_right or best[1].status:
+        has_failed = any(one.status for one in took)
+        is_right = not has_failed and not stands_out(best[1], ratios)
+        if is_right or has_failed:
             break
-    told = ["%d: %.2f s, %d MB" % (size, one.seconds, one.memory >> 20) for size, one in zip(sizes, best)]
-    told += ["ratios %.1f and %.1f" % ratios, *(["status %d" % best[1].status] if best[1].status else []), answered(answer)]
-    told += [of_one_write(program, make, sizes[1], one, folder) for one in more]
+    told = ["%d: %.2f s, %d MB%s" % (size, one.seconds, one.memory >> 20, ", status %d" % status if status else "")
+            for size, one, (_, _, status) in zip(sizes, best, took)]
+    told += ["ratios %.1f and %.1f" % ratios, answered(answer), *(of_one_write(program, make, sizes[1], one, folder) for one in more)]
     print("%s %s: %s" % ("  " if is_right else "!!", name, "; ".join(told)), flush=True)
     return is_right
 
@@ -130,9 +131,9 @@ def of_one_write(program, make, size, writes, folder):
 
 
 def stands_out(took, ratios):
-    """Whether a run didn't end well, or took a lot, and far more than one of half its size."""
+    """Whether a run took a lot, and far more than one of half its size."""
     lots = (took.seconds >= SMALL_TIME, took.memory >= SMALL_MEMORY)
-    return took.status or any(is_much and ratio > STANDS_OUT for is_much, ratio in zip(lots, ratios))
+    return any(is_much and ratio > STANDS_OUT for is_much, ratio in zip(lots, ratios))
 
 
 def main():
@@ -140,9 +141,9 @@ def main():
     options.add_argument("--cases", default="", help="words, joined by commas, of which the names of the cases have one")
     options.add_argument("--part", type=int, default=1, help="take so-manieth parts of the sizes, to be quicker")
     given = parsed(options, "limits")
-    words = given.cases.split(",")
+    names = named("limits", given.cases, CASES)
     with tempfile.TemporaryDirectory() as folder:
-        right = [measured(given.program, name, given.part, folder) for name in CASES if any(word in name for word in words)]
+        right = [measured(given.program, name, given.part, folder) for name in names]
     print("%d cases, of which %d failed or grew too much" % (len(right), right.count(False)))
     return 0 if all(right) else 1
 

@@ -1,4 +1,5 @@
-"""A docd that serves many connections at a free port, and what it prints."""
+"""A docd that serves many connections at a free port, and what it prints; and what Linux tells of a process's memory."""
+import atexit
 import re
 import resource
 import subprocess
@@ -17,17 +18,32 @@ def let_open_many():
     resource.setrlimit(resource.RLIMIT_NOFILE, (most, most))
 
 
+def memory_of(process, word="VmRSS"):
+    """How many bytes a running process has resident, or what else of its memory Linux tells by this word."""
+    with open("/proc/%d/status" % process.pid) as lines:
+        said = dict(line.split(":", 1) for line in lines)
+    return int(said[word].split()[0]) << 10
+
+
 class Listening:
-    """A running docd. Its lines are read as they come, so that it never waits for a reader of them."""
+    """A running docd. Its lines are read as they come, so that it never waits for a reader of them. It ends with this process, if it
+    isn't ended before."""
 
     def __init__(self, program, *words, **how):
         self.port, self.fates = free_port(), {}
         self.process = subprocess.Popen([program, "listen", "--port", str(self.port), *words], stdout=subprocess.PIPE, text=True,
                                         **how)
+        atexit.register(self.process.kill)
         if self.process.stdout.readline() != "serving 127.0.0.1:%d\n" % self.port:
             raise ConnectionError("docd doesn't listen")
         self.reading = threading.Thread(target=self.read, daemon=True)
         self.reading.start()
+
+    def __enter__(self):
+        return self
+
+    def __exit__(self, *fault):
+        self.end()
 
     def read(self):
         for line in self.process.stdout:
@@ -51,9 +67,7 @@ class Listening:
 
     def memory(self):
         """How many bytes are resident."""
-        with open("/proc/%d/status" % self.process.pid) as lines:
-            said = dict(line.split(":", 1) for line in lines)
-        return int(said["VmRSS"].split()[0]) << 10
+        return memory_of(self.process)
 
     def end(self):
         self.process.kill()

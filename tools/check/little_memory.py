@@ -18,6 +18,7 @@ import sys
 import folders  # noqa: F401
 from cases.commands import DATABASE, IDENTITY, ONE, aggregate, find, put, stage, update
 from extended_json import json_of
+from listening import memory_of
 from model.messages import answer
 from model.values import DOCUMENT, TEXT
 from program import parsed
@@ -47,9 +48,7 @@ class Docd:
 
     def bound(self, more):
         """Lets it have so many bytes of address space more than it has."""
-        with open("/proc/%d/status" % self.process.pid) as lines:
-            said = dict(line.split(":", 1) for line in lines)
-        most = (int(said["VmSize"].split()[0]) << 10) + more
+        most = memory_of(self.process, "VmSize") + more
         resource.prlimit(self.process.pid, resource.RLIMIT_AS, (most, most))
 
     def end(self):

@@ -1,5 +1,6 @@
 #!/usr/bin/python3
-"""Runs the examples of docs/MANUAL.md through docd and through the model of `tools/check/machine.py`, and compares the replies.
+"""Runs the examples of docs/MANUAL.md through docd and through the model of `tools/check/machine.py`, and compares the replies; and the
+scripts examples/*.hex, whose comments tell of replies (tools/check/told_replies.py).
 
 Needs the built program (./docd run < /dev/null). In a fenced block a line `> COMMAND` is sent, of session 0, or of another one as
 `1> COMMAND`, and the line behind it is its reply; each heading begins with an empty store. These lines are read as
@@ -20,6 +21,7 @@ import machine
 from lines import lines_of_command, read
 from program import ROOT, parsed
 from prompt.guide import MANUAL, sections
+from told_replies import replies_told
 
 COMMAND = re.compile(r"\d*> .*")
 
@@ -69,24 +71,28 @@ def typed(program, examples):
             yield words, written, done.stdout.decode()
 
 
-def main():
-    options = argparse.ArgumentParser(description=__doc__, formatter_class=argparse.RawDescriptionHelpFormatter)
-    given = parsed(options, "manual")
-    right, wrong = 0, 0
+def examples_in_manual(program):
+    """For each example its heading, what is asked, what is written of the reply, and what is said."""
     with open(MANUAL, encoding="utf-8") as file:
         text = file.read()
     for heading, blocks in sections(text):
         in_shell = [block for block in blocks if block.startswith("$ ")]
-        outcomes = [*sent(given.program, examples_of(block for block in blocks if block not in in_shell)),
-                    *typed(given.program, typed_of(in_shell))]
-        for asked, written, *said in outcomes:
-            if all(one == written for one in said):
-                right += 1
-                continue
-            wrong += 1
-            print("manual: %s\n    %s\n    written: %s" % (heading, asked, written))
-            for who, one in zip(("docd", "the model"), said):
-                print("    %s: %s" % (who, one))
+        for one in [*sent(program, examples_of(block for block in blocks if block not in in_shell)), *typed(program, typed_of(in_shell))]:
+            yield heading, *one
+
+
+def main():
+    options = argparse.ArgumentParser(description=__doc__, formatter_class=argparse.RawDescriptionHelpFormatter)
+    given = parsed(options, "manual")
+    right, wrong = 0, 0
+    for place, asked, written, *said in [*examples_in_manual(given.program), *replies_told(given.program)]:
+        if all(one == written for one in said):
+            right += 1
+            continue
+        wrong += 1
+        print("manual: %s\n    %s\n    written: %s" % (place, asked, written))
+        for who, one in zip(("docd", "the model"), said):
+            print("    %s: %s" % (who, one))
     print("%d right, %d wrong" % (right, wrong))
     return 1 if wrong else 0
 

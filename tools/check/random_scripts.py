@@ -10,6 +10,7 @@ from making.breaking import Breaker
 from making.commands import Commands
 from model import messages
 from model.commands import answer_to
+from model.pipelines import STAGES
 from model.values import ARRAY, DOCUMENT
 from spelled import Broken, PIECE, array, boolean, data_of, document, joined, message, number, section, spelled, text
 
@@ -22,7 +23,6 @@ def interleaved(rng, runs):
     return [next(left[place]) for place in order]
 
 
-STAGES = ["$match", "$project", "$unwind", "$sort", "$limit", "$group", "$lookup"]
 ALL = number(2**31 - 1)  # as many rows in a first batch as its bytes let
 
 
@@ -67,7 +67,7 @@ class Maker(Commands):
 
     def views_of_each_stage(self):
         """The commands that make a view of each stage, named after it. No random command has such a name."""
-        return [self.view(stage[1:].encode(), [[stage]]) for stage in STAGES]
+        return [self.view(stage[1:], [[stage.decode()]]) for stage in STAGES]
 
     def asked_twice(self, view):
         """For the command of a view: what it tells of itself, a find of all its rows, and an aggregate that makes them anew."""

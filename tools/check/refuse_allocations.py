@@ -35,7 +35,7 @@ from model.refusals import WANT_OF_MEMORY, refused
 from model.store import Store
 from model.values import ARRAY, read_document
 from model.writes import NoSuchCut, WRITES
-from program import parsed
+from program import named, parsed
 from refused_scripts import End, SCRIPTS, body, lines
 from refusing import Refusing
 
@@ -195,21 +195,20 @@ def main():
     options.add_argument("--scripts", default="", help="words, joined by commas, of which the names of the scripts have one")
     options.add_argument("--part", default="1/1", help="the first script and how many further on the next is, as 1/4")
     given = parsed(options, "refuse_allocations")
-    words, wrong, refused_in_all = given.scripts.split(","), 0, 0
+    wrong = refused_in_all = 0
     first, step = map(int, given.part.split("/"))
-    named = [name for name in SCRIPTS if any(word in name for word in words)]
+    names = named("refuse_allocations", given.scripts, SCRIPTS)[first - 1::step]
     with Refusing(given.program) as docd:
-        for name in named[first - 1::step]:
-            steps = SCRIPTS[name]
-            trial = Trial(docd, name, steps)
+        for name in names:
+            trial = Trial(docd, name, SCRIPTS[name])
             count = trial.refuse_each()
             later = sum(trial.refuse_each((number,)) for number in [*trial.without_rows.values()])
             shown = ", ".join("%d %s" % (count, how) for how, count in sorted(trial.seen.items()))
             print("%s: %d requests, each refused, and %d after another one: %s" % (name, count, later, shown), flush=True)
             wrong, refused_in_all = wrong + trial.wrong, refused_in_all + count + later
     print("%d requests refused, %d wrong" % (refused_in_all, wrong))
-    sys.exit(1 if wrong else 0)
+    return 0 if refused_in_all and not wrong else 1
 
 
 if __name__ == "__main__":
-    main()
+    sys.exit(main())

@@ -8,8 +8,8 @@ from collections import namedtuple
 
 from kit import part
 
-# Counts the requests, and refuses those whose numbers REFUSE gives. At the end it writes into the file COUNTED how many there
-# were, those that were refused among them.
+# Counts the requests, and refuses those whose numbers REFUSE gives. It writes into the file COUNTED how many there were, those
+# that were refused among them: at each refusal, since a program that crashes of one writes nothing more, and at the end.
 SHIM = r"""
 /* The kit has no headers. */
 typedef unsigned long size_t;
@@ -24,6 +24,15 @@ static const int O_WRONLY = 1;
 
 static long requests, first = -1, second;
 
+__attribute__((destructor)) static void tell(void) {
+    const char *path = getenv("COUNTED");
+    int file = path ? open(path, O_WRONLY) : -1;
+    char text[24];
+    long place = sizeof text, rest = requests;
+    do text[--place] = '0' + rest % 10; while (rest /= 10);
+    if (file >= 0 && write(file, text + place, sizeof text - place) < 0) __builtin_trap();
+}
+
 static int refuses(void) {
     if (first < 0) {
         const char *numbers = getenv("REFUSE");
@@ -32,7 +41,9 @@ static int refuses(void) {
         second = rest ? strtol(rest, 0, 10) : 0;
     }
     requests++;
-    return requests == first || requests == second;
+    if (requests != first && requests != second) return 0;
+    tell();
+    return 1;
 }
 
 void *malloc(size_t size) {
@@ -46,19 +57,11 @@ void *realloc(void *old, size_t size) {
     if (!next) next = (void *(*)(void *, size_t))dlsym(RTLD_NEXT, "realloc");
     return refuses() ? 0 : next(old, size);
 }
-
-__attribute__((destructor)) static void tell(void) {
-    const char *path = getenv("COUNTED");
-    int file = path ? open(path, O_WRONLY) : -1;
-    char text[24];
-    long place = sizeof text, rest = requests;
-    do text[--place] = '0' + rest % 10; while (rest /= 10);
-    if (file >= 0 && write(file, text + place, sizeof text - place) < 0) __builtin_trap();
-}
 """
 
-# The exit status, standard output's lines, standard error, how many requests there were, and whether any was refused.
-Ran = namedtuple("Ran", "status said told requests is_refused")
+# The exit status, standard output's lines, standard error, and how many requests there were; where a signal ended the program, how
+# many up to the last refusal.
+Ran = namedtuple("Ran", "status said told requests")
 
 
 class Refusing:
@@ -87,5 +90,4 @@ class Refusing:
         done = subprocess.run([self.program, "run", "--hex"], input=script, capture_output=True, env=env)
         with open(self.counted, encoding="ascii") as file:
             requests = int(file.read() or 0)
-        is_refused = any(number <= requests for number in numbers)
-        return Ran(done.returncode, done.stdout.splitlines(), done.stderr, requests, is_refused)
+        return Ran(done.returncode, done.stdout.splitlines(), done.stderr, requests)

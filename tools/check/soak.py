@@ -91,13 +91,6 @@ class Worker(Client):
                 one.close()
             self.cursors.clear()
 
-    def rows(self, command):
-        """All rows of a find or an aggregate."""
-        cursor = self.client.opened(command)
-        found = list(cursor)
-        cursor.close()
-        return found
-
 
 class Few(Soak):
     """Clients at work over few documents, with rests for comparisons of all."""

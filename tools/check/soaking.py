@@ -158,6 +158,13 @@ class Client:
     def ask(self, command):
         return right(command, self.client.ask(command))
 
+    def rows(self, command):
+        """All rows of a find or an aggregate."""
+        cursor = self.client.opened(command)
+        found = list(cursor)
+        cursor.close()
+        return found
+
 
 class Comparer:
     """Compares rows of views with what their pipelines make, while others write. Each turn of `pairs` gives a view, a find in it,

@@ -9,10 +9,12 @@ children took; it is looked at each second, so that at most the last second of a
     tools/check/timed_gate.py > /tmp/gate.txt
     tools/check/timed_gate.py --table             only writes the table anew, with the lines that the crates have now
 """
+import argparse
 import os
 import pathlib
 import re
 import resource
+import shutil
 import subprocess
 import sys
 import time
@@ -137,8 +139,12 @@ def write_table():
 
 
 def main():
-    if "--table" in sys.argv[1:]:
+    options = argparse.ArgumentParser(description=__doc__, formatter_class=argparse.RawDescriptionHelpFormatter)
+    options.add_argument("--table", action="store_true", help="only write the table anew")
+    if options.parse_args().table:
         return write_table()
+    if not shutil.which("rt"):
+        sys.exit("timed_gate: the command `rt` is not found: put the folder bin of the Rattle kit on the PATH")
     start = time.monotonic()
     gate = subprocess.Popen(["rt", "ci"], cwd=ROOT)
     looks = Looks(gate.pid)

@@ -90,12 +90,6 @@ class Worker(Client):
     def ping(self):
         self.timer.timed("ping", self.ask, {"ping": 1})
 
-    def rows(self, command):
-        cursor = self.client.opened(command)
-        found = list(cursor)
-        cursor.close()
-        return found
-
 
 class Traffic(Soak):
     """Clients at work over many documents."""

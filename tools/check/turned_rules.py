@@ -185,11 +185,14 @@ def main():
     options.add_argument("--only", default="")
     options.add_argument("--list", action="store_true")
     given, texts, counts = options.parse_args(), sources(), Counter()
+    chosen = [one for one in turns() if given.only in one.name + " " + one.file]
+    if not chosen:
+        sys.exit("turned_rules: no turn's name or file has %s in it" % given.only)
     examples = tables(texts)
     signal.signal(signal.SIGALRM, stop)
     if any(seen_by(texts, table) for table in examples):
         sys.exit("turned_rules: the model is wrong before a rule is changed: run tools/check/machine_rows.py")
-    for turn in [one for one in turns() if given.only in one.name + " " + one.file]:
+    for turn in chosen:
         seen, is_in_gate, fault = told_of(texts, turn, examples)
         counts.update(["turned"] + ["seen"] * bool(seen) + ["in the gate"] * is_in_gate)
         if fault is not None:

@@ -22,6 +22,7 @@ import folders  # noqa: F401
 from model.messages import message as reply_message
 from model.values import ARRAY, BOOLEAN, DOCUMENT, INT32, INT64, TEXT, spelling
 from notation import fields_of, values
+from program import program_at
 from spelled import PIECE, joined, pieces, section
 
 HERE = os.path.dirname(os.path.abspath(__file__))
@@ -346,9 +347,10 @@ def differences(found, printed):
 def answered_otherwise(program, script):
     """What a program answers otherwise to the examples of a script, each as a text."""
     files = written(script, is_gate=False)
-    words = [os.path.abspath(program), *files["args"].decode().split()]
+    words = [program, *files["args"].decode().split()]
     done = subprocess.run(words, cwd=os.path.join(CRATE, "data"), input=files["stdin"], capture_output=True, timeout=120)
-    return [*differences(script, done.stdout.decode().splitlines()), *([done.stderr.decode()] if done.returncode else [])]
+    found = [*differences(script, done.stdout.decode().splitlines())]
+    return found + ["it ends with status %d, and says %r" % (done.returncode, done.stderr.decode())] * (done.returncode != 0)
 
 
 def main():
@@ -356,13 +358,14 @@ def main():
     options.add_argument("--look", action="store_true")
     options.add_argument("--program")
     given, found = options.parse_args(), scripts()
-    wrong = [one for script in found for one in answered_otherwise(given.program, script)] if given.program else []
+    program = None if given.program is None else program_at(given.program, "worked_examples")
+    wrong = [one for script in found for one in answered_otherwise(program, script)] if program else []
     for name, held in written(found[0], is_gate=True).items():
         path = os.path.join(CRATE, name)
         if given.look:
             with open(path, "rb") as file:
                 wrong += [path + " isn't what the table gives"] if file.read() != held else []
-        elif not given.program:
+        elif not program:
             with open(path, "wb") as file:
                 file.write(held)
     for one in wrong:

@@ -50,7 +50,7 @@ def help_of(topic, width):
         return [*of_operator("$" + name, width)]
     told = "there is no command, operator or code %s: type help for the commands" % name
     if headings := guide.headings_with(name):
-        told += "; docs/MANUAL.md tells of it under %s" % ", ".join('"%s"' % one for one in headings)
+        told += "; docs/MANUAL.md describes it under %s" % ", ".join('"%s"' % one for one in headings)
     return wrapped(told, width)
 
 

@@ -1,0 +1,71 @@
+"""The replies that comments in examples/*.hex tell, beside those of docd and of the model.
+
+Above a message stands `the reply is {..}.`, or `the reply, {..}, ..`, or `the reply's documents are:` with these behind it. What else is
+told of a reply is not looked at.
+"""
+import glob
+import os
+import re
+import subprocess
+
+import folders  # noqa: F401
+import machine
+from model.messages import answer
+from model.values import ARRAY, DOCUMENT
+from notation import fields_of, shown, values
+from program import ROOT
+
+SCRIPTS = os.path.join(ROOT, "examples", "*.hex")
+WHOLE = re.compile(r"reply(?: is (\{.*?\})\.|, (\{.*?\}),)(?: |$)")
+DOCUMENTS = re.compile(r"reply's documents are: (.*)")
+
+
+def whole(fields):
+    return shown((DOCUMENT, fields))
+
+
+def documents_in(fields):
+    """The documents of a find's reply."""
+    cursor = dict(fields).get(b"cursor", (DOCUMENT, []))[1]
+    return " ".join(map(shown, dict(cursor).get(b"firstBatch", (ARRAY, []))[1]))
+
+
+def told_of(comment):
+    """What a comment tells of a reply, and what of the reply that has to be; nothing where it tells neither."""
+    if found := WHOLE.search(comment):
+        return whole(fields_of(found[1] or found[2])), whole
+    if found := DOCUMENTS.search(comment):
+        return " ".join(map(shown, values(found[1]))), documents_in
+    return None
+
+
+def comments_in(script):
+    """For each line that brings something the comment above it."""
+    comment = []
+    for line in script.splitlines():
+        if line.startswith("#"):
+            comment.append(line[1:].strip())
+            continue
+        if line:
+            yield " ".join(comment)
+        comment = []
+
+
+def read(line, part):
+    """A part of a reply that was printed, or the line where there is no reply."""
+    digits = line.partition(" ")[2]
+    return part(answer(bytes.fromhex(digits))) if re.fullmatch("[0-9a-f]{52,}", digits) else line
+
+
+def replies_told(program):
+    """For each reply that is told, its script, its number there, what is told, and what docd and the model say."""
+    for path in sorted(glob.glob(SCRIPTS)):
+        with open(path, "rb") as file:
+            script = file.read()
+        done = subprocess.run([program, "run", "--hex"], input=script, capture_output=True, timeout=60)
+        said, modelled = (output.decode().splitlines() for output in (done.stdout, machine.run(script)[0]))
+        said += ["nothing"] * (len(modelled) - len(said))
+        for number, (comment, *lines) in enumerate(zip(comments_in(script.decode()), said, modelled), 1):
+            if told := told_of(comment):
+                text, part = told
+                yield os.path.relpath(path, ROOT), "reply %d" % number, text, *(read(line, part) for line in lines)
