@@ -80,7 +80,12 @@ impl Machine {
     }
 
     /// Carries out one command of a session. If memory runs out, the reserve is given back for the reply.
-    pub(crate) fn carry_out(&mut self, session: u32, command: &Command, reserve: &mut Reserve) -> Told
+    pub(crate) fn carry_out(
+        &mut self,
+        session: u32,
+        command: &Command,
+        reserve: &mut Reserve,
+    ) -> Told
         requires { AreWithinLimits self.old }
         ensures step { MemoryStep self.old session command.now (outcome_told result) self.new }
         ensures id { HasLongId result }

@@ -15,7 +15,12 @@ pub(crate) fn end_text(alloc: Global, number: u32, unfinished: usize) -> Result<
 
 /// The lines of what a session answered to a piece of its bytes: one for each of the replies, which come one after the other, and
 /// then, if it is closed, one with the fault's number.
-pub(crate) fn fed_text(alloc: Global, number: u32, replies: &[u8], fed: Fed) -> Result<String, AllocError>
+pub(crate) fn fed_text(
+    alloc: Global,
+    number: u32,
+    replies: &[u8],
+    fed: Fed,
+) -> Result<String, AllocError>
     ensures { IfOk result (λ text. (all : List (List ℕ)) × AreReplies all replies.now × (string_bytes text ≡ fed_text number all fed)) }
 {
     let mut text = String::new(alloc);
