@@ -3,8 +3,8 @@
 
 `rt ci` proves each crate from nothing, tries the edits that must be refused, and runs the tests and the program. Then the parts
 below run, as many side by side as there are processors. Each has to end well, and to say that it looked at no less than is
-known of it: one that crashes, says nothing or looks at nothing has failed. The last line counts what passed, `rt ci`'s first
-number and the parts, and what failed. A part that fails is named with the first lines that it printed, and its log is kept. An
+known of it: one that crashes, says nothing or looks at nothing has failed. A part that fails is named with the first lines that it
+printed, and its log is kept. The last line counts what passed, `rt ci`'s first number and the parts, and what failed. An
 interruption ends all that runs.
 
 Needs the kit and Python alone.
@@ -62,6 +62,7 @@ PARTS = [
     Part("the notation, on examples by hand", ["notation_rows.py"], RIGHT, 2_000, False),
     Part("requests for memory under a thousand rows", ["requests_counted.py"], r"(\d+) counted, 0 wrong", 8),
     Part("what has to be believed is apart from all other definitions", ["trust.py", "--check"], r"(\d+) files looked at, \d+ outer: 0 faults", 300, False),
+    Part("each planted bug can be applied", ["planted.py", "--look"], r"(\d+) edits looked at, 0 wrong", 600, False),
     Part("the files that documents name in tables", ["figures.py", "--tables"], r"(\d+) files in tables, \d+ crates in the map: 0 wrong", 300, False),
     Part("each place that answers that memory ran out is known", ["wants_of_memory.py"], r"(\d+) places in \d+ functions, each of them listed", 50, False),
 ]
@@ -135,15 +136,17 @@ def is_well(part, program, log, tools):
         status, seconds = tools.ended(words, said)
     with open(log, errors="replace") as said:
         lines = said.read().splitlines()
-    counts = [int(found[1]) for found in map(re.compile(part.says).search, lines) if found]
+    found = [it for it in map(re.compile(part.says).search, lines) if it]
+    checked = sum(int(it[1]) for it in found)
     if tools.is_over:
         return False
-    if status == 0 and sum(counts) >= part.least:
-        say("%s: passed: %d, in %d s, %d of them of a processor" % (part.name, sum(counts), time.monotonic() - begun, seconds))
+    if status == 0 and found and checked >= part.least:
+        told = found[0][0] if len(found) == 1 else checked
+        say("%s: passed: %s; in %d s, and %d s of a processor" % (part.name, told, time.monotonic() - begun, seconds))
         return True
     first = "".join("\n    " + line for line in lines[:FIRST_LINES])
     say("%s: FAILED: status %s, %d checked of at least %d; its output is in %s and begins:%s" % (
-        part.name, status, sum(counts), part.least, log, first))
+        part.name, status, checked, part.least, log, first))
     return False
 
 

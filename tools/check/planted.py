@@ -11,7 +11,10 @@ applied any more.
     tools/check/planted.py                        all crates, lowest first
     tools/check/planted.py dv_coll dv_index       these
     tools/check/planted.py --alone dv_coll        each edit alone
-    tools/check/planted.py --list                 only lists what the gate tries
+    tools/check/planted.py --gate 30              those that docs/TESTING.md lists as bodies that must be refused, over the libraries that
+                                                  `rt ci` built; begins with no crate after 30 minutes
+    tools/check/planted.py --look                 only looks whether each edit, also those that `rt ci` tries, can be applied
+    tools/check/planted.py --list                 only lists the edits that `rt ci` tries
 """
 import argparse
 import os
@@ -20,6 +23,7 @@ import re
 import shutil
 import sys
 import tempfile
+import time
 from collections import namedtuple
 
 import folders  # noqa: F401
@@ -27,6 +31,9 @@ from kit import part
 
 ROOT = pathlib.Path(__file__).resolve().parent.parent.parent
 FUNCTION = re.compile(r"\s*(?:pub(?:\(\w+\))? )?(?:const )?(?:unsafe )?fn (\w+)")
+PAGE, SECTION = ROOT / "docs" / "TESTING.md", "### Wrong bodies that must be refused"
+OF_CRATE = re.compile(r"- `(\w+)`: ")  # a line of that section that names edits of one crate
+STARRED = re.compile(r"`(?:(\w+)/)?(\w+)`\*")  # an edit in planted/, with its crate where the line names none
 OPEN_GOAL = re.compile(r"note: (src/\S+\.rt):(\d+):\d+: it is not proved (.*)")
 
 # An edit: its file, the texts of the crate's files with it, and the functions that it changes, each as a file and the line
@@ -138,19 +145,99 @@ def planted(crate):
     return sorted((ROOT / "planted" / crate.name).glob("*.edit"))
 
 
+def of_rt_ci(crate):
+    return sorted(pathlib.Path(crate.folder, "must-fail").glob("*.edit"))
+
+
+def of_gate():
+    """The files in planted/ of the edits that the page lists as bodies that must be refused."""
+    for line in PAGE.read_text().split(SECTION)[1].split("\n## ")[0].split("\n"):
+        crate = OF_CRATE.match(line)
+        for found in STARRED.finditer(line):
+            yield ROOT / "planted" / (found[1] or crate[1]) / f"{found[2]}.edit"
+
+
 def listed(crates):
-    """The edits that the gate tries, by name, as lines of a list."""
+    """The edits that `rt ci` tries, by name, as lines of a list."""
     for crate in crates:
-        of_gate = [it.stem.replace("_", " ") for it in sorted(pathlib.Path(crate.folder, "must-fail").glob("*.edit"))]
-        if of_gate:
-            yield f"- `{crate.name}`: " + "; ".join(of_gate)
+        names = [it.stem.replace("_", " ") for it in of_rt_ci(crate)]
+        if names:
+            yield f"- `{crate.name}`: " + "; ".join(names)
+
+
+def read_edits(crate, paths):
+    """The edits of a crate that can be applied, and how many can't, each of which is named."""
+    edits = {path: read_edit(path, crate) for path in paths}
+    bad = [path for path, edit in edits.items() if edit is None]
+    for path in bad:
+        print(f"{crate.name}/{path.stem}: BAD EDIT: a text that it replaces is not in its file exactly once", flush=True)
+    return [it for it in edits.values() if it], len(bad)
+
+
+def look(crates):
+    """Looks whether each edit can be applied, and whether those that the page lists are there. How many were looked at, and how many
+    are wrong."""
+    paths = {crate: [*planted(crate), *of_rt_ci(crate)] for crate in crates}
+    gone = [it for it in of_gate() if not it.is_file()]
+    for path in gone:
+        print(f"{path.relative_to(ROOT)}: docs/TESTING.md lists it, but it is not there", flush=True)
+    failed = sum(read_edits(crate, of_crate)[1] for crate, of_crate in paths.items())
+    return sum(map(len, paths.values())), failed + len(gone)
+
+
+def try_all(engine, crates, alone, jobs):
+    """Tries all edits in planted/ of these crates, over libraries that it builds where they aren't. How many were tried, and how many
+    weren't refused."""
+    tried = failed = 0
+    for crate in crates:
+        edits, bad = read_edits(crate, planted(crate))
+        failed += bad
+        if not edits:
+            continue
+        held = engine.rtlib.lock([*crate.below(), crate])
+        if any(it.build_rlib(["--jobs", str(jobs)], anew=False) for it in crate.below()):
+            sys.exit(f"planted: a crate that {crate.name} uses is not proved: prove it first (rt check in its folder)")
+        failed += try_crate(engine, crate, edits, alone, jobs)
+        tried += len(edits)
+        for it in held:
+            os.close(it)
+    return tried, failed
+
+
+def is_ready(crate):
+    """Whether the libraries that a crate uses are there, all of one run: that of `rt ci`, which writes no stamp, or one that proved
+    the present sources."""
+    below = crate.below()
+    if any(os.path.exists(f"{it.folder}/out/rlib/stamp") for it in below):
+        return all(it.is_built() for it in below)
+    return all(os.path.isdir(it.rlib) for it in below)
+
+
+def try_in_gate(engine, crates, minutes, jobs):
+    """Tries the edits that the gate has to try, lowest crates first, as long as there is time. Says why the others aren't tried. How
+    many were tried, as a text, and how many weren't refused."""
+    tried = failed = 0
+    begun, wanted = time.monotonic(), set(of_gate())
+    for crate in crates:
+        edits, bad = read_edits(crate, sorted(wanted.intersection(planted(crate))))
+        failed += bad
+        is_late = time.monotonic() - begun >= 60 * minutes
+        if edits and (is_late or not is_ready(crate)):
+            why = "no time is left" if is_late else "libraries of another state are in the way"
+            print(f"{crate.name}: {len(edits)} edits not tried: {why}", flush=True)
+        elif edits:
+            failed += try_crate(engine, crate, edits, False, jobs)
+            tried += len(edits)
+    return f"{tried} of {len(wanted)}", failed
 
 
 def main():
     words = argparse.ArgumentParser(description=__doc__, formatter_class=argparse.RawDescriptionHelpFormatter)
     words.add_argument("crates", nargs="*", metavar="CRATE")
     words.add_argument("--alone", action="store_true", help="try each edit by itself, which takes longer")
-    words.add_argument("--list", action="store_true", help="only list the edits of the gate")
+    words.add_argument("--gate", type=float, metavar="MINUTES", help="try the bodies that must be refused, begun within this time")
+    words.add_argument("--look", action="store_true", help="only look whether each edit can be applied")
+    words.add_argument("--list", action="store_true", help="only list the edits that rt ci tries")
     words.add_argument("--jobs", type=int, default=2, help="processors for a check")
     given = words.parse_args()
     engine = part("rt") or sys.exit("planted: the command `rt` is not found: put the folder bin of the Rattle kit on the PATH")
@@ -163,23 +250,14 @@ def main():
         print("\n".join(listed(crates)))
         return 0
     os.chdir(ROOT)
-    tried = failed = 0
-    for crate in crates:
-        paths = planted(crate)
-        edits = [read_edit(it, crate) for it in paths]
-        for path in [path for path, edit in zip(paths, edits) if edit is None]:
-            print(f"{crate.name}/{path.stem}: BAD EDIT: a text that it replaces is not in its file exactly once", flush=True)
-            failed += 1
-        edits = [it for it in edits if it]
-        if not edits:
-            continue
-        held = engine.rtlib.lock([*crate.below(), crate])
-        if any(it.build_rlib(["--jobs", str(given.jobs)], anew=False) for it in crate.below()):
-            sys.exit(f"planted: a crate that {crate.name} uses is not proved: prove it first (rt check in its folder)")
-        failed += try_crate(engine, crate, edits, given.alone, given.jobs)
-        tried += len(edits)
-        for it in held:
-            os.close(it)
+    if given.look:
+        looked, failed = look(crates)
+        print(f"{looked} edits looked at, {failed} wrong")
+        return 1 if failed else 0
+    if given.gate is None:
+        tried, failed = try_all(engine, crates, given.alone, given.jobs)
+    else:
+        tried, failed = try_in_gate(engine, crates, given.gate, given.jobs)
     print(f"{tried} edits tried, {failed} not refused")
     return 1 if failed else 0
 
