@@ -1,14 +1,15 @@
 //! What the program does by its words, on its standard streams, its files and its ports.
 
-use dv_load::{check_file, loaded};
+use dv_load::{check_file, load_all};
 use dv_scripts::run_script;
-use dv_serving::{listen_at, run_session, serve_port};
-use dv_wire::Hub;
+use dv_serving::{listen_at, run_session, serve_at};
+use dv_wire::{Hub, Store};
 use dv_words::fault::DocdFault;
 use dv_words::words;
-use dv_words::words::Job;
+use dv_words::words::{Job, Load};
 use std::env;
 use std::io::{ErrorKind, IsTerminal};
+use std::mem::ManuallyDrop;
 use std::net::{Net, TcpListener, TcpStream};
 use std::rt::{Env, Files};
 
@@ -27,7 +28,7 @@ where
     let words: Vec<String> = words.collect(alloc)?;
     match words::words(alloc, words.as_slice())? {
         Job::Run { hex, loads } => {
-            let mut hub = Hub::new(alloc, loaded(rt, standard_error, loads)?);
+            let mut hub = hub_with(rt, standard_error, loads)?;
             if hex {
                 run_script(rt, &mut hub)
             } else {
@@ -35,14 +36,35 @@ where
             }
         }
         Job::Check { file } => check_file(rt, file),
-        Job::Serve { port, connections } => serve_port(rt, port, connections),
+        Job::Serve { port, connections } => {
+            let mut hub = hub_with(rt, standard_error, Vec::new(alloc))?;
+            serve_at(rt, &mut hub, port, connections)
+        }
         Job::Listen {
             port,
             connections,
             loads,
         } => {
-            let mut hub = Hub::new(alloc, loaded(rt, standard_error, loads)?);
+            let mut hub = hub_with(rt, standard_error, loads)?;
             listen_at(rt, &mut hub, port, connections)
         }
     }
+}
+
+/// A hub over a store with the documents of these files. The program ends once it has done with the hub, which frees all at once: so
+/// nothing drops it.
+fn hub_with<R, E>(
+    rt: &R,
+    standard_error: &E,
+    loads: Vec<Load>,
+) -> Result<ManuallyDrop<Hub>, DocdFault>
+where
+    R: Files + AllocGlobal,
+    E: Eprint + IsTerminal,
+{
+    let alloc = rt.alloc();
+    let mut store = ManuallyDrop::new(Store::new(alloc));
+    load_all(rt, standard_error, &mut store, loads)?;
+    let hub = Hub::new(alloc, ManuallyDrop::into_inner(store));
+    Ok(ManuallyDrop::new(hub))
 }

@@ -6,4 +6,4 @@ mod named;
 mod progress;
 
 pub use load::load_file;
-pub use named::{check_file, loaded};
+pub use named::{check_file, load_all};

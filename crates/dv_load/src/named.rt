@@ -11,26 +11,30 @@ use std::io::{BufWriter, IsTerminal};
 use std::rt::Files;
 use std::{fs, io};
 
-/// A store with the documents of these files, in their order. `CannotRead` if a file can't be opened or not be read to its end, and
-/// else the fault of the first load that has one. If standard error is a terminal, it shows how far a long load is.
-pub fn loaded<R, E>(rt: &R, standard_error: &E, loads: Vec<Load>) -> Result<Store, DocdFault>
+/// Loads the documents of these files, in their order. Fails with `CannotRead` if a file can't be opened or not be read to its end,
+/// and else with the fault of the first load that has one. If standard error is a terminal, it shows how far a long load is.
+pub fn load_all<R, E>(
+    rt: &R,
+    standard_error: &E,
+    store: &mut Store,
+    loads: Vec<Load>,
+) -> Result<(), DocdFault>
 where
     R: Files + AllocGlobal,
     E: Eprint + IsTerminal,
 {
     let alloc = rt.alloc();
-    let mut store = Store::new(alloc);
     for Load { namespace, file } in loads {
         let mut reader = match fs::open(rt, &file) {
             Ok(reader) => CountedReader::of(reader),
             Err(_) => return Err(DocdFault::CannotRead { file }),
         };
         let mut line = TerminalLine::of(standard_error, file.as_str());
-        let told = load_file_telling(alloc, &mut store, &namespace, &mut reader, &mut line);
+        let told = load_file_telling(alloc, store, &namespace, &mut reader, &mut line);
         line.end();
         told.map_err(|fault| DocdFault::of_load(file, fault))?;
     }
-    Ok(store)
+    Ok(())
 }
 
 /// Writes how many documents a file holds to standard output, as `check` does. Fails with `CannotRead` if it can't be opened or not

@@ -9,4 +9,4 @@ mod ports;
 pub mod serve;
 
 pub use input::run_session;
-pub use ports::{listen_at, serve_port};
+pub use ports::{listen_at, serve_at};

@@ -4,16 +4,16 @@ use crate::listen::{Telling, listen_on};
 use crate::serve::{BlockingPort, serve_on};
 use dv_host::HostFault;
 use dv_streams::{CountedWriter, TextOut};
-use dv_wire::{Hub, Store};
+use dv_wire::Hub;
 use dv_words::fault::DocdFault;
 use std::io;
 use std::io::BufWriter;
 use std::net::{Ipv4Addr, Net, SocketAddr, SocketAddrV4, TcpListener, TcpStream};
 
-/// Serves so many connections at a port, one after the other, from an empty store, and writes to standard output what `serve_on` does,
-/// after a line with the address. Fails with `Serve` if the port or a connection can't be had, with `Write` if a line can't be written,
-/// and with `NoMemory` if there is no memory for the writer's buffer.
-pub fn serve_port<R>(rt: &R, port: u16, connections: u32) -> Result<(), DocdFault>
+/// Serves so many connections at a port, one after the other, and writes to standard output what `serve_on` does, after a line with
+/// the address. Fails with `Serve` if the port or a connection can't be had, with `Write` if a line can't be written, and with
+/// `NoMemory` if there is no memory for the writer's buffer.
+pub fn serve_at<R>(rt: &R, hub: &mut Hub, port: u16, connections: u32) -> Result<(), DocdFault>
 where
     R: Print + Net<Listener = TcpListener, Stream = TcpStream> + AllocGlobal,
 {
@@ -23,10 +23,9 @@ where
     let writer = BufWriter::new(alloc, io::writer(rt)).map_err(|_| DocdFault::NoMemory)?;
     let mut writer = CountedWriter::of(writer);
     announce(&mut writer, address)?;
-    let mut hub = Hub::new(alloc, Store::new(alloc));
     serve_on(
         alloc,
-        &mut hub,
+        hub,
         &mut BlockingPort::of(listener),
         connections,
         &mut writer,
