@@ -136,13 +136,11 @@ def is_well(part, program, log, tools):
         status, seconds = tools.ended(words, said)
     with open(log, errors="replace") as said:
         lines = said.read().splitlines()
-    found = [it for it in map(re.compile(part.says).search, lines) if it]
-    checked = sum(int(it[1]) for it in found)
+    checked = sum(int(found[1]) for found in map(re.compile(part.says).search, lines) if found)
     if tools.is_over:
         return False
-    if status == 0 and found and checked >= part.least:
-        told = found[0][0] if len(found) == 1 else checked
-        say("%s: passed: %s; in %d s, and %d s of a processor" % (part.name, told, time.monotonic() - begun, seconds))
+    if status == 0 and checked >= part.least:
+        say("%s: passed: %d, in %d s, %d of them of a processor" % (part.name, checked, time.monotonic() - begun, seconds))
         return True
     first = "".join("\n    " + line for line in lines[:FIRST_LINES])
     say("%s: FAILED: status %s, %d checked of at least %d; its output is in %s and begins:%s" % (

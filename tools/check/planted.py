@@ -11,7 +11,7 @@ applied any more.
     tools/check/planted.py                        all crates, lowest first
     tools/check/planted.py dv_coll dv_index       these
     tools/check/planted.py --alone dv_coll        each edit alone
-    tools/check/planted.py --gate 30              those that docs/TESTING.md lists as bodies that must be refused, over the libraries that
+    tools/check/planted.py --after-ci 30          those that docs/TESTING.md lists as bodies that must be refused, over the libraries that
                                                   `rt ci` built; begins with no crate after 30 minutes
     tools/check/planted.py --look                 only looks whether each edit, also those that `rt ci` tries, can be applied
     tools/check/planted.py --list                 only lists the edits that `rt ci` tries
@@ -149,7 +149,7 @@ def of_rt_ci(crate):
     return sorted(pathlib.Path(crate.folder, "must-fail").glob("*.edit"))
 
 
-def of_gate():
+def must_be_refused():
     """The files in planted/ of the edits that the page lists as bodies that must be refused."""
     for line in PAGE.read_text().split(SECTION)[1].split("\n## ")[0].split("\n"):
         crate = OF_CRATE.match(line)
@@ -178,7 +178,7 @@ def look(crates):
     """Looks whether each edit can be applied, and whether those that the page lists are there. How many were looked at, and how many
     are wrong."""
     paths = {crate: [*planted(crate), *of_rt_ci(crate)] for crate in crates}
-    gone = [it for it in of_gate() if not it.is_file()]
+    gone = [it for it in must_be_refused() if not it.is_file()]
     for path in gone:
         print(f"{path.relative_to(ROOT)}: docs/TESTING.md lists it, but it is not there", flush=True)
     failed = sum(read_edits(crate, of_crate)[1] for crate, of_crate in paths.items())
@@ -213,11 +213,11 @@ def is_ready(crate):
     return all(os.path.isdir(it.rlib) for it in below)
 
 
-def try_in_gate(engine, crates, minutes, jobs):
-    """Tries the edits that the gate has to try, lowest crates first, as long as there is time. Says why the others aren't tried. How
-    many were tried, as a text, and how many weren't refused."""
+def try_after_ci(engine, crates, minutes, jobs):
+    """Tries the edits that the page lists, lowest crates first, as long as there is time. Says why the others aren't tried. How many
+    were tried, as a text, and how many weren't refused."""
     tried = failed = 0
-    begun, wanted = time.monotonic(), set(of_gate())
+    begun, wanted = time.monotonic(), set(must_be_refused())
     for crate in crates:
         edits, bad = read_edits(crate, sorted(wanted.intersection(planted(crate))))
         failed += bad
@@ -235,7 +235,7 @@ def main():
     words = argparse.ArgumentParser(description=__doc__, formatter_class=argparse.RawDescriptionHelpFormatter)
     words.add_argument("crates", nargs="*", metavar="CRATE")
     words.add_argument("--alone", action="store_true", help="try each edit by itself, which takes longer")
-    words.add_argument("--gate", type=float, metavar="MINUTES", help="try the bodies that must be refused, begun within this time")
+    words.add_argument("--after-ci", type=float, metavar="MINUTES", help="try the bodies that must be refused, begun within this time")
     words.add_argument("--look", action="store_true", help="only look whether each edit can be applied")
     words.add_argument("--list", action="store_true", help="only list the edits that rt ci tries")
     words.add_argument("--jobs", type=int, default=2, help="processors for a check")
@@ -254,10 +254,10 @@ def main():
         looked, failed = look(crates)
         print(f"{looked} edits looked at, {failed} wrong")
         return 1 if failed else 0
-    if given.gate is None:
+    if given.after_ci is None:
         tried, failed = try_all(engine, crates, given.alone, given.jobs)
     else:
-        tried, failed = try_in_gate(engine, crates, given.gate, given.jobs)
+        tried, failed = try_after_ci(engine, crates, given.after_ci, given.jobs)
     print(f"{tried} edits tried, {failed} not refused")
     return 1 if failed else 0
 

@@ -51,8 +51,8 @@ where
     }
 }
 
-/// A hub over a store with the documents of these files. The program ends once it has done with the hub, which frees all at once: so
-/// nothing drops it.
+/// A hub over a store with the documents of these files. Fails as `load_all` does. Nothing drops the hub: the program ends right
+/// after it, and then the system frees all memory at once.
 fn hub_with<R, E>(
     rt: &R,
     standard_error: &E,

@@ -12,7 +12,8 @@ use std::rt::Files;
 use std::{fs, io};
 
 /// Loads the documents of these files, in their order. Fails with `CannotRead` if a file can't be opened or not be read to its end,
-/// and else with the fault of the first load that has one. If standard error is a terminal, it shows how far a long load is.
+/// and else with the fault of the first load that has one; what was loaded before it stays. If standard error is a terminal, it
+/// shows how far a long load is.
 pub fn load_all<R, E>(
     rt: &R,
     standard_error: &E,
