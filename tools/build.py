@@ -2,8 +2,8 @@
 """Builds docd: proves each crate that it uses, lowest first, then docd itself, and links the program.
 
 It forecasts from tools/proof_seconds.txt how long that takes. It prints which crate it is proving, how long each took, and what
-is left. An interrupted build continues where it stopped, since each crate keeps its work in its folder `out`. The output of
-the prover is in crates/docd/out/build.log. A fault is printed in one line, and the exit status is then 1.
+is left. An interrupted build continues with the crates that it had not proved. The output of the prover is in
+crates/docd/out/build.log. A fault is printed in one line, and the exit status is then 1.
 
 Crates of which none uses another are proved side by side, each with as many processors as memory allows. The one with the
 longest chain of crates that wait for it comes first, and the others get what it leaves. (With the kit's `rt lib` each would
@@ -35,7 +35,7 @@ A_CHECK = 3 << 30  # bytes of memory that one crate's check may take
 A_JOB = 7 << 28  # bytes that each processor of a check may take
 LARGE = {"dv_scripts": 9 << 29, "dv_serving": 5 << 30}  # the same of crates that take more; each gets half the processors, so that both have room
 SIDE_BY_SIDE = 3  # crates that are proved at once, since each leaves processors alone for a while
-ALL_WORK = 16 << 30  # bytes that the crates' work takes on disk
+ALL_WORK = 5 << 30  # bytes that the crates' work takes on disk
 SHARED = 1.25  # how much more processor time a check takes that several processors share
 FEWER = 2  # the share of the processors that a crate beside another one gets: each reads the libraries once more, a quarter of a small crate's work
 LESS_URGENT = 6  # by how much the priority of a crate is lower, in the system's `nice`, for each that goes before it
@@ -120,9 +120,20 @@ def prove(kit, name, jobs):
     os.makedirs("out", exist_ok=True)
     kit.guarded()
     if name != PROGRAM:
-        return crate.build_rlib(["--jobs", str(jobs)], anew=False)
+        kit.Crate.cuts_libraries = True
+        return prove_library(crate, jobs)
     crate.held = []
     return crate.run(["--jobs", str(jobs)], ["run", "--hex"], tests=False)
+
+
+def prove_library(crate, jobs):
+    """Proves a library and keeps what it states, without the proofs, which no crate above it needs. The kit leaves such a library without
+    its stamp, since the libraries below might be built anew; here they are not, unless their sources change."""
+    stamp = crate.stamp()
+    status = crate.build_rlib(["--jobs", str(jobs)], anew=True)
+    if status == 0 and crate.stamp() == stamp:
+        pathlib.Path(crate.rlib).with_name("stamp").write_text(stamp)
+    return status
 
 
 def failure(name, status):
@@ -184,7 +195,7 @@ class Build:
         """Ends what still runs: the check of each crate, with which the kit ends the prover."""
         for process, _, _ in self.running.values():
             with contextlib.suppress(ProcessLookupError):  # it has ended meanwhile
-                os.killpg(process.pid, signal.SIGINT)
+                os.killpg(process.pid, signal.SIGTERM)  # (what a shell runs in the background ignores SIGINT)
         for process, _, _ in self.running.values():
             process.wait()
 

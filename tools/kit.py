@@ -3,7 +3,8 @@
 The kit's command `rt` is a Python program, which these tools load as a module. Nothing in it is changed. Of `rtlib`, which it
 brings, they call `crates_below`, `kit_sources`, `lock`, `guarded`, `text_of` and `sum_of`, and of a crate `below`, `is_built`,
 `has_kept`, `stamp`, `sources_below`, `build_rlib` and `run`. They read `KIT` and a crate's `name`, `folder`, `rlib`, `deps` and `of_kit`,
-and set its `held`. tools/check/planted.py calls the engine of `rt must-fail` too: `checked`, `unread` and `must_fail`.
+set its `held` and the class's `cuts_libraries`, and write the file `stamp` beside a library. tools/check/planted.py calls the engine
+of `rt must-fail` too: `checked`, `unread` and `must_fail`.
 """
 import importlib.machinery
 import importlib.util
