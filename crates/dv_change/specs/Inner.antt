@@ -12,7 +12,6 @@ pub mod Answered
 pub mod Ordered
 pub mod RowLaws
 pub mod Work
-pub mod Telling
 pub mod Told
 pub mod ToldLaws
 pub mod Fed

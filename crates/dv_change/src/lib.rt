@@ -23,7 +23,7 @@ mod turn;
 
 pub use chain::Chain;
 pub use change::Change;
-pub use handing::{hand_on, hand_over, hand_over_at};
+pub use handing::{hand_over, hand_over_at};
 pub use input::Input;
 pub use keeping::Keeping;
 pub use operator::Operator;

@@ -2,13 +2,13 @@
 
 ghost use Rattle.std.specs.Prelude.{OnOk};
 
-use dv_change::{Change, Input, Ordered, Part, Pos, Taken, Ticks, Turn, hand_on, take_in};
+use dv_change::{Change, Input, Ordered, Part, Pos, Taken, Ticks, Turn, hand_over, take_in};
 use dv_flow::{LimitTurn, MatchTurn, ProjectTurn, SortTurn, UnwindTurn};
 use dv_match::Filter;
 use dv_path::SortSpec;
 use dv_row::{Project, Unwind};
 use dv_testing::spelled::document;
-use dv_value::{Str, Value};
+use dv_value::{Document, Str, Value};
 use std::alloc::Global;
 use std::collections::BTreeMap;
 use std::test::Fail;
@@ -87,6 +87,23 @@ const ROWS: [&[u8]; 3] = [
     b"\x13\0\0\0\x10k\0\x02\0\0\0\x10a\0\x08\0\0\0\0",
 ];
 
+/// The number under `a` in a row.
+fn number_in(row: &Option<Document>) -> Option<i32> {
+    match row.as_ref()?.get("a") {
+        Some(Value::Int32(number)) => Some(*number),
+        _ => None,
+    }
+}
+
+/// That number in the old row and in the new one of each change, in order.
+fn rows_told(alloc: Global, all: &Vec<Taken>) -> Result<Vec<(Option<i32>, Option<i32>)>, Fail> {
+    let mut rows = Vec::new(alloc);
+    for Taken { old, new, .. } in all {
+        rows.push((number_in(old), number_in(new)))?;
+    }
+    Ok(rows)
+}
+
 #[test]
 fn a_row_that_is_taken_in_is_handed_on(rt: HostRuntime) -> Result<(), Fail> {
     let alloc = rt.alloc();
@@ -97,10 +114,13 @@ fn a_row_that_is_taken_in_is_handed_on(rt: HostRuntime) -> Result<(), Fail> {
     };
     let (mut ticks, mut out) = (Ticks::new(), Vec::new(alloc));
     let made = Ordered::new(alloc).with(pos, row)?;
-    hand_on(&none, &made, &mut ticks, &mut out)?;
-    hand_on(&made, &none, &mut ticks, &mut out)?;
-    let told = told_by(alloc, &out)?;
-    assert_eq!(rt; told.as_slice(), [(1, Some(7)), (1, None)].as_slice());
+    hand_over(&none, &made, &mut ticks, &mut out)?;
+    hand_over(&made, &none, &mut ticks, &mut out)?;
+    let rows = rows_told(alloc, &out)?;
+    assert_eq!(rt;
+        rows.as_slice(),
+        [(None, Some(7)), (Some(7), None)].as_slice()
+    );
     assert_eq!(rt; ticks.count(), 4);
     Ok(())
 }

@@ -1,5 +1,5 @@
 -- Changes that tell what stood at their positions.
-use Rattle.std.specs.Prelude.{◌≡◌, ◌+◌, Bool, is_none, ℕ, zero, suc, List, [], ◌∷◌, ◌++◌, Option, None, Some, length, map}
+use Rattle.std.specs.Prelude.{◌≡◌, ◌+◌, Bool, is_none, not, if◌then◌else◌, ℕ, zero, suc, List, [], ◌∷◌, ◌++◌, Option, None, Some, length, map}
 use Rattle.std.specs.List.{AllByRecursion, filter}
 use Rattle.dv_value.specs.Tree.{Field}
 use Rattle.dv_change.specs.declared.change.Change.{Change}
@@ -51,6 +51,13 @@ puts_told old new = map (put_told old) (filter (row_differs old) new)
 
 abbrev pub diff_told : Positioned → Positioned → List Taken
 diff_told old new = gones_told old new ++ puts_told old new
+
+-- the same of one row: that it goes where no new one stands at its position, or comes where the old one isn't the same
+abbrev pub gone_if_missing : PosTree → List Field → Positioned → List Taken
+gone_if_missing pos row new = if is_none (at pos new) then gone_told (pos, row) ∷ [] else []
+
+abbrev pub put_if_other : Positioned → PosTree → List Field → List Taken
+put_if_other old pos row = if not (stands_as (at pos old) row) then put_told old (pos, row) ∷ [] else []
 
 -- whether there is no row now where there was none, or the same one
 abbrev pub is_kept : Option (List Field) → Option (List Field) → Bool

@@ -1,11 +1,11 @@
 -- What is put so far, and what is left to put, are all that goes.
 use Rattle.std.proofs.Common.{◌≡◌, ◌++◌}
 use Rattle.dv_change.specs.Inner.Beginning.{BeginsWith}
-use Rattle.dv_change.specs.Inner.Telling.{gones_by}
+use Rattle.dv_change.specs.Inner.Told.{gones_told}
 use Rattle.dv_change.proofs.handing.push_gones.Given as goal
 
 abbrev pub invariant-others : goal.invariant-others
-invariant-others g l = record {
-  out : l.out.items ++ gones_by g.T.Telling.tells l.pos-iterator l.fn.new ≡ l.fn.out.items ++ gones_by g.T.Telling.tells l.fn.old l.fn.new;
+invariant-others l = record {
+  out : l.out.items ++ gones_told l.pos-iterator l.fn.new ≡ l.fn.out.items ++ gones_told l.fn.old l.fn.new;
   begins : BeginsWith l.out.items l.fn.out.items;
 }
