@@ -10,6 +10,7 @@ use Rattle.dv_value.specs.declared.value.Value.{Value}
 use Rattle.dv_value.specs.Tree.{Tree, document, array, Field, fields_of, elements_of}
 use Rattle.dv_value.specs.View.{tree}
 use Rattle.dv_value.specs.Inner.TreeLaws.{fields_again, elements_again}
+use Rattle.dv_value.specs.Inner.ListLaws.{take-read}
 use Rattle.dv_candidates.specs.Candidates.{Candidate, entered, picked, step_from, candidates, whole, with_elements}
 use Rattle.dv_candidates.specs.Path.{index_of}
 use Rattle.dv_candidates.specs.View.{seen}
@@ -41,15 +42,10 @@ module _ {T X E : Type 0} {seen : X → Candidate} (call : T → X → Result T 
       let last : test some.last ≡ true = ap test (sym some.stops.is) ∙ passes some.reached some.stops.at e some.stops.gives in
       sym (some.only test (any-right test some.taken (some.last ∷ []) (or_left (test some.last) false last))).passes
 
-take_one_more : {X : Type 0} (xs : List X) (i : ℕ) (x : X) → i < length xs → x ≡ get_or xs i x → take (i + 1) xs ≡ take i xs ++ x ∷ []
-take_one_more [] i x within is = absurd (omega arith)
-take_one_more (y ∷ ys) zero x within is = ap (λ z. z ∷ []) (sym is)
-take_one_more (y ∷ ys) (suc i) x within is = let rest = rw add-one at (take_one_more ys i x (omega arith) is) in rw add-one (ap (λ zs. y ∷ zs) rest)
-
 -- one more item of a list that is gone through
 pub flat_more : {X Y Z : Type 0} (f : Y → List Z) (view : X → Y) (xs : List X) (i : ℕ) (x : X) → i < length xs → x ≡ get_or xs i x → flat_map f (map view (take (i + 1) xs)) ≡ flat_map f (map view (take i xs)) ++ f (view x)
 flat_more f view xs i x within is =
-    ap (λ ys. flat_map f (map view ys)) (take_one_more xs i x within is) ∙ ap (flat_map f) (map-append view (take i xs) (x ∷ [])) ∙ flat_map-append f (map view (take i xs)) (view x ∷ []) ∙ ap (λ zs. flat_map f (map view (take i xs)) ++ zs) (append-nil (f (view x)))
+    ap (λ ys. flat_map f (map view ys)) (take-read xs i x within is) ∙ ap (flat_map f) (map-append view (take i xs) (x ∷ [])) ∙ flat_map-append f (map view (take i xs)) (view x ∷ []) ∙ ap (λ zs. flat_map f (map view (take i xs)) ++ zs) (append-nil (f (view x)))
 
 -- what is added behind what there was
 pub grown : {X : Type 0} (now before start far added : List X) → now ≡ before ++ added → before ≡ start ++ far → now ≡ start ++ (far ++ added)

@@ -1,15 +1,10 @@
 -- Folds, one after another.
-use Rattle.std.proofs.Common.{◌≡◌, Bool, true, false, List, [], ◌∷◌, ◌++◌, ◌⊎◌, inl, inr, Result, Ok, Err, ◌||◌, refl, ap, sym, ◌∙◌, append_assoc, subst}
-use Rattle.std.specs.List.{list_any, flat_map, FoldsTo}
+use Rattle.std.proofs.Common.{◌≡◌, Bool, true, false, List, [], ◌∷◌, ◌++◌, ◌⊎◌, inl, inr, Result, Ok, Err, refl, sym, ◌∙◌, append_assoc, subst}
+use Rattle.std.specs.List.{list_any, FoldsTo}
 use Rattle.std.proofs.lemmas.Bool.{or_cases, or_left, or_right}
 use Rattle.std.proofs.lemmas.List.Folds.{list_any-append}
 use Rattle.dv_candidates.specs.Candidates.{Candidate}
 use Rattle.dv_candidates.specs.Inner.Fold.{FoldsOver, StopsAmong, Folded}
-
--- a test of some item behind each of a list
-pub any-flat_map : {X Y : Type 0} (test : Y → Bool) (f : X → List Y) (xs : List X) → list_any test (flat_map f xs) ≡ list_any (λ x. list_any test (f x)) xs
-any-flat_map test f [] = refl
-any-flat_map test f (x ∷ xs) = list_any-append test (f x) (flat_map f xs) ∙ ap (λ b. list_any test (f x) || b) (any-flat_map test f xs)
 
 -- what holds of tests
 abbrev pub Tests : Type 1

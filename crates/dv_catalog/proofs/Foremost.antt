@@ -7,6 +7,7 @@ use Rattle.std.specs.Option.{IfSome}
 use Rattle.std.specs.Ordering.{is_eq, is_lt, ordering_reverse}
 use Rattle.std.specs.declared.cmp.Ordering.{Ordering}
 use Rattle.std.specs.declared.cmp.Ordering.TheVariants.{Less, Equal, Greater}
+use Rattle.std.proofs.lemmas.Bool.{or_parts, and_parts}
 use Rattle.dv_value.specs.Tree.{Field}
 use Rattle.dv_coll.specs.Collection.{AreStanding, HasId, IsAscending, found, id_key}
 use Rattle.dv_keyed.specs.Inner.Ahead.{is_until}
@@ -93,14 +94,6 @@ where-until : (P : Type 0) (i : KeyTree) (until : Option (Bor KeyTree)) → is_u
 where-until P i None e h = absurd cc
 where-until P i (Some end) e h = h
 
-both-true : (a b : Bool) → a && b ≡ true → (a ≡ true) × (b ≡ true)
-both-true true b e = (refl, e)
-both-true false b e = absurd cc
-
-both-false : (a b : Bool) → a || b ≡ false → (a ≡ false) × (b ≡ false)
-both-false true b e = absurd cc
-both-false false b e = (refl, e)
-
 same-way : (b : Bool) → cond b false false ≡ false
 same-way true = refl
 same-way false = refl
@@ -124,14 +117,14 @@ module _ (p : Part) (parts : List Part) (bar : Bar) (tied : IfSome bar.until (λ
 
   is-tied : (d : List Field) → ahead d ≡ true → is-first (key d) bar.key.now ≡ false → IsTied d
   is-tied d h behind =
-      let parted = both-true (is_eq (key_order (key d) bar.key.now)) (is_until (id_key d) bar.until) (ap (λ b. b || (is_eq (key_order (key d) bar.key.now) && is_until (id_key d) bar.until)) (sym behind) ∙ h) in
+      let parted = and_parts (is_eq (key_order (key d) bar.key.now)) (is_until (id_key d) bar.until) (ap (λ b. b || (is_eq (key_order (key d) bar.key.now) && is_until (id_key d) bar.until)) (sym behind) ∙ h) in
       (equal-from (key_order (key d) bar.key.now) parted.0, parted.1)
 
   abbrev IsBehind : List Field → Type 0
   IsBehind e = (is-first (key e) bar.key.now ≡ false) × (is_eq (key_order (key e) bar.key.now) && is_until (id_key e) bar.until ≡ false)
 
   is-behind : (e : List Field) → ahead e ≡ false → IsBehind e
-  is-behind e g = both-false (is-first (key e) bar.key.now) (is_eq (key_order (key e) bar.key.now) && is_until (id_key e) bar.until) g
+  is-behind e g = or_parts (is-first (key e) bar.key.now) (is_eq (key_order (key e) bar.key.now) && is_until (id_key e) bar.until) g
 
   -- of two rows in the order of their `_id`s, the later one is sorted first where it is ahead and the other one isn't
   tied-first : (d e : List Field) → IsTied d → IsBehind e → key_order (id_key e) (id_key d) ≡ Less → is-first (key d) (key e) ≡ true
@@ -278,10 +271,6 @@ all-identified law ds those identified standing = each those standing.0
     each (d ∷ rows) all = (law (id_key d) d ds identified all.0, each rows all.1)
 
 -- ---- what is said of a value where there is one
-pub some-is : {X : Type 0} (x : X) (P : X → Type 0) (o : Option X) → o ≡ Some x → IfSome o P → P x
-some-is x P None e h = absurd cc
-some-is x P (Some y) e h = let same : y ≡ x = cc in subst P same h
-
 pub if-some-weaker : {X : Type 0} (P Q : Type 0) → (P → Q) → (o : Option X) → IfSome o (λ x. P) → IfSome o (λ x. Q)
 if-some-weaker P Q h None there = there
 if-some-weaker P Q h (Some x) there = h there

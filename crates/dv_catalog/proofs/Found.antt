@@ -8,25 +8,13 @@ use Rattle.std.specs.BTreeSet.{BTreeSet, contains_text}
 use Rattle.std.specs.List.{list_any}
 use Rattle.std.specs.Str.{bytes_eq}
 use Rattle.std.specs.declared.string.String.{String}
+use Rattle.std.proofs.lemmas.Bool.{and_parts}
 use Rattle.dv_catalog.specs.Inner.ComingParts.{AreFound, joined}
 use Rattle.dv_catalog.specs.IndexMaking.{is_alike, is_same}
-use Rattle.dv_catalog.specs.Inner.StateLaws.{bytes_eq-symmetric}
+use Rattle.dv_value.specs.Inner.ByteLaws.{bytes_eq-symmetric}
 use Rattle.dv_keyed.specs.Choice.{same_path}
 use Rattle.dv_keyed.specs.Index.{IndexForm}
-
-both_are : (a b : Bool) → a && b ≡ true → (a ≡ true) × (b ≡ true)
-both_are true b h = (refl, h)
-both_are false b h = absurd cc
-
-same_path_is : (p q : List (List ℕ)) → same_path p q ≡ true → p ≡ q
-same_path_is [] [] h = refl
-same_path_is [] (d ∷ q) h = absurd cc
-same_path_is (c ∷ p) [] h = absurd cc
-same_path_is (c ∷ p) (d ∷ q) h =
-    let both = both_are (bytes_eq c d) (same_path p q) h in
-    let first : c ≡ d = (bytes_eq-Decides c d).0 both.0 in
-    let rest : p ≡ q = same_path_is p q both.1 in
-    λ i. first i ∷ rest i
+use Rattle.dv_keyed.specs.Inner.ListLaws.{one-path}
 
 or_true : (b c : Bool) → c ≡ true → b || c ≡ true
 or_true true c h = refl
@@ -55,12 +43,12 @@ module _ {Y : Type 0} (names : BTreeMap (String Y) ℕ) (paths : BTreeSet (Strin
 
   path_absent : contains_text paths (joined x.path) ≡ false → list_any (λ y. same_path x.path y.path) forms ≡ false
   path_absent none = false_unless _ (λ some.
-      let texts = any_weaker (λ y. same_path x.path y.path) (λ y. bytes_eq (joined x.path) (joined y.path)) (λ y same. (bytes_eq-Decides (joined x.path) (joined y.path)).1 (ap joined (same_path_is x.path y.path same))) forms some in
+      let texts = any_weaker (λ y. same_path x.path y.path) (λ y. bytes_eq (joined x.path) (joined y.path)) (λ y same. (bytes_eq-Decides (joined x.path) (joined y.path)).1 (ap joined (one-path x.path y.path same))) forms some in
       let f : true ≡ false = sym (found.pathed (joined x.path) texts) ∙ none in cc)
 
   pub none_same : is_some (get_by_text names x.name) ≡ false → list_any (is_same x) forms ≡ false
   none_same none = false_unless _ (λ some.
-      let named = any_weaker (is_same x) (λ y. bytes_eq x.name y.name) (λ y same. let front = both_are (bytes_eq x.name y.name && same_path x.path y.path) (beq x.unique y.unique) same in (both_are (bytes_eq x.name y.name) (same_path x.path y.path) front.0).0) forms some in
+      let named = any_weaker (is_same x) (λ y. bytes_eq x.name y.name) (λ y same. let front = and_parts (bytes_eq x.name y.name && same_path x.path y.path) (beq x.unique y.unique) same in (and_parts (bytes_eq x.name y.name) (same_path x.path y.path) front.0).0) forms some in
       let f : true ≡ false = sym named ∙ name_absent none in cc)
 
   pub none_alike : is_some (get_by_text names x.name) ≡ false → contains_text paths (joined x.path) ≡ false → list_any (is_alike x) forms ≡ false

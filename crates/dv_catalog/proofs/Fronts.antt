@@ -1,5 +1,5 @@
 -- Stages in front of a pipeline that are a find, and stages that look into nothing.
-use Rattle.std.proofs.Common.{◌≡◌, ◌∙◌, ◌≤◌, ap, sym, refl, ℕ, zero, suc, Bool, true, false, not, ◌&&◌, List, [], ◌∷◌, ◌++◌, Option, Some, None, take, map, is_some, arith}
+use Rattle.std.proofs.Common.{◌≡◌, ◌∙◌, ap, sym, refl, ℕ, Bool, true, false, not, ◌&&◌, List, [], ◌∷◌, ◌++◌, Option, Some, None, take, map, is_some, arith, take-take}
 use Rattle.std.proofs.lemmas.List.{take-map}
 use Rattle.std.specs.List.{list_all}
 use Rattle.std.specs.Option.{option_map}
@@ -59,11 +59,6 @@ module _ (source : List ℕ) (lists others : Lists) where
       ap (λ foreign. through later source lists (looked_up l (through ss source others (stage s rows foreign)) (lists (beside source l.from)))) (sym (foreign-same (from_of s) (and-left (looks_nowhere s) (list_all looks_nowhere ss) nowhere)))
       ∙ by_lookup ss later l (stage s rows (foreign_of s source lists)) (and-right (looks_nowhere s) (list_all looks_nowhere ss) nowhere)
 
-take-twice : {X : Type 0} (n : ℕ) (xs : List X) → take n (take n xs) ≡ take n xs
-take-twice zero xs = refl
-take-twice (suc n) [] = refl
-take-twice (suc n) (x ∷ xs) = ap (λ l. x ∷ l) (take-twice n xs)
-
 front-map : (f : Row → Row) (most : Option ℕ) (rows : List Row) → map f (front most rows) ≡ front most (map f rows)
 front-map f None rows = refl
 front-map f (Some n) rows = sym (take-map f n rows)
@@ -72,7 +67,7 @@ front-map f (Some n) rows = sym (take-map f n rows)
 pub wanted_enough : (ss : List Stage) (source : List ℕ) (lists : Lists) (rows : List Row) → through ss source lists (front (wanted ss) rows) ≡ through ss source lists rows
 unfolding through stage looked_up
 wanted_enough [] source lists rows = refl
-wanted_enough (stages.Limit n ∷ ss) source lists rows = ap (through ss source lists) (take-twice n rows)
+wanted_enough (stages.Limit n ∷ ss) source lists rows = ap (through ss source lists) (take-take n n rows (omega arith))
 wanted_enough (stages.Match form ∷ ss) source lists rows = refl
 wanted_enough (stages.Project p ∷ ss) source lists rows = ap (through ss source lists) (front-map _ (wanted ss) rows) ∙ wanted_enough ss source lists (stage (stages.Project p) rows [])
 wanted_enough (stages.Unwind u ∷ ss) source lists rows = refl

@@ -3,6 +3,7 @@ use Rattle.std.proofs.Common.{◌≡◌, ◌⊎◌, inl, inr, ◌||◌, not, ℕ
 use Rattle.std.proofs.lemmas.Slice.Eq.{bytes_eq-Decides}
 use Rattle.std.specs.List.{list_any}
 use Rattle.std.specs.Str.{bytes_eq}
+use Rattle.std.proofs.lemmas.List.{map-append}
 use Rattle.dv_refusal.specs.declared.refusal.Refusal.{Refusal}
 use Rattle.dv_refusal.specs.declared.refusal.Refusal.TheVariants.{WantOfMemory}
 use Rattle.dv_pipe.specs.declared.stage.Stage.{Stage}
@@ -11,12 +12,13 @@ use Rattle.dv_views.specs.Inner.Made.{IsCreated}
 use Rattle.dv_views.specs.Views.{View}
 use Rattle.dv_views.specs.Inner.Views.{AreRight, ArePartlyRefreshed, IsRefusedFor, Views, view_form, views_without}
 use Rattle.dv_views.specs.declared.fault.ViewFault.{ViewFault}
+use Rattle.dv_views.specs.Inner.FormLaws.{same_forms}
 use Rattle.dv_catalog.specs.Inner.CatalogParts.{IsKept, mark_of, marked_of, marks_of, state_of}
 use Rattle.dv_catalog.specs.Marks.{ArePartlyRead, Mark, Marks, live, marks_read}
 use Rattle.dv_catalog.specs.Inner.Parts.{StandMade}
 use Rattle.dv_catalog.specs.State.{Namespaces, State, has_name, is_collection, is_view, lists_of, without_view}
 use Rattle.dv_catalog.specs.Views.{view_refusal, with_view, with_view_by, with_views}
-use Rattle.dv_catalog.proofs.Refreshed.{fresh_mark, partly_forms, partly_marks, refreshed_marks}
+use Rattle.dv_catalog.proofs.Refreshed.{fresh_mark, partly_marks, refreshed_marks}
 
 -- ---- kept, where the views' forms stay
 
@@ -27,10 +29,6 @@ kept_forms namespaces before after forms right kept = record {
 }
 
 -- ---- a new view
-
-forms_more : (vs : Views) (v : View) → map view_form (vs ++ v ∷ []) ≡ map view_form vs ++ view_form v ∷ []
-forms_more [] v = refl
-forms_more (w ∷ vs) v = ap (λ (rest : List ViewForm). view_form w ∷ rest) (forms_more vs v)
 
 marks_more : (vs : Views) (v : View) → marks_of (vs ++ v ∷ []) ≡ marks_of vs ++ mark_of v.mark ∷ []
 marks_more [] v = refl
@@ -72,8 +70,8 @@ module _ (name source : List ℕ) (stages : List Stage) (namespaces : Namespaces
     created_forms : map view_form after ≡ forms ++ form ∷ []
     created_forms =
         ap (map view_form) created.added.last
-        ∙ forms_more created.refreshed created.added.view
-        ∙ (λ i. partly_forms (needed forms (names_read stages source)) before created.refreshed created.read.0 i ++ created.added.form i ∷ [])
+        ∙ map-append view_form created.refreshed (created.added.view ∷ [])
+        ∙ (λ i. same_forms (needed forms (names_read stages source)) before created.refreshed created.read.0 i ++ created.added.form i ∷ [])
 
     pub kept_new : is_collection name namespaces ≡ false → AreRight (lists_of namespaces) after → IsKept namespaces before → IsKept namespaces after
     kept_new none right kept = record {

@@ -1,6 +1,5 @@
 -- How views stand behind changes.
 use Rattle.std.proofs.Common.{◌≡◌, ◌⊎◌, ◌<◌, inl, inr, is_some, take, arith, ℕ, Bool, true, false, if◌then◌else◌, List, [], ◌∷◌, not, map, length, Result, Ok, Err, refl, sym, ap, subst, ◌∙◌}
-use Rattle.dv_change.specs.Raised.{raised}
 use Rattle.dv_change.specs.declared.change.Change as flow
 use Rattle.dv_change.specs.declared.taking.Taken as taking
 use Rattle.dv_change.specs.Inner.Told.{changes_told}
@@ -27,13 +26,14 @@ use Rattle.dv_catalog.specs.Inner.EffectLaws.{done_changes}
 use Rattle.dv_catalog.specs.Inner.EffectView.{AreAble}
 use Rattle.dv_catalog.specs.Effects.{all_or_first, changed_by, delete_chosen, put_new, update_chosen, without as all_going}
 use Rattle.dv_catalog.specs.Inner.Parts.{IsCut, IsRefused, StandBy, changes_made}
-use Rattle.dv_catalog.specs.Marks.{AreMarkedBy, AreMarkedByDrop, AreMarkedSo, AreMarkedWhere, IsMarkedBy, Mark, Marked, Marks, live, mark_counted, marks_without, stale}
+use Rattle.dv_catalog.specs.Marks.{AreMarkedBy, AreMarkedByDrop, AreMarkedSo, AreMarkedWhere, IsMarkedBy, Mark, Marked, Marks, live, marks_without, stale}
 use Rattle.dv_catalog.specs.State.{AreOrdered, Collection, Namespaces, State, is_collection, lists_of}
 use Rattle.dv_catalog.specs.Told.{told}
 use Rattle.dv_catalog.specs.Inner.Told.{AreTold}
 use Rattle.dv_catalog.proofs.Breaking.{idle_done}
 use Rattle.dv_catalog.proofs.Keeping.{MadeAsTold, reads_forms}
 use Rattle.dv_catalog.proofs.Stopping.{take_none}
+use Rattle.dv_catalog.specs.Inner.MarkLaws.{nothing_counted, one_unmarked}
 
 -- ---- behind changes
 
@@ -92,13 +92,6 @@ module _ (made : MadeAsTold) (unread : UnreadIsNotCounted) (lists : Lists) (name
       marked_each (shares namespace (map told changes) lists (map view_form vs)) vs ws (subst (λ (ss : List Share). AreCounted ss vs ws) same (counts lists all olds right))
 
 -- without changes they stand as they stood
-nothing_more : (n : ℕ) → raised n 0 ≡ n
-nothing_more n = omega arith
-
-nothing_counted : (mark : Mark) → mark_counted nothing mark ≡ mark
-nothing_counted (live ticks) = ap live (nothing_more ticks)
-nothing_counted stale = refl
-
 no_shares : (namespace : List ℕ) (lists : Lists) (forms : List ViewForm) → shares namespace [] lists forms ≡ map (λ v. nothing) forms
 unfolding shares
 no_shares namespace lists forms = refl
@@ -113,10 +106,6 @@ unmarked namespace changes lists forms marks none =
     subst (λ (all : List Share). AreMarkedSo all marks marks) (sym (ap (λ (cs : List Change). shares namespace (map told cs) lists forms) none ∙ no_shares namespace lists forms)) (unmarked_by forms marks)
 
 -- and where they were told of no changes they stand as before
-one_unmarked : (before after : Mark) → IsMarkedBy nothing before after → after ≡ before
-one_unmarked before after (inl is) = is ∙ nothing_counted before
-one_unmarked before after (inr struck) = let no : false ≡ true = struck.reached in absurd (cc no)
-
 unmarked_after : (forms : List ViewForm) (before after : Marks) → AreMarkedSo (map (λ v. nothing) forms) before after → after ≡ before
 unmarked_after [] before after are = are
 unmarked_after (v ∷ forms) [] after are = are

@@ -5,6 +5,7 @@ use Rattle.std.specs.List.{list_any}
 use Rattle.std.specs.Option.{option_and_then}
 use Rattle.std.specs.Result.{IsErr}
 use Rattle.std.specs.Str.{bytes_eq}
+use Rattle.std.proofs.lemmas.Bool.{or_parts}
 use Rattle.dv_value.specs.Tree.{Field}
 use Rattle.dv_pipe.specs.Stages.{Lists}
 use Rattle.dv_views.specs.Forms.{ViewForm, is_name_among, needed, rows_over}
@@ -13,11 +14,12 @@ use Rattle.dv_views.specs.Views.{View}
 use Rattle.dv_views.specs.Inner.Views.{AreNamedApart, ArePartlyRefreshed, AreRefreshed, AreRight, IsJustMade, IsPartlyRefreshed, Views, view_form, is_view_named, has_view, is_stale, kept_rows, rows_shown, view_under}
 use Rattle.dv_views.specs.Views as views
 use Rattle.dv_views.specs.Inner.Views as views_inner
+use Rattle.dv_views.specs.Inner.FormLaws.{same_forms}
 use Rattle.dv_catalog.specs.Inner.CatalogParts.{AreLive, mark_of, marked_of, marks_of, rows_kept, rows_or, state_of}
 use Rattle.dv_catalog.specs.Marks.{ArePartlyNamed, ArePartlyRead, IsPartlyRead, Marked, Marks, live, mark_read, marks_named, marks_read, stale}
 use Rattle.dv_catalog.specs.Inner.Parts.{Reads}
 use Rattle.dv_catalog.specs.State.{Namespaces, State, documents_of, lists_of, rows_of}
-use Rattle.dv_catalog.proofs.Keeping.{neither, view_forms}
+use Rattle.dv_catalog.proofs.Keeping.{view_forms}
 
 pub same_state : (namespaces : Namespaces) (before after : Views) → map view_form after ≡ map view_form before → state_of namespaces after ≡ state_of namespaces before
 same_state namespaces before after forms = λ i. record { namespaces = namespaces; views = forms i }
@@ -41,16 +43,6 @@ stands_one v true live_now = live_mark v.mark (live_now refl)
 stands_one v false live_now = refl
 
 module _ (names : List (List ℕ)) where
-  form_one : (v w : View) → IsPartlyRefreshed names v w → view_form w ≡ view_form v
-  form_one v w (inl same) = ap view_form same
-  form_one v w (inr (named, made)) = made.form
-
-  pub partly_forms : (vs ws : Views) → ArePartlyRefreshed names vs ws → map view_form ws ≡ map view_form vs
-  partly_forms [] [] all = refl
-  partly_forms [] (w ∷ ws) all = absurd all
-  partly_forms (v ∷ vs) [] all = absurd all
-  partly_forms (v ∷ vs) (w ∷ ws) all = λ i. form_one v w all.0 i ∷ partly_forms vs ws all.1 i
-
   -- a view that was stale has its rows now
   made_mark : (v w : View) → views_inner.IsMadeAnew v w → mark_of w.mark ≡ mark_read (mark_of v.mark)
   made_mark v w made = fresh_mark w.mark made.fresh ∙ sym (ap mark_read (stale_mark v.mark made.stale))
@@ -99,7 +91,7 @@ module _ (names : List (List ℕ)) where
 
   pub none_stale : (vs : Views) → list_any (λ v. is_stale v.mark) vs ≡ false → AreLive names vs
   none_stale [] none = tt
-  none_stale (v ∷ vs) none = let both = neither (is_stale v.mark) (list_any (λ w. is_stale w.mark) vs) none in ((λ _. both.0), none_stale vs both.1)
+  none_stale (v ∷ vs) none = let both = or_parts (is_stale v.mark) (list_any (λ w. is_stale w.mark) vs) none in ((λ _. both.0), none_stale vs both.1)
 
   pub fewer_live : (others : List (List ℕ)) → ((name : List ℕ) → is_name_among name names ≡ true → is_name_among name others ≡ true) → (vs : Views) → AreLive others vs → AreLive names vs
   fewer_live others among [] all = tt
@@ -132,9 +124,9 @@ module _ (names : List (List ℕ)) where
       pub reads_refreshed : {B E : Type 0} (result : Result B E) → OnOk result (AreRefreshed those vs ws) → OnErr result (ArePartlyRefreshed those vs ws) → Reads names (marked_of namespaces vs) result (marked_of namespaces ws)
       reads_refreshed (Ok x) ok err =
           let all : AreRefreshed (needed (map view_form vs) names) vs ws = subst (λ (ns : List (List ℕ)). AreRefreshed ns vs ws) are ok in
-          λ i. record { state = same_state namespaces vs ws (partly_forms those vs ws ok.0) i; marks = refreshed_marks (needed (map view_form vs) names) vs ws all.0 all.1 i }
+          λ i. record { state = same_state namespaces vs ws (same_forms those vs ws ok.0) i; marks = refreshed_marks (needed (map view_form vs) names) vs ws all.0 all.1 i }
       reads_refreshed (Err e) ok err =
-          (same_state namespaces vs ws (partly_forms those vs ws err), partly_marks (needed (map view_form vs) names) vs ws (subst (λ (ns : List (List ℕ)). ArePartlyRefreshed ns vs ws) are err))
+          (same_state namespaces vs ws (same_forms those vs ws err), partly_marks (needed (map view_form vs) names) vs ws (subst (λ (ns : List (List ℕ)). ArePartlyRefreshed ns vs ws) are err))
 
       pub live_refreshed : {B E : Type 0} → AskedIsNeeded → (result : Result B E) → OnOk result (AreRefreshed those vs ws) → OnOk result (AreLive names ws)
       live_refreshed law (Ok x) ok = fewer_live names those (λ name among. subst (λ (ns : List (List ℕ)). is_name_among name ns ≡ true) (sym are) (law (map view_form vs) names name among)) ws ok.1

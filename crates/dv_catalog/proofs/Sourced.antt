@@ -13,7 +13,7 @@ use Rattle.dv_views.specs.Inner.Made.{AreAlike}
 use Rattle.dv_views.specs.Placed.{lookups_of, names_with}
 use Rattle.dv_catalog.specs.Inner.SourceParts.{with_list, with_list_where}
 use Rattle.dv_catalog.specs.State.{AreOrdered}
-use Rattle.dv_catalog.specs.Inner.StateLaws.{bytes_eq-symmetric}
+use Rattle.dv_value.specs.Inner.ByteLaws.{bytes_eq-symmetric}
 use Rattle.dv_catalog.proofs.Keys.{none_ordered}
 
 abbrev pub is_listed : List ℕ → List Source → Bool

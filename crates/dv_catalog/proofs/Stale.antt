@@ -3,19 +3,19 @@ use Rattle.std.proofs.Common.{◌≡◌, ◌||◌, ℕ, Bool, true, false, if◌
 use Rattle.std.proofs.lemmas.Slice.Eq.{bytes_eq-Decides}
 use Rattle.std.specs.List.{AllByRecursion, IsDistinct}
 use Rattle.std.specs.Str.{bytes_eq}
+use Rattle.std.proofs.lemmas.Bool.{or_parts}
 use Rattle.dv_views.specs.Forms.{is_name_among}
 use Rattle.dv_views.specs.Inner.Examples.{over_lists}
 use Rattle.dv_views.specs.Views.{View}
 use Rattle.dv_views.specs.Inner.Views.{AreNamedApart, Views, view_under}
 use Rattle.dv_catalog.specs.Marks.{LiveReadNoStale, live, stale}
 use Rattle.dv_catalog.specs.Inner.CatalogParts.{AreLive, is_one_stale, is_stale_view}
-use Rattle.dv_catalog.specs.Inner.StateLaws.{bytes_eq-symmetric}
-use Rattle.dv_catalog.proofs.Keeping.{neither}
+use Rattle.dv_value.specs.Inner.ByteLaws.{bytes_eq-symmetric}
 
 none_named_stale : (vs : Views) (names : List (List ℕ)) → is_one_stale names vs ≡ false → (name : List ℕ) → is_name_among name names ≡ true → is_stale_view (view_under name vs) ≡ false
 none_named_stale vs [] none name among = absurd cc
 none_named_stale vs (other ∷ names) none name among =
-    let both = neither (is_stale_view (view_under other vs)) (is_one_stale names vs) none in
+    let both = or_parts (is_stale_view (view_under other vs)) (is_one_stale names vs) none in
     by_name (bytes_eq name other) refl both.0 (none_named_stale vs names both.1 name) among
   where
     by_name : (b : Bool) → bytes_eq name other ≡ b → is_stale_view (view_under other vs) ≡ false → (is_name_among name names ≡ true → is_stale_view (view_under name vs) ≡ false) → b || is_name_among name names ≡ true → is_stale_view (view_under name vs) ≡ false

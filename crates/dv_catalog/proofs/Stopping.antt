@@ -1,7 +1,8 @@
 -- Changes that are made one after the other, all of them or some.
-use Rattle.std.proofs.Common.{◌≡◌, ◌<◌, ◌≤◌, arith, take-take, ◌+◌, ◌++◌, ◌⊎◌, inl, inr, ℕ, Bool, true, is_some, if◌then◌else◌, zero, suc, List, [], ◌∷◌, length, map, take, drop, drop-cons, add-one, get_or, Result, Err, refl, sym, ap, subst, ◌∙◌, append_assoc, length-append}
+use Rattle.std.proofs.Common.{◌≡◌, ◌<◌, ◌≤◌, arith, take-take, ◌+◌, ◌++◌, ◌⊎◌, inl, inr, ℕ, Bool, true, is_some, if◌then◌else◌, zero, suc, List, [], ◌∷◌, length, map, take, drop, get_or, Result, Err, refl, sym, ap, subst, ◌∙◌, append_assoc, length-append}
 use Rattle.std.proofs.lemmas.List.{map_push}
 use Rattle.dv_value.specs.Tree.{Field}
+use Rattle.dv_value.specs.Inner.ListLaws.{drop-read}
 use Rattle.dv_refusal.specs.declared.refusal.Refusal.{Refusal}
 use Rattle.dv_refusal.specs.declared.refusal.Refusal.TheVariants.{WantOfMemory}
 use Rattle.dv_index.specs.Indexed.{IndexedTree}
@@ -23,10 +24,6 @@ take_shorter zero [] = (omega arith, omega arith)
 take_shorter zero (x ∷ xs) = (omega arith, omega arith)
 take_shorter (suc n) [] = (omega arith, omega arith)
 take_shorter (suc n) (x ∷ xs) = let rest = take_shorter n xs in (omega (arith, rest.0), omega (arith, rest.1))
-
--- the item at a place, and those behind it
-pub next_item : {X : Type 0} (all : List X) (place : ℕ) (x : X) → place < length all → x ≡ get_or all place x → drop place all ≡ x ∷ drop (place + 1) all
-next_item {X = X} all place x within is = rw (add-one, drop-cons all place x) (ap (λ (y : X). y ∷ drop (suc place) all) (sym is))
 
 -- ---- a statement that stops before its first change
 
@@ -94,7 +91,7 @@ module _ {X : Type 0} (change : X → Change) (old : IndexedTree) (all : List X)
   pub made_next : (place : ℕ) (x : X) (now next : IndexedTree) → place < length all → x ≡ get_or all place x → AreMadeSoFar change old all place (drop place all) now → next ≡ with_documents (with_change now.documents (change x)) now
       → AreMadeSoFar change old all (place + 1) (drop (place + 1) all) next
   made_next place x now next within is so_far goes =
-      made_more place x (drop (place + 1) all) now next (subst (λ (left : List X). AreMadeSoFar change old all place left now) (next_item all place x within is) so_far) goes
+      made_more place x (drop (place + 1) all) now next (subst (λ (left : List X). AreMadeSoFar change old all place left now) (drop-read all place x within is) so_far) goes
 
 -- a document that is put where one is
 pub put_replaced : (d : List Field) (ds : List (List Field)) → is_some (found (id_key d) ds) ≡ true → with_put d ds ≡ replaced d ds

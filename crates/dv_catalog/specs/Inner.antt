@@ -21,3 +21,4 @@ pub mod StateLaws
 pub mod ScanLaws
 pub mod EffectLaws
 pub mod Examples
+pub mod MarkLaws

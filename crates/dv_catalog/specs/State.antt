@@ -4,7 +4,7 @@
 use Rattle.std.specs.Prelude.{◌||◌, not, Bool, ℕ, List, [], Option, Some, None, filter}
 use Rattle.std.specs.Cmp.Lexicographic.{slice_cmp}
 use Rattle.std.specs.FinMap as finite
-use Rattle.std.specs.List.{AllByRecursion, find, list_any}
+use Rattle.std.specs.List.{AllByRecursion, list_any}
 use Rattle.std.specs.Ordering.{nat_cmp}
 use Rattle.std.specs.Str.{bytes_eq}
 use Rattle.dv_value.specs.Tree.{Field}
@@ -82,10 +82,6 @@ IsOrdered state = (namespace : List ℕ) → AreOrdered (documents_of namespace 
 -- whether the view has this name
 abbrev pub has_name : List ℕ → ViewForm → Bool
 has_name namespace v = bytes_eq namespace v.name
-
--- the view with this name, if any
-abbrev pub view_named : List ℕ → List ViewForm → Option ViewForm
-view_named namespace views = find (has_name namespace) views
 
 -- whether there is a view with this name
 abbrev pub is_view : List ℕ → List ViewForm → Bool

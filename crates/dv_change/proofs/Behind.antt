@@ -7,10 +7,11 @@ use Rattle.std.specs.Cmp.{tied_itself}
 use Rattle.dv_change.specs.declared.place.Place.{Place}
 use Rattle.dv_change.specs.declared.place.Place.TheVariants.{One, Two}
 use Rattle.dv_change.specs.Positions.{PosTree, part_order, pos_order}
-use Rattle.dv_change.specs.Inner.PositionLaws.{part_order_total, then-equal}
+use Rattle.dv_change.specs.Inner.PositionLaws.{part_order_total}
 use Rattle.dv_change.specs.Inner.PartCodes.{part_top, part_high, part_low, part_of_code, first_top, first_high, first_low}
 use Rattle.dv_change.specs.Inner.Places.{parts_of, IsCodeOf, IsValid}
 use Rattle.dv_change.specs.Inner.PlaceLaws.{code_order, told_order}
+use Rattle.dv_order.specs.Inner.TotalOrder.{then_Equal}
 
 -- the first parts have one code
 abbrev pub AreAlike : PosTree → PosTree → Type 0
@@ -41,5 +42,5 @@ two_one p q t x l h y u m i e f = rw (e, f) (λ a b s. sym (ap (λ r. ordering_t
 
 pub two_two : (p q : Place) (t x l h y u v m i n : ℕ) → p ≡ Two t x l h y → q ≡ Two u v m i n → IsValid p → IsValid q → AreAlike (parts_of p) (parts_of q) → code_order x y l v n m ≡ pos_order (parts_of p) (parts_of q)
 two_two p q t x l h y u v m i n e f = rw (e, f) (λ a b s.
-    told_order x y l v n m a.1 b.1 ∙ sym (then-equal (part_order (part_of_code x y l) (part_of_code v n m)))
+    told_order x y l v n m a.1 b.1 ∙ sym (then_Equal (part_order (part_of_code x y l) (part_of_code v n m)))
     ∙ sym (ap (λ r. ordering_then r (ordering_then (part_order (part_of_code x y l) (part_of_code v n m)) Equal)) (beside t h 0 u i 0 a.0 b.0 s.0 s.1 s.2)))

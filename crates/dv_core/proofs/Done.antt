@@ -1,5 +1,6 @@
 -- What a statement does to a collection: what it does to its documents, unless that is refused for a unique key.
-use Rattle.std.proofs.Common.{◌≡◌, ◌⊎◌, inl, inr, ℕ, zero, suc, ◌||◌, Bool, true, false, List, [], ◌∷◌, take, Result, Ok, Err, refl, sym, subst}
+use Rattle.std.proofs.Common.{◌≡◌, ◌⊎◌, inl, inr, ℕ, zero, suc, Bool, false, List, [], ◌∷◌, take, Result, Ok, Err, refl, sym, subst}
+use Rattle.std.proofs.lemmas.Bool.{or_parts, or_from}
 use Rattle.dv_value.specs.Tree.{Field}
 use Rattle.dv_catalog.specs.Changes.{Change, Effect, Statement, breaks, changes_of, clashes_by, done_to, with_change}
 use Rattle.dv_catalog.specs.Inner.EffectLaws.{done_changes, done_so}
@@ -8,14 +9,6 @@ use Rattle.dv_refusal.specs.declared.refusal.Refusal.{Refusal}
 use Rattle.dv_keyed.specs.Index.{IndexForm}
 
 -- ---- none of two
-
-pub neither : (a b : Bool) → (a || b) ≡ false → (a ≡ false) × (b ≡ false)
-neither true b is = absurd cc
-neither false b is = (refl, is)
-
-pub both_false : (a b : Bool) → a ≡ false → b ≡ false → (a || b) ≡ false
-both_false true b is others = absurd cc
-both_false false b is others = others
 
 -- ---- the changes of a statement
 
@@ -42,5 +35,5 @@ front_unbroken indexes zero [] documents is = refl
 front_unbroken indexes zero (change ∷ changes) documents is = refl
 front_unbroken indexes (suc made) [] documents is = refl
 front_unbroken indexes (suc made) (change ∷ changes) documents is =
-    let (here, later) = neither (clashes_by indexes change documents) (breaks indexes changes (with_change documents change)) is in
-    both_false (clashes_by indexes change documents) (breaks indexes (take made changes) (with_change documents change)) here (front_unbroken indexes made changes (with_change documents change) later)
+    let (here, later) = or_parts (clashes_by indexes change documents) (breaks indexes changes (with_change documents change)) is in
+    or_from (clashes_by indexes change documents) (breaks indexes (take made changes) (with_change documents change)) here (front_unbroken indexes made changes (with_change documents change) later)

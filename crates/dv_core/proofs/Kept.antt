@@ -1,6 +1,7 @@
 -- What statements keep of the collection of each namespace.
 use Rattle.std.proofs.Common.{ℕ, zero, suc, Bool, true, false, cond, List, [], ◌∷◌, ◌++◌, length, map, not, take, Some, Result, Ok, Err, is_some, if◌then◌else◌, ◌≡◌, inl, inr, refl, subst}
 use Rattle.std.specs.List.{AllByRecursion}
+use Rattle.std.proofs.lemmas.Bool.{or_parts}
 use Rattle.dv_value.specs.Tree.{Field}
 use Rattle.dv_coll.specs.Collection.{found, id_key}
 use Rattle.dv_order.specs.Key.{KeyTree}
@@ -23,7 +24,7 @@ use Rattle.dv_core.specs.Storable.{storable}
 use Rattle.dv_core.specs.Writes.{insert_one, update_one, delete_one}
 use Rattle.dv_core.proofs.Bare.{BareStep}
 use Rattle.dv_core.proofs.Changed.{Did, outcome_may, MayWrite}
-use Rattle.dv_core.proofs.Done.{changes_done, changes_unbroken, front_unbroken, neither}
+use Rattle.dv_core.proofs.Done.{changes_done, changes_unbroken, front_unbroken}
 use Rattle.dv_core.proofs.Standing.{IsKeptBy, Stands, made_stands, put_stands}
 use Rattle.dv_catalog.specs.Inner.EffectLaws.{IsGoodAfter, chosen_good, matching_good, all_changed_good}
 
@@ -41,7 +42,7 @@ module _ (P : List ℕ → Collection → Type 0) (IsGood : Change → Type 0) (
   changes_hold : (namespace : List ℕ) (c : Collection) (changes : List Change) → P namespace c → AllByRecursion IsGood changes → breaks c.indexes changes c.documents ≡ false → P namespace (record c { documents = with_changes c.documents changes })
   changes_hold namespace c [] h good unbroken = h
   changes_hold namespace c (change ∷ changes) h good unbroken =
-      let (here, later) = neither (clashes_by c.indexes change c.documents) (breaks c.indexes changes (with_change c.documents change)) unbroken in
+      let (here, later) = or_parts (clashes_by c.indexes change c.documents) (breaks c.indexes changes (with_change c.documents change)) unbroken in
       changes_hold namespace (record c { documents = with_change c.documents change }) changes (keeps namespace c change h good.0 here) good.1 later
 
   first_good : (made : ℕ) (changes : List Change) → AllByRecursion IsGood changes → AllByRecursion IsGood (take made changes)

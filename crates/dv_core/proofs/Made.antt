@@ -1,8 +1,9 @@
 -- What making something under a namespace, or taking it out, leaves of documents.
-use Rattle.std.proofs.Common.{◌≡◌, ◌⊎◌, inl, inr, ℕ, ◌||◌, Bool, true, false, cond, if◌then◌else◌, List, [], Option, Some, None, Result, Ok, Err, is_some, map, refl, sym, ap, subst, ◌∙◌}
+use Rattle.std.proofs.Common.{◌≡◌, ◌⊎◌, inl, inr, ℕ, Bool, true, false, cond, if◌then◌else◌, List, [], Option, Some, None, Result, Ok, Err, is_some, map, refl, sym, ap, subst, ◌∙◌}
 use Rattle.std.proofs.lemmas.Slice.Eq.{bytes_eq-Decides}
 use Rattle.std.specs.FinMap as finite
 use Rattle.std.specs.Str.{bytes_eq}
+use Rattle.std.proofs.lemmas.Bool.{or_parts}
 use Rattle.dv_views.specs.Forms.{ViewForm}
 use Rattle.dv_catalog.specs.State.{State, Standing, Namespaces, collection, collection_at, collection_of, documents_of, indexes_of, with_documents, with_indexes, without_view, is_collection, is_view, is_there}
 use Rattle.dv_catalog.specs.IndexMaking.{indexes_created, indexes_dropped, with_all, without_named, with_indexes_so}
@@ -74,10 +75,6 @@ dropped_so old new namespace name is = by_there (is_view namespace old.views) (i
     by_there false true is = indexes_so old new namespace (without_named name (indexes_of namespace old.namespaces)) is
     by_there false false is = absurd cc
 
-not_there : (a b : Bool) → (a || b) ≡ false → a ≡ false
-not_there true b e = absurd cc
-not_there false b e = refl
-
 pub views_only : (old new : State) (result : Result (List ViewForm) Refusal) → with_views old result ≡ Ok new → new.namespaces ≡ old.namespaces
 views_only old new (Ok views) is = let same : new ≡ record old { views = views } = cc in ap (λ (s : State). s.namespaces) same
 views_only old new (Err refusal) is = absurd cc
@@ -88,7 +85,7 @@ created_documents old new namespace view is name = by_there (is_there namespace 
     as_made : (view : Option ViewOn) → is_there namespace old ≡ false → made namespace view old ≡ Ok new → documents_of name new.namespaces ≡ documents_of name old.namespaces
     as_made None none is =
         let same : new ≡ record old { namespaces = with_documents namespace [] old.namespaces } = cc in
-        ap (λ (s : State). documents_of name s.namespaces) same ∙ empty_put old.namespaces namespace (not_there (is_collection namespace old.namespaces) (is_view namespace old.views) none) name
+        ap (λ (s : State). documents_of name s.namespaces) same ∙ empty_put old.namespaces namespace (or_parts (is_collection namespace old.namespaces) (is_view namespace old.views) none).0 name
     as_made (Some on) none is = ap (documents_of name) (views_only old new (with_view (record { name = namespace; source = on.source; stages = on.stages }) old.views) is)
 
     by_there : (b : Bool) → is_there namespace old ≡ b → (if b then Err NamespaceExists else made namespace view old) ≡ Ok new → documents_of name new.namespaces ≡ documents_of name old.namespaces

@@ -1,13 +1,14 @@
 -- How views stand behind changes, and behind the statements of a write.
-use Rattle.std.proofs.Common.{◌≡◌, ◌⊎◌, ℕ, suc, Bool, true, false, cond, not, List, [], ◌∷◌, ◌++◌, length, take, Result, Err, refl, sym, ap, subst, ◌∙◌, arith, inl, inr}
+use Rattle.std.proofs.Common.{◌≡◌, ◌⊎◌, ℕ, suc, Bool, true, false, cond, not, List, [], ◌∷◌, ◌++◌, length, take, Result, Err, refl, sym, ap, subst, ◌∙◌, inl, inr}
 use Rattle.dv_catalog.specs.Changes.{Change, Effect, Statement}
-use Rattle.dv_catalog.specs.Marks.{AreMarkedBy, AreMarkedSo, ArePartlyNamed, ArePartlyRead, IsMarkedBy, IsPartlyRead, Mark, Marked, Marks, all_counted, live, mark_counted, mark_read, marks_counted, marks_named, marks_read, marks_without, shares_told, stale}
+use Rattle.dv_catalog.specs.Marks.{AreMarkedBy, AreMarkedSo, ArePartlyNamed, ArePartlyRead, IsPartlyRead, Mark, Marked, Marks, all_counted, mark_read, marks_counted, marks_named, marks_read, marks_without, shares_told}
 use Rattle.dv_catalog.specs.State.{Namespaces, has_name, lists_of, without_view}
 use Rattle.dv_catalog.specs.Inner.Parts.{StandBy}
 use Rattle.dv_catalog.specs.declared.failure.Stopped.{Stopped}
+use Rattle.dv_catalog.specs.Inner.MarkLaws.{nothing_counted, one_unmarked}
 use Rattle.dv_refusal.specs.declared.refusal.Refusal.{Refusal}
 use Rattle.dv_pipe.specs.Stages.{Lists}
-use Rattle.dv_views.specs.Flow.{Share, nothing, shares}
+use Rattle.dv_views.specs.Flow.{Share, shares}
 use Rattle.dv_views.specs.Forms.{ViewForm, is_name_among, needed}
 use Rattle.dv_core.specs.Marks.{AreMarkedByCut, AreMarkedByEach, due_changes, marks_where_read, marks_written}
 use Rattle.dv_core.specs.State.{State}
@@ -26,15 +27,6 @@ so_length [] before after marked = ap length marked
 so_length (share ∷ rest) [] after marked = ap length marked
 so_length (share ∷ rest) (mark ∷ before) [] marked = absurd marked
 so_length (share ∷ rest) (mark ∷ before) (now ∷ after) marked = ap suc (so_length rest before after marked.1)
-
--- no changes leave each mark
-nothing_counted : (mark : Mark) → mark_counted nothing mark ≡ mark
-nothing_counted (live ticks) = ap live (omega arith)
-nothing_counted stale = refl
-
-nothing_left : (before after : Mark) → IsMarkedBy nothing before after → after ≡ before
-nothing_left before after (inl is) = is ∙ nothing_counted before
-nothing_left before after (inr struck) = absurd (cc struck.reached)
 
 module _ (namespace : List ℕ) (lists : Lists) where
   module _ (changes : List Change) (views : List ViewForm) where
@@ -55,7 +47,7 @@ module _ (namespace : List ℕ) (lists : Lists) where
   none_changed [] before after marked = marked
   none_changed (v ∷ views) [] after marked = marked
   none_changed (v ∷ views) (mark ∷ before) [] marked = absurd marked
-  none_changed (v ∷ views) (mark ∷ before) (now ∷ after) marked = λ i. nothing_left mark now marked.0 i ∷ none_changed views before after marked.1 i
+  none_changed (v ∷ views) (mark ∷ before) (now ∷ after) marked = λ i. one_unmarked mark now marked.0 i ∷ none_changed views before after marked.1 i
 
 -- where there is no view
 pub no_view_marked : (namespace : List ℕ) (changes : List Change) (lists : Lists) → AreMarkedBy namespace changes lists [] [] []

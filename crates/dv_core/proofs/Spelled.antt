@@ -49,7 +49,8 @@ use Rattle.dv_core.specs.Indexes.{explained_reply, form_asked, index_count, inde
 use Rattle.dv_core.specs.More.{gone_ids, id_behind, missing_ids, next_of, cursor_number, rows_asked, rows_wanted, went_each}
 use Rattle.dv_core.specs.Sound.{AreShown, AreSoundCursors, HasSpelling, IsBounded, IsSound, IsSoundCommand}
 use Rattle.dv_core.specs.Storable.{is_within_limits}
-use Rattle.dv_core.proofs.Spellings.{spelling-field, length-int64, length-string, sizes, array-bound}
+use Rattle.dv_value.specs.Inner.Spelled.{length-int64, length-string}
+use Rattle.dv_core.proofs.Spellings.{spelling-field, sizes, array-bound}
 use Rattle.dv_core.proofs.Texts.{are_ascii, IsUtf8-ascii}
 use Rattle.dv_core.proofs.SpelledRows.{first_name, id_valid, more_valid, next_name, ok_fields, ok_size, ok_valid, ping_spelled, rows_spelled, spelled}
 use Rattle.dv_core.proofs.SpelledErrors.{CountsAreValid, IsTellable, count_size, cut_spelled, front_all, write_spelled, write_tellable}

@@ -30,7 +30,8 @@ use Rattle.dv_core.specs.Statements.{WriteSteps, Written, nothing_written, is_du
 use Rattle.dv_core.specs.Writes.{statement_of, reply_by, write_by}
 use Rattle.dv_core.proofs.Plain.{IsPlain, IsPlainly, IsPlainStatement, done_plainly, inserts_plain, updates_plain, deletes_plain}
 use Rattle.dv_core.specs.Sound.{HasSpelling, IsBounded}
-use Rattle.dv_core.proofs.Spellings.{spelling-field, spelling-nil, length-int32, length-int64, length-string, sizes, array-bound}
+use Rattle.dv_value.specs.Inner.Spelled.{length-int32, length-int64, length-string}
+use Rattle.dv_core.proofs.Spellings.{spelling-field, spelling-nil, sizes, array-bound}
 use Rattle.dv_core.proofs.Texts.{are_ascii, IsUtf8-ascii}
 use Rattle.dv_core.proofs.SpelledRows.{more_valid, number_valid, ok_fields, ok_size, ok_valid, spelled}
 

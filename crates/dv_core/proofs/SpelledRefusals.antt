@@ -7,7 +7,8 @@ use Rattle.dv_command.specs.Replies.{hello_reply, refusal_reply}
 use Rattle.dv_refusal.specs.Refusals.{code, code_name, message_of}
 use Rattle.dv_refusal.specs.declared.refusal.Refusal.{Refusal}
 use Rattle.dv_core.specs.Sound.{HasSpelling, IsBounded}
-use Rattle.dv_core.proofs.Spellings.{spelling-field, spelling-nil, length-int32, length-string}
+use Rattle.dv_value.specs.Inner.Spelled.{length-int32, length-string}
+use Rattle.dv_core.proofs.Spellings.{spelling-field, spelling-nil}
 use Rattle.dv_core.proofs.SpelledRows.{more_valid, number_valid, ok_fields, ok_valid, spelled}
 use Rattle.dv_core.proofs.SpelledErrors.{name_short, told_short}
 

@@ -11,7 +11,8 @@ use Rattle.dv_command.specs.Replies.{document_of, count, reply_of, batch_reply}
 use Rattle.dv_cursor.specs.Batch.{total_size}
 use Rattle.dv_pipe.specs.Laws.{AreSpellable}
 use Rattle.dv_core.specs.Sound.{HasSpelling}
-use Rattle.dv_core.proofs.Spellings.{spelling-field, spelling-nil, spelling-long, length-int32, length-int64, length-string, sizes, array-bound}
+use Rattle.dv_value.specs.Inner.Spelled.{length-int32, length-int64, length-string}
+use Rattle.dv_core.proofs.Spellings.{spelling-field, spelling-nil, spelling-long, sizes, array-bound}
 use Rattle.dv_core.proofs.Texts.{are_ascii, IsUtf8-ascii}
 
 pub number_valid : (n : ℕ) → n < 2 ^ 31 → IsValue (int32 (pos n))

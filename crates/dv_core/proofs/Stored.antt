@@ -1,5 +1,5 @@
 -- A document with one of its fields in front.
-use Rattle.std.specs.Prelude.{◌≡◌, ℕ, ◌≤◌, ◌||◌, ◌&&◌, ◌↔◌, IsTrue, not, nat_lt, Bool, true, false, if◌then◌else◌, List, [], ◌∷◌, ◌++◌, length, slice_get, Option, Result, Ok, Err, Some, None, suc, refl, codes}
+use Rattle.std.specs.Prelude.{◌≡◌, ℕ, ◌≤◌, ◌&&◌, ◌↔◌, IsTrue, not, nat_lt, Bool, true, false, if◌then◌else◌, List, [], ◌∷◌, ◌++◌, length, slice_get, Option, Result, Ok, Err, Some, None, suc, refl, codes}
 use Rattle.std.specs.Str.{bytes_eq}
 use Rattle.std.proofs.Common.{ap, sym, ◌∙◌, subst, arith, append_assoc}
 use Rattle.std.proofs.lemmas.List.{append-nil}
@@ -8,7 +8,8 @@ use Rattle.std.proofs.lemmas.Slice.Eq.{bytes_eq-Decides}
 use Rattle.dv_value.specs.Tree.{Tree, document, array, Field, fields_of}
 use Rattle.dv_value.specs.Names.{value_under, has_name, has_zero, AreNamed, without}
 use Rattle.dv_value.specs.Spelling.{spelling, fields_levels, levels, Fits}
-use Rattle.dv_catalog.specs.Inner.StateLaws.{bytes_eq-symmetric}
+use Rattle.dv_value.specs.Inner.ByteLaws.{bytes_eq-symmetric}
+use Rattle.dv_value.specs.Inner.NameLaws.{AreNamed-without, named_apart, without_missing}
 use Rattle.dv_core.proofs.Spellings.{spelling-field}
 use Rattle.dv_refusal.specs.declared.refusal.Refusal.{Refusal}
 use Rattle.dv_refusal.specs.declared.refusal.Refusal.TheVariants.{TooLarge}
@@ -17,31 +18,9 @@ use Rattle.dv_core.specs.Storable.{id_in, is_within_limits, with_id_first, stora
 
 -- ---- a document without one of its fields
 
-without-none : (name : List ℕ) (fs : List Field) → has_name name fs ≡ false → without name fs ≡ fs
-without-none name [] none = refl
-without-none name (f ∷ fs) none = grind (arith, without-none name fs)
-
-pub has_name-without : (other name : List ℕ) (fs : List Field) → has_name other fs ≡ false → has_name other (without name fs) ≡ false
-has_name-without other name [] none = refl
-has_name-without other name (f ∷ fs) none = grind (arith, has_name-without other name fs)
-
-AreNamed-without : (name : List ℕ) (fs : List Field) → AreNamed fs → AreNamed (without name fs)
-AreNamed-without name [] named = named
-AreNamed-without name (f ∷ fs) named = grind (arith, AreNamed-without name fs, has_name-without f.0 name fs)
-
 pub without-gone : (name : List ℕ) (fs : List Field) → AreNamed fs → has_name name (without name fs) ≡ false
 without-gone name [] named = refl
 without-gone name (f ∷ fs) named = grind (arith, without-gone name fs, (bytes_eq-Decides name f.0).0)
-
-has_name-append : (name : List ℕ) (fs gs : List Field) → has_name name (fs ++ gs) ≡ (has_name name fs || has_name name gs)
-has_name-append name [] gs = grind arith
-has_name-append name (f ∷ fs) gs = grind (arith, has_name-append name fs gs)
-
--- a field's name isn't that of one before it
-named_apart : (fs gs : List Field) (f : Field) → AreNamed (fs ++ f ∷ gs) → has_name f.0 fs ≡ false
-named_apart [] gs f named = refl
-named_apart (g ∷ fs) gs f named =
-    grind (arith, named_apart fs gs f named.2, has_name-append g.0 fs (f ∷ gs), bytes_eq-symmetric f.0 g.0)
 
 -- ---- the fields left to copy behind `_id`
 
@@ -70,7 +49,7 @@ module _ {first : Field} {d copy left : List Field} (copied : IsCopied first d c
     IsCopied-id test =
         let id : bytes_eq (codes "_id") f.0 ≡ true = grind (arith, bytes_eq-symmetric (codes "_id") f.0) in
         let fresh : has_name (codes "_id") next ≡ false = rw (← (bytes_eq-Decides (codes "_id") f.0).0 id) at named_here.1 in
-        let same : copy ++ without (codes "_id") left ≡ copy ++ without (codes "_id") next = rw (without-none (codes "_id") next fresh) (rw id at left_here) in
+        let same : copy ++ without (codes "_id") left ≡ copy ++ without (codes "_id") next = rw (without_missing (codes "_id") next fresh) (rw id at left_here) in
         record { whole = sym same ∙ copied.whole; apart = subst AreNamed same copied.apart; named = named_here.2 }
 
     pub whole_name : has_zero f.0 ≡ false

@@ -4,6 +4,7 @@ use Rattle.std.proofs.lemmas.List.{append-nil}
 use Rattle.std.specs.List.{filter, list_any}
 use Rattle.std.specs.Prelude.{IsSome, codes}
 use Rattle.std.specs.Str.{bytes_eq}
+use Rattle.std.proofs.lemmas.Bool.{or_from}
 use Rattle.dv_value.specs.Tree.{Field}
 use Rattle.dv_order.specs.Key.{KeyTree}
 use Rattle.dv_coll.specs.Collection.{IsAscending, found, id_key, inserted, removed, replaced}
@@ -12,7 +13,6 @@ use Rattle.dv_catalog.specs.IndexMaking.{index_limit, is_alike, is_made, unless_
 use Rattle.dv_catalog.specs.State.{AreOrdered, Collection}
 use Rattle.dv_command.specs.Asked.{Asked, create_indexes, drop_indexes}
 use Rattle.dv_core.specs.Indexes.{form_asked}
-use Rattle.dv_core.proofs.Done.{both_false}
 use Rattle.dv_core.proofs.Standing.{indexes_by}
 use Rattle.dv_value.specs.Results.{◌>>=◌}
 use Rattle.dv_refusal.specs.declared.refusal.Refusal.{Refusal}
@@ -83,7 +83,7 @@ module _ (laws : UniqueLaws) (c : Collection) where
       let come : drop (length c.indexes) made ≡ more = ap (drop (length c.indexes)) is ∙ drop_front c.indexes more in
       ap (λ (all : List IndexForm). are_broken all c.documents) is
       ∙ laws.one_by_one c.indexes more c.documents
-      ∙ both_false (are_broken c.indexes c.documents) (are_broken more c.documents) unbroken (subst IsUnbroken come others)
+      ∙ or_from (are_broken c.indexes c.documents) (are_broken more c.documents) unbroken (subst IsUnbroken come others)
 
   all_unbroken : (entries made : List IndexForm) → with_all entries c ≡ Ok made → IsUnbroken c.indexes → IsUnbroken made
   all_unbroken entries made is unbroken = by_entries (with_entries entries c.indexes) refl is

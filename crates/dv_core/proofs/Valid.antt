@@ -11,7 +11,8 @@ use Rattle.dv_refusal.specs.declared.refusal.Refusal.{Refusal}
 use Rattle.dv_refusal.specs.declared.refusal.Refusal.TheVariants.{BadValue, TooLarge}
 use Rattle.dv_path.specs.Names.{has_bad_name}
 use Rattle.dv_core.specs.Storable.{id_in, is_within_limits, with_id_first, storable}
-use Rattle.dv_core.proofs.Stored.{has_name-without, without-gone}
+use Rattle.dv_value.specs.Inner.NameLaws.{has_name-without}
+use Rattle.dv_core.proofs.Stored.{without-gone}
 use Rattle.dv_core.proofs.Texts.{IsUtf8-ascii}
 
 valid_named : (fs : List Field) → AreFields (fields_of fs) → AreNamed fs

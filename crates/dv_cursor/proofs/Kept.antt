@@ -10,6 +10,7 @@ use Rattle.std.specs.Ordering.{nat_cmp, ordering_then, eq_by_cmp, is_eq, is_gt, 
 use Rattle.std.specs.declared.cmp.Ordering.{Ordering}
 use Rattle.std.specs.declared.cmp.Ordering.TheVariants.{Less, Equal, Greater}
 use Rattle.dv_value.specs.Tree.{Field}
+use Rattle.dv_value.specs.Inner.ListLaws.{cond-over}
 use Rattle.dv_cursor.specs.Cursors.{Cursor, Cursors, CursorPlace, place_cmp, advanced, closed, cursor_over}
 
 -- ---- the order of places
@@ -123,16 +124,12 @@ remove-none m p none =
     finite.get-remove place_cmp_total m p q
     ∙ if_tied (eq_by_cmp place_cmp q p) None (finite.get m q) (λ at. sym none ∙ ap (finite.get m) (sym (same_if_tied q p at))))
 
-hidden : {X : Type 0} (b : Bool) (x y z : X) → cond b x (cond b y z) ≡ cond b x z
-hidden true x y z = refl
-hidden false x y z = refl
-
 pub remove-insert : (m : Kept) (p : CursorPlace) (c : Cursor) → finite.remove (finite.insert m p c) p ≡ finite.remove m p
 remove-insert m p c =
     same_kept _ _ (λ q.
     finite.get-remove place_cmp_total (finite.insert m p c) p q
     ∙ ap (cond (eq_by_cmp place_cmp q p) None) (finite.get-insert place_cmp_total m p c q)
-    ∙ hidden (eq_by_cmp place_cmp q p) None (Some c) (finite.get m q)
+    ∙ cond-over (eq_by_cmp place_cmp q p) None (Some c) (finite.get m q)
     ∙ sym (finite.get-remove place_cmp_total m p q))
 
 some_rows : (namespace : List ℕ) (rows : List (List Field)) → rows ≢ [] → cursor_over namespace rows ≡ Some (record { namespace = namespace; rows = rows })

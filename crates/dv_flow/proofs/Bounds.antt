@@ -1,11 +1,12 @@
 -- How many changes a stage that goes row by row hands on for one of its rows.
-use Rattle.std.specs.Prelude.{◌≡◌, ◌+◌, ◌≤◌, suc, ℕ, drop, Bool, true, false, not, cond, List, [], ◌∷◌, ◌++◌, length, map, filter, Option, None, Some, is_none, refl}
+use Rattle.std.specs.Prelude.{◌≡◌, ◌+◌, ◌≤◌, suc, ℕ, drop, Bool, true, false, cond, List, [], ◌∷◌, ◌++◌, length, map, Option, None, Some, is_none, refl}
 use Rattle.std.proofs.Common.{ap, arith}
 use Rattle.std.specs.Ordering.{is_eq, match_ordering}
 use Rattle.std.specs.Cmp.{tied_itself}
 use Rattle.std.specs.declared.cmp.Ordering.{Ordering}
 use Rattle.std.specs.declared.cmp.Ordering.TheVariants.{Less, Equal, Greater}
 use Rattle.std.specs.Option.{option_map}
+use Rattle.std.proofs.lemmas.List.{length-append}
 use Rattle.dv_value.specs.Tree.{Field}
 use Rattle.dv_match.specs.Filter.{Members}
 use Rattle.dv_match.specs.Match.{matches}
@@ -15,13 +16,14 @@ use Rattle.dv_row.specs.declared.unwind.Unwind.{Unwind}
 use Rattle.dv_row.specs.Projecting.{projected}
 use Rattle.dv_row.specs.Unwinding.{unwound}
 use Rattle.dv_change.specs.declared.change.Change.{Change}
-use Rattle.dv_change.specs.declared.change.Change.TheVariants.{Gone, Put}
+use Rattle.dv_change.specs.declared.change.Change.TheVariants.{Gone}
 use Rattle.dv_change.specs.Changes.{Positioned, at, in_row_order, with_change}
 use Rattle.dv_change.specs.Inner.Changes.{IsExactChange, IsPositioned, alone, position_changed, row_in}
-use Rattle.dv_change.specs.Difference.{diff, gones, puts, stands_as}
+use Rattle.dv_change.specs.Difference.{diff, gones, puts}
 use Rattle.dv_change.specs.Inner.Ordered.{put}
 use Rattle.dv_change.specs.Inner.PositionLaws.{pos_order_total}
 use Rattle.dv_change.specs.Positions.{PosTree, pos_order}
+use Rattle.dv_change.specs.Inner.DiffLaws.{diff-length, puts-length}
 use Rattle.dv_flow.specs.Inner.Bounds.{rows_made}
 use Rattle.dv_flow.specs.Inner.Matching.{match_ordered, match_single}
 use Rattle.dv_flow.specs.Placed.{matched_at, rows_numbered, shown_at, sorted_at, unwound_at}
@@ -31,30 +33,6 @@ use Rattle.dv_flow.specs.Inner.Unwinding.{but_last, unwind_empty, unwind_exact, 
 use Rattle.dv_flow.proofs.Owed.{row-owed}
 
 -- ---- differences of short lists
-
-filter-length : (f : PosTree × List Field → Bool) (es : Positioned) → length (filter f es) ≤ length es
-filter-length f [] = omega arith
-filter-length f (e ∷ es) = by (f e) (filter-length f es)
-  where
-    by : (b : Bool) → length (filter f es) ≤ length es → length (cond b (e ∷ filter f es) (filter f es)) ≤ suc (length es)
-    by true h = omega (arith, h)
-    by false h = omega (arith, h)
-
-all_go-length : (es : Positioned) → length (map (λ e. Gone e.0) es) ≡ length es
-all_go-length [] = refl
-all_go-length (e ∷ es) = ap suc (all_go-length es)
-
-all_come-length : (es : Positioned) → length (map (λ e. Put e.0 e.1) es) ≡ length es
-all_come-length [] = refl
-all_come-length (e ∷ es) = ap suc (all_come-length es)
-
-both-length : (some others : List Change) → length (some ++ others) ≡ length some + length others
-both-length [] others = omega arith
-both-length (c ∷ some) others = omega (arith, both-length some others)
-
-pub diff-length : (old new : Positioned) → length (diff old new) ≤ length old + length new
-diff-length old new =
-    omega (arith, both-length (gones old new) (puts old new), all_go-length (filter (λ e. is_none (at e.0 new)) old), filter-length (λ e. is_none (at e.0 new)) old, all_come-length (filter (λ e. not (stands_as (at e.0 old) e.1)) new), filter-length (λ e. not (stands_as (at e.0 old) e.1)) new)
 
 -- at one position a row goes or comes
 pub diff-alone : (p : PosTree) (a b : Option (List Field)) → length (diff (alone p a) (alone p b)) ≤ 1
@@ -67,7 +45,7 @@ diff-alone p (Some v) None = diff-length ((p, v) ∷ []) []
 diff-alone p (Some v) (Some w) =
     let here : is_eq (pos_order p p) ≡ true = ap is_eq (tied_itself pos_order_total p) in
     let stays : gones ((p, v) ∷ []) ((p, w) ∷ []) ≡ [] = ap (λ b. map {A = PosTree × List Field} (λ e. Gone e.0) (cond (is_none (cond b (Some w) None)) ((p, v) ∷ []) [])) here in
-    omega (arith, both-length (gones ((p, v) ∷ []) ((p, w) ∷ [])) (puts ((p, v) ∷ []) ((p, w) ∷ [])), ap length stays, all_come-length (filter (λ e. not (stands_as (at e.0 ((p, v) ∷ [])) e.1)) ((p, w) ∷ [])), filter-length (λ e. not (stands_as (at e.0 ((p, v) ∷ [])) e.1)) ((p, w) ∷ []))
+    omega (arith, length-append (gones ((p, v) ∷ []) ((p, w) ∷ [])) (puts ((p, v) ∷ []) ((p, w) ∷ [])), ap length stays, puts-length ((p, v) ∷ []) ((p, w) ∷ []))
 
 put-length : (p : PosTree) (v : List Field) (es : Positioned) → length (put p v es) ≤ suc (length es)
 put-length p v [] = omega arith

@@ -8,6 +8,7 @@ use Rattle.std.specs.Cmp.{Equal-is, alike_right}
 use Rattle.std.specs.List.{AllByRecursion}
 use Rattle.std.specs.Map.{keys_of}
 use Rattle.std.specs.Ordering.{is_eq, match_ordering}
+use Rattle.std.proofs.lemmas.Bool.{or_parts}
 use Rattle.dv_value.specs.Tree.{Field}
 use Rattle.dv_change.specs.declared.change.Change.{Change}
 use Rattle.dv_change.specs.declared.change.Change.TheVariants.{Gone, Put}
@@ -104,15 +105,11 @@ at-at-either : (q p : PosTree) (edge : Option PosTree) (rows : Positioned) → a
 at-at-either q p None rows = at-one-more q p false rows [] refl
 at-at-either q p (Some edge) rows = at-one-more q edge (is_eq (pos_order q p) || false) rows (with_limited_row p (at p rows) []) (at-one-more q p false rows [] refl)
 
-none-of : (b c : Bool) → (b || c) ≡ false → (b ≡ false) × (c ≡ false)
-none-of true c e = cc
-none-of false c e = (refl, e)
-
 neither : (q p : PosTree) (edge : Option PosTree) → is_either q p edge ≡ false → (is_eq (pos_order q p) ≡ false) × (is_beside q edge ≡ false)
-neither q p None e = ((none-of (is_eq (pos_order q p)) false e).0, refl)
+neither q p None e = ((or_parts (is_eq (pos_order q p)) false e).0, refl)
 neither q p (Some edge) e =
-    let both = none-of (is_eq (pos_order q edge)) (is_eq (pos_order q p) || false) e in
-    ((none-of (is_eq (pos_order q p)) false both.1).0, both.0)
+    let both = or_parts (is_eq (pos_order q edge)) (is_eq (pos_order q p) || false) e in
+    ((or_parts (is_eq (pos_order q p)) false both.1).0, both.0)
 
 abbrev IsExactEdge : Option PosTree → Type 0
 IsExactEdge None = ⊤

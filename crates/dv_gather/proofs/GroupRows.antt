@@ -104,7 +104,7 @@ present-front : (c : Candidate) (vs ws : List Tree) → with_present c (vs ++ ws
 present-front None vs ws = refl
 present-front (Some v) vs ws = refl
 
-values-more : (e : Expression) (ds : List Row) (d : Row) → values_over e (ds ++ d ∷ []) ≡ values_over e ds ++ with_present (value_of e d) []
+pub values-more : (e : Expression) (ds : List Row) (d : Row) → values_over e (ds ++ d ∷ []) ≡ values_over e ds ++ with_present (value_of e d) []
 values-more e [] d = refl
 values-more e (c ∷ ds) d = ap (with_present (value_of e c)) (values-more e ds d) ∙ present-front (value_of e c) (values_over e ds) (with_present (value_of e d) [])
 

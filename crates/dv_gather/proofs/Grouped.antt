@@ -9,6 +9,7 @@ use Rattle.std.specs.BTreeMap.{insert_entry, is_at}
 use Rattle.std.specs.Ordering.{is_eq, match_ordering}
 use Rattle.std.specs.declared.cmp.Ordering.{Ordering}
 use Rattle.std.specs.declared.cmp.Ordering.TheVariants.{Less, Equal, Greater}
+use Rattle.std.proofs.lemmas.Bool.{or_parts}
 use Rattle.dv_value.specs.Tree.{Tree, Field}
 use Rattle.dv_order.specs.Order.{canon, order}
 use Rattle.dv_order.specs.Key.{value, key_order}
@@ -78,15 +79,11 @@ module _ (stands : (v w : Tree) → key_order (value (canon v)) (value (canon w)
   is-equal Equal e = refl
   is-equal Greater e = cc
 
-  neither : (a b : Bool) → a || b ≡ false → (a ≡ false) × (b ≡ false)
-  neither true b e = absurd cc
-  neither false b e = (refl, e)
-
   gathered-one : (ks : List Tree) (ds : List Keyed) (es : List Entry) → IsGathered ks ds es → (d : Keyed) → IsGathered (with_key d.0 ks) (ds ++ d ∷ []) (group_put (value (canon d.0)) d.1 es)
   gathered-one ks ds es h d = record {
     sorted = sorted-with d.0 ks h.sorted;
     complete = λ v none.
-        let both = neither (is_eq (order v d.0)) (list_any (λ k. is_eq (order v k)) ks) (sym (any-with v d.0 ks) ∙ none) in
+        let both = or_parts (is_eq (order v d.0)) (list_any (λ k. is_eq (order v k)) ks) (sym (any-with v d.0 ks) ∙ none) in
         under-more v ds d ∙ ap (λ (b : Bool). documents_under_key v ds ++ (if b then d.1 ∷ [] else [])) both.0 ∙ append-nil (documents_under_key v ds) ∙ h.complete v both.1;
     are =
         let f = λ (k : Tree). documents_under_key k ds in

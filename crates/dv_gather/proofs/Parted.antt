@@ -5,15 +5,16 @@ use Rattle.std.specs.Ordering.{is_eq, match_ordering}
 use Rattle.std.specs.declared.cmp.Ordering.{Ordering}
 use Rattle.std.specs.declared.cmp.Ordering.TheVariants.{Less, Equal, Greater}
 use Rattle.std.proofs.lemmas.Int.{ints}
+use Rattle.std.proofs.lemmas.Bool.{and_from}
 use Rattle.dv_value.specs.Tree.{Tree, int32, int64, string, document, array, boolean, binary, object_id, date, null, timestamp, min_key, max_key, elements_of}
 use Rattle.dv_order.specs.Order.{order}
-use Rattle.dv_candidates.specs.Candidates.{Candidate}
 use Rattle.dv_row.specs.Expressions.{Expression, value_of}
 use Rattle.dv_row.specs.Row.{Row}
 use Rattle.dv_gather.specs.Inner.Counting.{is_number}
 use Rattle.dv_gather.specs.Grouping.{Grouping, key_in, keyed, with_present, values_over, group_row, grouped}
 use Rattle.dv_gather.specs.Groups.{Keyed, with_key, keys_from, group_keys, documents_under_key, groups_of}
 use Rattle.dv_gather.specs.Sums.{addend, total, is_int64, spelled, sum_of}
+use Rattle.dv_gather.proofs.GroupRows.{values-more}
 
 -- ---- groups
 
@@ -58,18 +59,15 @@ and-second : (a b : Bool) → a && b ≡ true → b ≡ true
 and-second true b h = h
 and-second false b h = absurd cc
 
-both : (a b : Bool) → a ≡ true → b ≡ true → a && b ≡ true
-both a b e f = ap (λ c. c && b) e ∙ f
-
 module _ (holds : Tree → Bool) where
   all-with : (k : Tree) (ks : List Tree) → holds k ≡ true → list_all holds ks ≡ true → list_all holds (with_key k ks) ≡ true
-  all-with k [] own all = both (holds k) true own refl
+  all-with k [] own all = and_from (holds k) true own refl
   all-with k (l ∷ ls) own all = go (order k l) (all-with k ls own (and-second (holds l) (list_all holds ls) all))
     where
       go : (o : Ordering) → list_all holds (with_key k ls) ≡ true → list_all holds (match_ordering o (k ∷ l ∷ ls) (l ∷ ls) (l ∷ with_key k ls)) ≡ true
-      go Less rest = both (holds k) (list_all holds (l ∷ ls)) own all
+      go Less rest = and_from (holds k) (list_all holds (l ∷ ls)) own all
       go Equal rest = all
-      go Greater rest = both (holds l) (list_all holds (with_key k ls)) (and-first (holds l) (list_all holds ls) all) rest
+      go Greater rest = and_from (holds l) (list_all holds (with_key k ls)) (and-first (holds l) (list_all holds ls) all) rest
 
   all-from : (ks : List Tree) (rows : List Keyed) → list_all holds ks ≡ true → list_all (λ row. holds row.0) rows ≡ true → list_all holds (keys_from ks rows) ≡ true
   all-from ks [] have all = have
@@ -118,14 +116,6 @@ pub sum_numbers : (vs : List Tree) → sum_of vs ≡ sum_of (filter is_number vs
 sum_numbers vs = ap (λ b. spelled (not b) (total vs)) (wide-numbers vs) ∙ ap (spelled (not (list_any is_int64 (filter is_number vs)))) (total-numbers vs)
 
 -- ---- values of rows
-
-values-more : (e : Expression) (rows : List Row) (row : Row) → values_over e (rows ++ row ∷ []) ≡ values_over e rows ++ with_present (value_of e row) []
-values-more e [] row = refl
-values-more e (d ∷ rows) row = ap (with_present (value_of e d)) (values-more e rows row) ∙ go (value_of e d)
-  where
-    go : (c : Candidate) → with_present c (values_over e rows ++ with_present (value_of e row) []) ≡ with_present c (values_over e rows) ++ with_present (value_of e row) []
-    go None = refl
-    go (Some v) = refl
 
 pub pushed_last : (e : Expression) (rows : List Row) (row : Row) (v : Tree) → value_of e row ≡ Some v → array (elements_of (values_over e (rows ++ row ∷ []))) ≡ array (elements_of (values_over e rows ++ v ∷ []))
 pushed_last e rows row v is = ap (λ l. array (elements_of l)) (values-more e rows row ∙ ap (λ c. values_over e rows ++ with_present c []) is)

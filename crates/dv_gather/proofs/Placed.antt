@@ -17,8 +17,7 @@ use Rattle.std.proofs.lemmas.Option.{slice_get_read}
 use Rattle.std.proofs.Math.Bool.{or-false, or_assoc}
 use Rattle.dv_value.specs.Tree.{Tree, Field}
 use Rattle.dv_value.specs.Names.{has_name, with_value_under}
-use Rattle.dv_value.specs.Inner.ListLaws.{cond-or}
-use Rattle.dv_row.specs.Inner.EachLaws.{drop-read}
+use Rattle.dv_value.specs.Inner.ListLaws.{cond-or, drop-read}
 use Rattle.dv_order.specs.Order.{canon, order}
 use Rattle.dv_order.specs.Key.{KeyTree, value, key_order}
 use Rattle.dv_order.specs.Inner.KeyLaws.{key_order_total, equal-back}

@@ -1,5 +1,5 @@
 -- A change of a row makes two changes of the rows of groups at most: one at the key that it had, and one at the key that it has.
-use Rattle.std.specs.Prelude.{◌≡◌, ◌||◌, ◌+◌, ◌≤◌, suc, Bool, true, false, not, cond, List, [], ◌∷◌, ◌++◌, filter, length, map, Option, None, Some, is_none, ⊤, refl}
+use Rattle.std.specs.Prelude.{◌≡◌, ◌||◌, ◌+◌, ◌≤◌, Bool, true, false, cond, List, [], ◌∷◌, ◌++◌, filter, length, Option, None, Some, is_none, ⊤, refl}
 use Rattle.std.proofs.Common.{ap, arith, ◌∙◌}
 use Rattle.std.specs.declared.cmp.Ordering.TheVariants.{Less}
 use Rattle.std.specs.Cmp.{Equal-is, tied_itself}
@@ -8,15 +8,16 @@ use Rattle.std.specs.List.Sorted.{IsStrictlySortedBy}
 use Rattle.std.specs.Map.{keys_of}
 use Rattle.std.specs.Option.{option_map}
 use Rattle.std.specs.Ordering.{is_eq}
+use Rattle.std.proofs.lemmas.List.{length-append, length-map}
 use Rattle.dv_order.specs.Key.{KeyTree}
 use Rattle.dv_row.specs.Row.{Row}
 use Rattle.dv_change.specs.declared.change.Change.{Change}
-use Rattle.dv_change.specs.declared.change.Change.TheVariants.{Gone, Put}
+use Rattle.dv_change.specs.declared.change.Change.TheVariants.{Gone}
 use Rattle.dv_change.specs.declared.position.Part.TheVariants.{Up}
 use Rattle.dv_change.specs.Changes.{Positioned, at, forget, with_change}
 use Rattle.dv_change.specs.Inner.Changes.{IsExactChange, IsPositioned, position_changed, row_in}
-use Rattle.dv_change.specs.Difference.{diff, gones, puts, stands_as}
-use Rattle.dv_change.specs.Inner.DiffLaws.{all-filter, positioned-filter}
+use Rattle.dv_change.specs.Difference.{diff, gones, puts}
+use Rattle.dv_change.specs.Inner.DiffLaws.{all-filter, positioned-filter, puts-length}
 use Rattle.dv_change.specs.Inner.PositionLaws.{pos_order_total}
 use Rattle.dv_change.specs.Positions.{PosTree, pos_order}
 use Rattle.dv_change.specs.Inner.RowLaws.{all-implied, at_back}
@@ -102,29 +103,12 @@ module _ (a b : PosTree) where
       by true is rest = (none-apart e.0 new is, rest)
       by false is rest = rest
 
-  both-length : {A : Type 0} (xs ys : List A) → length (xs ++ ys) ≡ length xs + length ys
-  both-length [] ys = omega arith
-  both-length (x ∷ xs) ys = omega (arith, both-length xs ys)
-
-  map-length : {A B : Type 0} (f : A → B) (xs : List A) → length (map f xs) ≡ length xs
-  map-length f [] = refl
-  map-length f (x ∷ xs) = ap suc (map-length f xs)
-
-  filter-length : (f : PosTree × Row → Bool) (es : Positioned) → length (filter f es) ≤ length es
-  filter-length f [] = omega arith
-  filter-length f (e ∷ es) = by (f e) (filter-length f es)
-    where
-      by : (b : Bool) → length (filter f es) ≤ length es → length (cond b (e ∷ filter f es) (filter f es)) ≤ suc (length es)
-      by true h = omega (arith, h)
-      by false h = omega (arith, h)
-
   diff-two : (old new : Positioned) → IsPositioned old → IsPositioned new → AllByRecursion IsOne (keys_of old) → AllByRecursion IsOne (keys_of new) → length (diff old new) ≤ 2
   diff-two old new are-old are-new all-old all-new =
       let left = filter (goes new) old in
-      let added = filter (λ (e : PosTree × Row). not (stands_as (at e.0 old) e.1)) new in
       let two = two-at-most (keys_of left ++ keys_of new) (apart-both (keys_of left) (keys_of new) (less-apart (keys_of left) (positioned-filter (goes new) old are-old).ascending) (less-apart (keys_of new) are-new.ascending) (all-gone new old))
       (all-both IsOne (keys_of left) (keys_of new) (all-filter (goes new) IsOne old all-old) all-new) in
-      omega (arith, two, both-length (gones old new) (puts old new), both-length (keys_of left) (keys_of new), map-length {A = PosTree × Row} (λ e. Gone e.0) left, map-length {A = PosTree × Row} (λ e. Put e.0 e.1) added, map-length {A = PosTree × Row} (λ e. e.0) left, map-length {A = PosTree × Row} (λ e. e.0) new, filter-length (λ e. not (stands_as (at e.0 old) e.1)) new)
+      omega (arith, two, length-append (gones old new) (puts old new), length-append (keys_of left) (keys_of new), length-map left (λ (e : PosTree × Row). Gone e.0), puts-length old new, length-map left (λ (e : PosTree × Row). e.0), length-map new (λ (e : PosTree × Row). e.0))
 
 -- ---- the rows of the groups of two keys
 

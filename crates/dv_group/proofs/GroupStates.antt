@@ -6,6 +6,7 @@ use Rattle.std.specs.List.{AllByRecursion}
 use Rattle.std.specs.Option.{IfSome}
 use Rattle.std.specs.Ordering.{is_eq}
 use Rattle.dv_value.specs.Tree.{Tree}
+use Rattle.dv_value.specs.Inner.ListLaws.{cond-over}
 use Rattle.dv_row.specs.Row.{Row}
 use Rattle.dv_change.specs.Changes.{Positioned, at, forget}
 use Rattle.dv_change.specs.Inner.Changes.{IsPositioned}
@@ -28,10 +29,6 @@ use Rattle.dv_group.proofs.AccumulatorStates.{all-added, all-with, all-without, 
 
 -- ---- rows at a position
 
-over-same : {A : Type 0} (b : Bool) (x y z : A) → cond b x (cond b y z) ≡ cond b x z
-over-same true x y z = refl
-over-same false x y z = refl
-
 -- a row is added in the place of one that is removed
 pub put-over : (p : PosTree) (d : Row) (rows : Positioned) → IsPositioned rows → IsExact p → put p d (gone p rows) ≡ put p d rows
 put-over p d rows are x =
@@ -39,7 +36,7 @@ put-over p d rows are x =
     (λ q y.
     at-put q p d (gone p rows)
     ∙ ap (cond (is_eq (pos_order q p)) (Some d)) (at-gone q p rows are.ascending ∙ ap (λ b. cond b None (at q rows)) (at_back p q))
-    ∙ over-same (is_eq (pos_order q p)) (Some d) None (at q rows)
+    ∙ cond-over (is_eq (pos_order q p)) (Some d) None (at q rows)
     ∙ sym (at-put q p d rows))
 
 -- nothing stands where a row was removed

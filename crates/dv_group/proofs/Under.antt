@@ -26,6 +26,7 @@ use Rattle.dv_group.specs.declared.transition.RowsWanted.{RowsWanted}
 use Rattle.dv_group.specs.declared.transition.RowsWanted.TheVariants.{Unwanted, Wanted}
 use Rattle.dv_group.specs.Inner.Members.{AreLiveGroups, IsLiveGroup, IsRowIfMade, IsTransition, IsShownIfWanted, LiveGroups, are_one, group_members, is_key, moved, put_some, rows_in, set_at, shown_of, with_shown}
 use Rattle.dv_group.proofs.GroupStates.{set-over}
+use Rattle.dv_value.specs.Inner.ListLaws.{cond-over}
 
 -- under equal keys stands the same
 pub members-alike : (k l : KeyTree) → key_order k l ≡ Equal → (es : LiveGroups) → group_members k es ≡ group_members l es
@@ -49,10 +50,6 @@ module _ (es fs : LiveGroups) (key : KeyTree) where
       by : (b : Bool) → is_eq (key_order k key) ≡ b → rows_in (cond b new (lookup (is_at (key_order k)) es)) ≡ cond b (change (group_members k es)) (group_members k es)
       by true here = is ∙ ap change (sym (members-alike k key ((Equal-is (key_order k key)).0 here) es))
       by false here = refl
-
-cond-over : {A : Type 0} (b : Bool) (x y z : A) → cond b x (cond b y z) ≡ cond b x z
-cond-over true x y z = refl
-cond-over false x y z = refl
 
 -- what is written under a key twice stands as it was written last
 pub written-over : (es ms fs : LiveGroups) (key : KeyTree) (first last : Option LiveGroup)
@@ -102,9 +99,6 @@ shown-once g es (Some k) (Some l) one =
 -- ---- sound groups
 
 module _ (g : Grouping) where
-  abbrev SoundEntry : KeyTree × LiveGroup → Type 0
-  SoundEntry e = IsLiveGroup g e.1
-
   -- one whose row isn't made
   pub live-of : (b : GroupState) (live : LiveGroup) → live.state ≡ b → live.row ≡ None → IsGroupState g.fields b → IsLiveGroup g live
   live-of b live is none sound = record {

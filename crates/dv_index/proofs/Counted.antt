@@ -2,6 +2,7 @@
 use Rattle.std.proofs.Common.{◌≡◌, ℕ, ◌≤◌, arith, List, [], ◌∷◌, length, refl, sym, subst, Bool, true, false, cond, Option, Some, None, filter, slice_get}
 use Rattle.std.proofs.lemmas.List.Sums.{count_by-le-length, length-filter}
 use Rattle.dv_value.specs.Tree.{Field}
+use Rattle.dv_value.specs.Inner.ListLaws.{filter-length}
 use Rattle.dv_match.specs.Filter.{Condition, Members}
 use Rattle.dv_match.specs.Match.{matches}
 use Rattle.dv_keyed.specs.Choice.{chosen}
@@ -9,15 +10,6 @@ use Rattle.dv_index.specs.Indexed.{IndexedTree, documents_covered, paths_of}
 use Rattle.dv_keyed.specs.Within.{has_within}
 use Rattle.dv_index.specs.Search.{covered, covered_at}
 use Rattle.dv_index.specs.Inner.IdLaws.{MatchesAreWithin}
-
--- no more are kept than there are
-pub length-kept : {X : Type 0} (p : X → Bool) (xs : List X) → length (filter p xs) ≤ length xs
-length-kept p [] = omega arith
-length-kept p (x ∷ xs) = at (p x) (length-kept p xs)
-  where
-    at : (b : Bool) → length (filter p xs) ≤ length xs → length (cond b (x ∷ filter p xs) (filter p xs)) ≤ length (x ∷ xs)
-    at true h = omega arith
-    at false h = omega arith
 
 -- where each that passes a test passes another, no fewer pass the other
 more-kept : {X : Type 0} (p q : X → Bool) → ((x : X) → p x ≡ true → q x ≡ true) → (xs : List X) → length (filter p xs) ≤ length (filter q xs)
@@ -35,7 +27,7 @@ unfolding covered
 all_matching law ms paths ds = by (chosen ms paths) refl
   where
     by : (o : Option (ℕ × Condition)) → chosen ms paths ≡ o → length (filter (matches ms) ds) ≤ covered o paths ds
-    by None e = length-kept (matches ms) ds
+    by None e = filter-length (matches ms) ds
     by (Some p) e =
         let plan = law ms paths p.0 p.1 e in
         let more : length (filter (matches ms) ds) ≤ covered_at (Some plan.0) p.1 ds = subst (λ n. length (filter (matches ms) ds) ≤ n) (length-filter (has_within p.1 plan.0) ds) (more-kept (matches ms) (has_within p.1 plan.0) plan.2 ds) in

@@ -1,7 +1,6 @@
 -- What a path sorts ahead of a bar is found by the index on it.
-use Rattle.std.proofs.Common.{◌≡◌, ◌∙◌, ◌≤◌, ◌<◌, ◌&&◌, ◌||◌, ◌++◌, ℕ, arith, length, List, [], ◌∷◌, map, refl, ap, sym, Bool, true, false, cond, Option, Some, None, filter, subst}
+use Rattle.std.proofs.Common.{◌≡◌, ◌∙◌, ◌≤◌, ◌<◌, ◌&&◌, ◌||◌, ◌++◌, ℕ, arith, length, List, [], ◌∷◌, map, refl, ap, sym, Bool, true, false, cond, Some, None, filter}
 use Rattle.std.specs.List.{AllByRecursion, best_of, flat_map}
-use Rattle.std.specs.Option.{IfSome}
 use Rattle.std.specs.Ordering.{is_eq}
 use Rattle.std.proofs.lemmas.Bool.{or_left, or_right, and_parts}
 use Rattle.std.proofs.lemmas.Cmp.{tied_itself}
@@ -23,7 +22,6 @@ use Rattle.dv_match.specs.Match.{matches}
 use Rattle.dv_keyed.specs.Inner.Index.{IndexTree}
 use Rattle.dv_keyed.specs.Inner.Interval.{is_in_all}
 use Rattle.dv_keyed.specs.Inner.Pairs.{IsOnlyKey, has_pair}
-use Rattle.dv_keyed.specs.Inner.ListLaws.{some-same}
 use Rattle.dv_index.specs.Inner.Ahead.{LeadsSomewhere, is_ahead}
 use Rattle.dv_index.specs.Inner.Search.{IsIndexOf, is_key_under}
 use Rattle.dv_index.specs.Inner.IdLaws.{OnlyKeysAreWithin}
@@ -169,8 +167,3 @@ pub one-alone : {X : Type 0} (xs : List X) → 1 ≤ length xs → length xs < 2
 one-alone [] some few = absurd (omega (arith, some))
 one-alone (x ∷ []) some few = (x, refl)
 one-alone (x ∷ y ∷ xs) some few = absurd (omega (arith, few))
-
--- ---- what is said of a value where there is one, where it is this one
-pub some-is : {X : Type 0} (x : X) (P : X → Type 0) (o : Option X) → o ≡ Some x → IfSome o P → P x
-some-is x P None e h = absurd cc
-some-is x P (Some y) e h = subst P (some-same y x e) h

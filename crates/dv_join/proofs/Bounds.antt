@@ -1,27 +1,28 @@
 -- Without positions a look-up is that of a pipeline, and a change changes few of the rows that it makes.
-use Rattle.std.specs.Prelude.{◌≡◌, ◌+◌, ◌≤◌, suc, Bool, true, false, not, cond, List, [], ◌∷◌, length, map, filter, Option, None, Some, is_none, refl}
+use Rattle.std.specs.Prelude.{◌≡◌, ◌≤◌, Bool, true, false, cond, List, [], ◌∷◌, length, map, filter, Option, None, Some, is_none, refl}
 use Rattle.std.proofs.Common.{ap, arith, sym, ◌∙◌}
 use Rattle.std.proofs.lemmas.List.{length-append, length-map}
 use Rattle.std.proofs.lemmas.Map.Entries.{option_filter}
 use Rattle.std.specs.Option.{option_map}
 use Rattle.std.specs.Ordering.{is_eq}
+use Rattle.std.proofs.lemmas.Bool.{or_parts}
 use Rattle.dv_value.specs.Tree.{Field}
 use Rattle.dv_gather.specs.declared.lookup.Lookup.{Lookup}
 use Rattle.dv_gather.specs.Joining.{is_joined}
 use Rattle.dv_gather.specs.Lookups.{joined_row, looked_up}
 use Rattle.dv_change.specs.declared.change.Change.{Change}
-use Rattle.dv_change.specs.declared.change.Change.TheVariants.{Gone, Put}
+use Rattle.dv_change.specs.declared.change.Change.TheVariants.{Gone}
 use Rattle.dv_change.specs.Changes.{Positioned, at, forget, with_change}
 use Rattle.dv_change.specs.Inner.Changes.{IsExactChange, IsPositioned, alone, position_changed, row_in}
-use Rattle.dv_change.specs.Difference.{diff, gones, puts, stands_as}
-use Rattle.dv_change.specs.Inner.DiffLaws.{at-filter, exact-place, positioned-alone, positioned-filter}
+use Rattle.dv_change.specs.Difference.{diff, gones, puts}
+use Rattle.dv_change.specs.Inner.DiffLaws.{at-filter, exact-place, positioned-alone, positioned-filter, puts-length, diff-length}
 use Rattle.dv_change.specs.Positions.{IsExact, PosTree, pos_order}
 use Rattle.dv_change.specs.Inner.RowLaws.{at-like, positioned-none, same_rows}
 use Rattle.dv_join.specs.Inner.Bounds.{is_touched, rows_touched}
 use Rattle.dv_join.specs.Placed.{looked_up_at}
 use Rattle.dv_join.specs.Inner.Placed.{at-looked_up, looked_up_ordered}
 use Rattle.dv_join.specs.Inner.Turning.{if_any}
-use Rattle.dv_join.proofs.Owed.{foreign-owed, left-owed, neither}
+use Rattle.dv_join.proofs.Owed.{foreign-owed, left-owed}
 
 pub lookup-forgets : (l : Lookup) (rows foreign : Positioned) → forget (looked_up_at l rows foreign) ≡ looked_up l (forget rows) (forget foreign)
 unfolding looked_up
@@ -29,23 +30,6 @@ lookup-forgets l [] foreign = refl
 lookup-forgets l (e ∷ rows) foreign = ap (λ ds. joined_row l (forget foreign) e.1 ∷ ds) (lookup-forgets l rows foreign)
 
 -- ---- differences
-
-filter-length : {X : Type 0} (f : X → Bool) (xs : List X) → length (filter f xs) ≤ length xs
-filter-length f [] = omega arith
-filter-length f (x ∷ xs) = by (f x) (filter-length f xs)
-  where
-    by : (b : Bool) → length (filter f xs) ≤ length xs → length (cond b (x ∷ filter f xs) (filter f xs)) ≤ suc (length xs)
-    by true h = omega (arith, h)
-    by false h = omega (arith, h)
-
-gones-length : (old new : Positioned) → length (gones old new) ≤ length old
-gones-length old new = omega (arith, length-map (filter (λ e. is_none (at e.0 new)) old) (λ (e : PosTree × List Field). Gone e.0), filter-length (λ e. is_none (at e.0 new)) old)
-
-puts-length : (old new : Positioned) → length (puts old new) ≤ length new
-puts-length old new = omega (arith, length-map (filter (λ e. not (stands_as (at e.0 old) e.1)) new) (λ (e : PosTree × List Field). Put e.0 e.1), filter-length (λ e. not (stands_as (at e.0 old) e.1)) new)
-
-diff-length : (old new : Positioned) → length (diff old new) ≤ length old + length new
-diff-length old new = omega (arith, length-append (gones old new) (puts old new), gones-length old new, puts-length old new)
 
 -- where rows stand at the same positions, none goes
 diff-staying : (old new : Positioned) → IsPositioned old → ((q : PosTree) → is_none (at q new) ≡ is_none (at q old)) → length (diff old new) ≤ length new
@@ -87,7 +71,7 @@ module _ (l : Lookup) (rows foreign : Positioned) (change : Change) where
       let new = row_in change in
       let some = filter (λ (e : PosTree × List Field). is_touched l old new e.1) rows in
       let after = with_change foreign change in
-      let owed = foreign-owed l rows foreign change (is_touched l old new) are foreign-are exact (λ d other. neither (if_any (is_joined l.local l.foreign d) old) (if_any (is_joined l.local l.foreign d) new) other) in
+      let owed = foreign-owed l rows foreign change (is_touched l old new) are foreign-are exact (λ d other. or_parts (if_any (is_joined l.local l.foreign d) old) (if_any (is_joined l.local l.foreign d) new) other) in
       let some-are : IsPositioned some = positioned-filter (λ e. is_touched l old new e.1) rows are in
       let few = diff-staying (looked_up_at l some foreign) (looked_up_at l some after) (looked_up_ordered l foreign some some-are) (λ q. ap is_none (at-looked_up l after q some) ∙ staying (joined_row l (forget after)) (joined_row l (forget foreign)) (at q some) ∙ sym (ap is_none (at-looked_up l foreign q some))) in
       omega (arith, ap length owed, few, length-map {B = PosTree × List Field} some (λ e. (e.0, joined_row l (forget after) e.1)))

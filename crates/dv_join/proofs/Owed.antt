@@ -91,10 +91,6 @@ module _ (l : Lookup) (rows foreign : Positioned) (change : Change) (are : IsPos
 abbrev pub AreTouched : Lookup → (List Field → Bool) → Option (List Field) → Option (List Field) → Type 0
 AreTouched l test old new = (d : List Field) → test d ≡ false → (if_any (is_joined l.local l.foreign d) old ≡ false) × (if_any (is_joined l.local l.foreign d) new ≡ false)
 
-pub neither : (a b : Bool) → a || b ≡ false → (a ≡ false) × (b ≡ false)
-neither true b e = absurd (let same : true ≡ false = e in cc)
-neither false b e = (refl, e)
-
 -- those rows are touched that have a key of either
 pub touched-by : (l : Lookup) (old new : Option (List Field)) (keys old_keys new_keys : List KeyTree) → ((k : KeyTree) → is_one_of keys k ≡ is_one_of old_keys k || is_one_of new_keys k)
     → ((k : KeyTree) → is_one_of old_keys k ≡ if_any (has_foreign l k) old) → ((k : KeyTree) → is_one_of new_keys k ≡ if_any (has_foreign l k) new) → AreTouched l (has_any (has_local l) keys) old new

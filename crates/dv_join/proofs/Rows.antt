@@ -10,7 +10,7 @@ use Rattle.dv_value.specs.Tree.{Field}
 use Rattle.dv_change.specs.declared.change.Change.{Change}
 use Rattle.dv_change.specs.Changes.{Positioned, at, forget, with_change}
 use Rattle.dv_change.specs.Inner.Changes.{IsExactChange, IsPositioned, position_changed, row_in}
-use Rattle.dv_change.specs.Inner.DiffLaws.{at-changed, at-filter, exact-place, or_else, positioned-changed, positioned-filter}
+use Rattle.dv_change.specs.Inner.DiffLaws.{at-changed, at-filter, come_twice, exact-place, or_else, positioned-changed, positioned-filter}
 use Rattle.dv_change.specs.Inner.Ordered.{gone, put}
 use Rattle.dv_change.specs.Positions.{IsExact, PosTree, pos_order}
 use Rattle.dv_change.specs.Inner.RowLaws.{at-gone, at-like, at-put, at_back, past, positioned-gone, positioned-none, positioned-put, positioned-tail, same_rows}
@@ -52,16 +52,12 @@ none-of (x ∷ es) e = absurd cc
 pub begun : (es others rest first : Positioned) (e : PosTree × List Field) → slice_get others 0 ≡ Some e → rest ≡ drop 1 others → first ≡ put e.0 e.1 es → with_each_row first rest ≡ with_each_row es others
 begun es others rest first e is behind put-first = (λ i. with_each_row (put-first i) (behind i)) ∙ ap (with_each_row es) (sym (first-of others e is))
 
-put-twice : {A : Type 0} (b : Bool) (v : A) (s r : Option A) → (b ≡ true → s ≡ None) → or_else s (cond b (Some v) r) ≡ or_else (cond b (Some v) s) r
-put-twice true v s r none = ap (λ t. or_else t (Some v)) (none refl)
-put-twice false v s r none = refl
-
 pub at-with_all : (q : PosTree) (es others : Positioned) → IsPositioned others → at q (with_each_row es others) ≡ or_else (at q others) (at q es)
 at-with_all q es [] are = refl
 at-with_all q es (e ∷ others) are =
     at-with_all q (put e.0 e.1 es) others (positioned-tail e others are)
     ∙ ap (or_else (at q others)) (at-put q e.0 e.1 es)
-    ∙ put-twice (is_eq (pos_order q e.0)) e.1 (at q others) (at q es) (past q e others are)
+    ∙ come_twice (is_eq (pos_order q e.0)) e.1 (at q others) (at q es) (past q e others are)
 
 pub positioned-with_all : (es others : Positioned) → IsPositioned es → AllByRecursion IsExact (keys_of others) → IsPositioned (with_each_row es others)
 positioned-with_all es [] are exact = are

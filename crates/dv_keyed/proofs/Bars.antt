@@ -1,17 +1,15 @@
 -- One key or another, and keys before a bar.
-use Rattle.std.proofs.Common.{◌≡◌, ◌∙◌, ◌&&◌, ◌||◌, Bool, List, refl, ap, sym, true, false, not}
-use Rattle.std.specs.List.{list_any}
+use Rattle.std.proofs.Common.{◌≡◌, ◌∙◌, ◌&&◌, ◌||◌, Bool, refl, ap, sym, true, false, not}
 use Rattle.std.specs.Ordering.{is_eq, is_le, is_lt, ordering_reverse}
 use Rattle.std.specs.declared.cmp.Ordering.{Ordering}
 use Rattle.std.specs.declared.cmp.Ordering.TheVariants.{Less, Equal, Greater}
 use Rattle.dv_value.specs.Tree.{Tree}
 use Rattle.dv_order.specs.Key.{KeyTree, no_element, value, key_order}
-use Rattle.dv_order.specs.Inner.KeyLaws.{key_order_total, equal-from}
+use Rattle.dv_order.specs.Inner.KeyLaws.{key_order_total}
 use Rattle.dv_path.specs.SortKey.{stands_first}
 use Rattle.dv_path.specs.declared.direction.Direction.{Direction}
 use Rattle.dv_keyed.specs.declared.before.Bar.{Bar}
 use Rattle.dv_keyed.specs.Inner.Ahead.{is_until, stands_ahead}
-use Rattle.dv_keyed.specs.Inner.Pairs.{Pair, has_pair}
 
 pub by-kind : (P : KeyTree → Type 0) → P no_element → ((v : Tree) → P (value v)) → (k : KeyTree) → P k
 by-kind P none some no_element = none
@@ -35,5 +33,3 @@ by-bar P direction bar k i e before tied = at (stands_first direction k bar.key.
     at false false f first later = absurd cc
 
 -- ---- pairs of equal keys
-pub pair-of-equal : (k l i : KeyTree) (ps : List Pair) → is_eq (key_order k l) ≡ true → has_pair k i ps ≡ has_pair l i ps
-pair-of-equal k l i ps same = ap (λ t. list_any t ps) (λ j p. is_eq (key_order_total.congr k l p.0 (equal-from (key_order k l) same) j) && is_eq (key_order i p.1))

@@ -16,7 +16,7 @@ use Rattle.dv_match.specs.Filter.{Members, conditions_of, members_of, filters_of
 use Rattle.dv_match.specs.View.{condition, member}
 use Rattle.dv_keyed.proofs.Ends.{not-greater}
 use Rattle.dv_keyed.specs.Inner.Interval.{is_in_all, is_in_bounds, is_in_each, is_in_member, is_in_filters}
-use Rattle.dv_keyed.specs.Inner.ListLaws.{drop-step}
+use Rattle.dv_value.specs.Inner.ListLaws.{drop-read}
 
 not-so : (b : Bool) → not b ≡ true → b ≡ false
 not-so true e = absurd cc
@@ -84,7 +84,7 @@ none-inside low high a b k start end wrong =
 module _ {X : Type 0} (all : List X → Bool) (one : X → Bool) (more : (x : X) (xs : List X) → all (x ∷ xs) ≡ one x && all xs) (xs : List X) (i : ℕ) where
   pub next-passes : (x : X) → i < length xs → x ≡ get_or xs i x → all (drop i xs) ≡ true → (one x ≡ true) × (all (drop (i + 1) xs) ≡ true)
   next-passes x within is e =
-      and_parts (one x) (all (drop (i + 1) xs)) (sym (ap all (drop-step xs i x within is) ∙ more x (drop (i + 1) xs)) ∙ e)
+      and_parts (one x) (all (drop (i + 1) xs)) (sym (ap all (drop-read xs i x within is) ∙ more x (drop (i + 1) xs)) ∙ e)
 
 pub more-conditions : (k : KeyTree) (c : held.Condition) (cs : List held.Condition) → is_in_each k (conditions_of (map condition (c ∷ cs))) ≡ is_in_bounds k (condition c) && is_in_each k (conditions_of (map condition cs))
 more-conditions k c cs = refl

@@ -1,6 +1,5 @@
 -- Keys in a list, where one comes or goes.
 use Rattle.std.proofs.Common.{◌≡◌, ◌∙◌, List, [], ◌∷◌, ◌++◌, refl, ap, sym, Bool, true, false, cond, not, ◌||◌, ◌&&◌, filter}
-use Rattle.std.specs.List.{list_any}
 use Rattle.std.specs.BTreeMap.Range.{range_contains}
 use Rattle.std.specs.Ordering.{is_eq, is_lt}
 use Rattle.std.specs.declared.ops.Bound.TheVariants.{Excluded, Unbounded}
@@ -12,6 +11,7 @@ use Rattle.dv_order.specs.Inner.KeyLaws.{key_order_total, equal-back, equal-from
 use Rattle.dv_keyed.specs.Inner.Keys.{has_key}
 use Rattle.dv_keyed.proofs.Bars.{turned}
 use Rattle.dv_keyed.proofs.Several.{any-filter}
+use Rattle.dv_keyed.specs.Inner.PairLaws.{same-member}
 
 -- one alone
 pub alone : (i id : KeyTree) → has_key i (id ∷ []) ≡ is_eq (key_order i id)
@@ -24,15 +24,12 @@ one-behind i id ks = list_any-append (λ l. is_eq (key_order i l)) ks (id ∷ []
 pub two : (i first second : KeyTree) → has_key i (first ∷ second ∷ []) ≡ has_key i (first ∷ []) || is_eq (key_order i second)
 two i first second = one-behind i second (first ∷ [])
 
-has-same : (i id : KeyTree) (ks : List KeyTree) → is_eq (key_order i id) ≡ true → has_key i ks ≡ has_key id ks
-has-same i id ks same = ap (λ t. list_any t ks) (λ j l. is_eq (key_order_total.congr i id l (equal-from (key_order i id) same) j))
-
 -- one that is there
 pub there-already : (i id : KeyTree) (ks : List KeyTree) → has_key id ks ≡ true → has_key i ks ≡ has_key i ks || is_eq (key_order i id)
 there-already i id ks there = at (is_eq (key_order i id)) refl
   where
     at : (b : Bool) → is_eq (key_order i id) ≡ b → has_key i ks ≡ has_key i ks || b
-    at true same = let is : has_key i ks ≡ true = has-same i id ks same ∙ there in is ∙ ap (λ b. b || true) (sym is)
+    at true same = let is : has_key i ks ≡ true = same-member i id ks same ∙ there in is ∙ ap (λ b. b || true) (sym is)
     at false other = sym (or-false (has_key i ks))
 
 -- one goes

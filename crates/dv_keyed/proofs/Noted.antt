@@ -1,7 +1,7 @@
 -- Which `_id`s have several keys, where pairs come and go.
 use Rattle.std.proofs.Common.{◌≡◌, ◌∙◌, ◌≤◌, ◌++◌, arith, length, List, [], ◌∷◌, refl, ap, sym, Bool, true, false, not, ◌||◌, ◌&&◌, Result, Ok, Err, OnOk, OnErr}
 use Rattle.std.specs.Ordering.{is_eq}
-use Rattle.std.proofs.lemmas.Bool.{or_left, or_right}
+use Rattle.std.proofs.lemmas.Bool.{or_left, or_right, or_parts}
 use Rattle.std.proofs.lemmas.Cmp.{alike_right}
 use Rattle.std.proofs.lemmas.List.Folds.{list_any-append}
 use Rattle.std.proofs.Math.Bool.{or-false, and-true}
@@ -25,10 +25,6 @@ one-of k l (m ∷ n ∷ ks) few e f = absurd (omega arith)
 -- pairs go, or more `_id`s are noted
 pub noted-still : (several more : List KeyTree) (ps qs : List Pair) → AreNoted several ps → ((i : KeyTree) → has_key i more ≡ false → has_key i several ≡ false) → ((k i : KeyTree) → has_pair k i qs ≡ true → has_pair k i ps ≡ true) → AreNoted more qs
 noted-still several more ps qs h grown kept i out k there l also = h i (grown i out) k (kept k i there) l (kept l i also)
-
-not-first : (a b : Bool) → a || b ≡ false → a ≡ false
-not-first true b e = e
-not-first false b e = refl
 
 pub less-kept : (a b : Bool) → a && b ≡ true → a ≡ true
 less-kept true b e = refl
@@ -66,13 +62,13 @@ noted-added several more ks ps qs id b h noted added alone i out k there l also 
     at : (s c : Bool) → is_eq (key_order i id) ≡ s → b ≡ c → is_eq (key_order l k) ≡ true
     at true true e f = absurd (never (has_key i several) ((λ j. has_key i several || (sym f j && sym e j)) ∙ outside))
     at true false e f = one-of k l ks (alone f).0 (new k e ((alone f).1 k) there) (new l e ((alone f).1 l) also)
-    at false c e f = h i (not-first (has_key i several) (b && is_eq (key_order i id)) outside) k (old k e there) l (old l e also)
+    at false c e f = h i (or_parts (has_key i several) (b && is_eq (key_order i id)) outside).0 k (old k e there) l (old l e also)
 
 -- whether they are added or memory runs out
 pub noted-either : {T E : Type 0} (r : Result T E) (several more ks : List KeyTree) (ps qs : List Pair) (id : KeyTree) (b : Bool) → AreNoted several ps → ((i : KeyTree) → has_key i more ≡ has_key i several || (b && is_eq (key_order i id))) → OnOk r ((k i : KeyTree) → has_pair k i qs ≡ has_pair k i ps || (has_key k ks && is_eq (key_order i id)))
     → OnErr r ((k i : KeyTree) → has_pair k i qs ≡ has_pair k i ps) → (b ≡ false → (length ks ≤ 1) × ((k : KeyTree) → has_pair k id ps ≡ false)) → AreNoted more qs
 noted-either r several more ks ps qs id b h noted ok err alone =
-    either-way r ok err (λ added. noted-added several more ks ps qs id b h noted added alone) (λ same. noted-still several more ps qs h (λ i out. not-first (has_key i several) (b && is_eq (key_order i id)) (sym (noted i) ∙ out)) (λ k i there. sym (same k i) ∙ there))
+    either-way r ok err (λ added. noted-added several more ks ps qs id b h noted added alone) (λ same. noted-still several more ps qs h (λ i out. (or_parts (has_key i several) (b && is_eq (key_order i id)) (sym (noted i) ∙ out)).0) (λ k i there. sym (same k i) ∙ there))
 
 -- an `_id` whose keys are none
 pub none-held : (k : KeyTree) (held : List KeyTree) (b : Bool) → held ≡ [] → (b ≡ true → has_key k held ≡ true) → b ≡ false

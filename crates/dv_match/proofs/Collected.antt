@@ -10,7 +10,7 @@ use Rattle.dv_match.specs.declared.fault.FilterFault.{FilterFault}
 use Rattle.dv_match.specs.Filter.{Member, Members, members_of, more_members, filters_of, more_filters, Condition, conditions_of, more_conditions}
 use Rattle.dv_match.specs.Parsing.{member_named, filter_in, filter_of, filters_in, each_filter, conditions_in, operators_in, operator_named, condition_by, negated_in, test_in}
 use Rattle.dv_value.specs.Results.{◌>>=◌, Gives}
-use Rattle.dv_value.specs.Inner.ListLaws.{none-past}
+use Rattle.dv_value.specs.Inner.ListLaws.{none-past, drop-here}
 
 abbrev pub collected : {X Y : Type 0} → (X → Result Y FilterFault) → List X → Result (List Y) FilterFault
 collected f [] = Ok []
@@ -19,11 +19,6 @@ collected f (x ∷ xs) = f x >>= λ y. collected f xs >>= λ ys. Ok (y ∷ ys)
 abbrev pub after : {Y : Type 0} → List Y → Result (List Y) FilterFault → Result (List Y) FilterFault
 after ys (Ok rest) = Ok (ys ++ rest)
 after ys (Err e) = Err e
-
-drop-here : {X : Type 0} (xs : List X) (i : ℕ) (x : X) → slice_get xs i ≡ Some x → drop i xs ≡ x ∷ drop (suc i) xs
-drop-here [] i x e = absurd cc
-drop-here (z ∷ xs) zero x e = let same : z ≡ x = cc in ap (λ y. y ∷ xs) same
-drop-here (z ∷ xs) (suc i) x e = drop-here xs i x e
 
 drop-none : {X : Type 0} (xs : List X) (i : ℕ) → slice_get xs i ≡ None → drop i xs ≡ []
 drop-none [] zero e = refl

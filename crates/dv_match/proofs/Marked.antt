@@ -1,5 +1,5 @@
 -- Marks of a block, one candidate after the other, and whether all values have one.
-use Rattle.std.proofs.Common.{◌≡◌, ◌∙◌, ◌+◌, ◌*◌, ◌%◌, ◌^◌, ◌<◌, ◌==◌, ◌&&◌, ◌||◌, not, ap, ap₂, sym, subst, refl, arith, tests, ℕ, zero, suc, Bool, true, false, List, [], ◌∷◌, ◌++◌, length, map, get_or, take, Option, Some, Result, Ok, MatchBool, bit_or, add-one}
+use Rattle.std.proofs.Common.{◌≡◌, ◌∙◌, ◌+◌, ◌*◌, ◌%◌, ◌^◌, ◌<◌, ◌==◌, ◌&&◌, ◌||◌, not, ap, ap₂, sym, subst, refl, arith, tests, ℕ, suc, Bool, true, false, List, [], ◌∷◌, ◌++◌, length, map, get_or, take, Option, Some, Result, Ok, MatchBool, bit_or}
 use Rattle.std.proofs.Math.Bool.{or-false, or_assoc}
 use Rattle.std.proofs.lemmas.List.{map-append}
 use Rattle.std.proofs.lemmas.List.Folds.{list_any-append, list_all_at}
@@ -14,6 +14,7 @@ use Rattle.std.proofs.lemmas.Cmp.{alike_right}
 use Rattle.dv_value.specs.Tree.{Tree}
 use Rattle.dv_value.specs.View.{tree}
 use Rattle.dv_value.specs.declared.value.Value.{Value}
+use Rattle.dv_value.specs.Inner.ListLaws.{take-read}
 use Rattle.dv_order.specs.Order.{order}
 use Rattle.dv_order.specs.Inner.TotalOrder.{order_total}
 use Rattle.dv_candidates.specs.Candidates.{Candidate, or_null, with_elements}
@@ -78,14 +79,9 @@ module _ (block : List Value) where
 
 -- ---- elements, one after the other
 
-take_one_more : (xs : List Value) (i : ℕ) (x : Value) → i < length xs → x ≡ get_or xs i x → take (i + 1) xs ≡ take i xs ++ x ∷ []
-take_one_more [] i x within is = absurd (omega arith)
-take_one_more (y ∷ ys) zero x within is = ap (λ z. z ∷ []) (sym is)
-take_one_more (y ∷ ys) (suc i) x within is = let rest = rw add-one at (take_one_more ys i x (omega arith) is) in rw add-one (ap (λ zs. y ∷ zs) rest)
-
 pub elements-more : (xs : List Value) (i : ℕ) (x : Value) → i < length xs → x ≡ get_or xs i x → map Some (map tree (take (i + 1) xs)) ≡ map Some (map tree (take i xs)) ++ Some (tree x) ∷ []
 elements-more xs i x within is =
-    ap (λ ys. map Some (map tree ys)) (take_one_more xs i x within is) ∙ ap (map Some) (map-append tree (take i xs) (x ∷ [])) ∙ map-append Some (map tree (take i xs)) (tree x ∷ [])
+    ap (λ ys. map Some (map tree ys)) (take-read xs i x within is) ∙ ap (map Some) (map-append tree (take i xs) (x ∷ [])) ∙ map-append Some (map tree (take i xs)) (tree x ∷ [])
 
 -- ---- parts of values that ascend
 

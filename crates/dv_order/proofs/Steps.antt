@@ -1,8 +1,6 @@
 -- Two lists compared from the front, where what is left of both decides. And fields and elements compared so.
-use Rattle.std.specs.Prelude.{◌≡◌, ℕ, ◌+◌, ◌<◌, List, [], ◌∷◌, length, drop, slice_get, Some, true, false, refl, ◌⊎◌, zero, suc}
+use Rattle.std.specs.Prelude.{◌≡◌, ℕ, ◌+◌, ◌<◌, List, [], ◌∷◌, length, slice_get, Some, true, false, refl, ◌⊎◌, zero, suc}
 use Rattle.std.proofs.Common.{ap, sym, ◌∙◌, arith}
-use Rattle.std.proofs.lemmas.List.{drop_more}
-use Rattle.std.proofs.lemmas.Option.{slice_get_within, get_or_from_slice_get}
 use Rattle.std.specs.declared.cmp.Ordering.{Ordering}
 use Rattle.std.specs.declared.cmp.Ordering.TheVariants.{Less, Equal, Greater}
 use Rattle.std.specs.Ordering.{ordering_then, nat_cmp, is_ne}
@@ -66,10 +64,6 @@ lengths R (u ∷ us) (v ∷ vs) m n p h = absurd (omega arith)
 -- where nothing is left of one list, the lengths decide
 pub ended : {A : Type 0} {R : A → A → Ordering} {xs ys us vs : List A} → IsLeft R xs ys us vs → (length us ≡ 0) ⊎ (length vs ≡ 0) → nat_cmp (length xs) (length ys) ≡ slice_cmp R xs ys
 ended {R = R} {xs = xs} {ys = ys} {us = us} {vs = vs} left h = lengths R us vs (length xs) (length ys) left.passed h ∙ left.decides
-
--- what is left from i on begins with the element there
-pub drop_at : {A : Type 0} (xs : List A) (i : ℕ) (x : A) → Some x ≡ slice_get xs i → drop i xs ≡ x ∷ drop (i + 1) xs
-drop_at xs i x e = drop_more xs i x (slice_get_within xs i x (sym e)) ∙ ap (λ w. w ∷ drop (i + 1) xs) (get_or_from_slice_get xs i x x (sym e))
 
 -- an element stands at each place within
 pub element_at : {A : Type 0} (xs : List A) (i : ℕ) → i < length xs → (x : A) × (Some x ≡ slice_get xs i)

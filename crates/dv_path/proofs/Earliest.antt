@@ -8,6 +8,7 @@ use Rattle.std.specs.declared.cmp.Ordering.TheVariants.{Less, Equal, Greater}
 use Rattle.std.proofs.lemmas.Bool.{or_cases, or_left, or_right, or_from, or_parts}
 use Rattle.std.proofs.lemmas.List.MinMax.{ranks_by, IsStrictWeakOrder-flip}
 use Rattle.dv_value.specs.Tree.{Tree, array, null, list_of_elements}
+use Rattle.dv_value.specs.Inner.ListLaws.{any-flat_map}
 use Rattle.dv_order.specs.Order.{canon, order}
 use Rattle.dv_order.specs.Key.{KeyTree, no_element, value, key_order, key_at}
 use Rattle.dv_order.specs.Inner.KeyLaws.{key_order_total}
@@ -16,7 +17,6 @@ use Rattle.dv_path.specs.declared.direction.Direction.TheVariants.{Ascending, De
 use Rattle.dv_candidates.specs.Candidates.{Candidate}
 use Rattle.dv_candidates.specs.Inner.Fold.{Takes, FoldsOver, PassesOne}
 use Rattle.dv_path.specs.SortKey.{array_keys, sort_keys_of, stands_first, earliest, earlier_with}
-use Rattle.dv_path.specs.Inner.GatheredKeys.{any-flat_map}
 
 -- what the order of keys says of each other, as its laws have it
 pub record Laws : Type 0 where

@@ -7,7 +7,7 @@ use Rattle.dv_candidates.specs.declared.fault.PathFault.{PathFault}
 use Rattle.dv_candidates.specs.Candidates.{Candidate}
 use Rattle.dv_path.specs.Placing.{field_with, with_field, with_element, result_map, put_field, put_behind}
 use Rattle.dv_path.specs.Removing.{changed_at, remove_field}
-use Rattle.dv_path.proofs.Fielded.{field-missing}
+use Rattle.dv_path.specs.Inner.Fielded.{field-missing}
 
 -- where no field has a name, nothing is exchanged under it
 same-case : (here : Bool) (name : List ℕ) (v : Tree) (f : Field) (fs : List Field) → (if here then Some f.1 else value_under name fs) ≡ None → (value_under name fs ≡ None → with_value_under name v fs ≡ fs) → (if here then (f.0, v) ∷ fs else f ∷ with_value_under name v fs) ≡ f ∷ fs

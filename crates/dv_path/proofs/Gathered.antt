@@ -1,5 +1,5 @@
 -- What an expression gathers, element by element.
-use Rattle.std.proofs.Common.{◌≡◌, List, [], ◌∷◌, ◌++◌, map, Option, Some, ℕ, zero, suc, ◌+◌, ◌<◌, length, take, drop, get_or, ap, sym, ◌∙◌, arith, add-one, option_and_then}
+use Rattle.std.proofs.Common.{◌≡◌, List, [], ◌∷◌, ◌++◌, map, Option, Some, ℕ, ◌+◌, ◌<◌, length, take, drop, get_or, ap, sym, ◌∙◌, arith, option_and_then}
 use Rattle.std.specs.List.{filter_map}
 use Rattle.std.proofs.lemmas.List.{map-append}
 use Rattle.std.proofs.lemmas.List.Elements.{filter_map-append}
@@ -8,17 +8,13 @@ use Rattle.dv_value.specs.Tree.{Tree, array, Field, elements_of}
 use Rattle.dv_value.specs.View.{tree}
 use Rattle.dv_value.specs.declared.value.Value.{Value}
 use Rattle.dv_value.specs.Inner.TreeLaws.{fields_again, elements_again}
+use Rattle.dv_value.specs.Inner.ListLaws.{take-read}
 use Rattle.dv_path.specs.Expression.{component_entered, expression, expr}
-
-pub take_one_more : {X : Type 0} (xs : List X) (i : ℕ) (x : X) → i < length xs → x ≡ get_or xs i x → take (i + 1) xs ≡ take i xs ++ x ∷ []
-take_one_more [] i x within is = absurd (omega arith)
-take_one_more (y ∷ ys) zero x within is = ap (λ z. z ∷ []) (sym is)
-take_one_more (y ∷ ys) (suc i) x within is = let rest = rw add-one at (take_one_more ys i x (omega arith) is) in rw add-one (ap (λ zs. y ∷ zs) rest)
 
 -- one more item of a list that is gone through
 pub filter_more : {X Y Z : Type 0} (f : Y → Option Z) (view : X → Y) (xs : List X) (i : ℕ) (x : X) → i < length xs → x ≡ get_or xs i x → filter_map f (map view (take (i + 1) xs)) ≡ filter_map f (map view (take i xs)) ++ filter_map f (view x ∷ [])
 filter_more f view xs i x within is =
-    ap (λ ys. filter_map f (map view ys)) (take_one_more xs i x within is) ∙ ap (filter_map f) (map-append view (take i xs) (x ∷ [])) ∙ filter_map-append f (map view (take i xs)) (view x ∷ [])
+    ap (λ ys. filter_map f (map view ys)) (take-read xs i x within is) ∙ ap (filter_map f) (map-append view (take i xs) (x ∷ [])) ∙ filter_map-append f (map view (take i xs)) (view x ∷ [])
 
 pub filter-one : {Y Z : Type 0} (f : Y → Option Z) (y : Y) (o : Option Z) → f y ≡ o → filter_map f (y ∷ []) ≡ filter_map (λ p. p) (o ∷ [])
 filter-one f y o e = ap (λ p. filter_map (λ q. q) (p ∷ [])) e

@@ -7,6 +7,7 @@ use Rattle.dv_value.specs.Removing.{without_each}
 use Rattle.dv_value.specs.View.{tree}
 use Rattle.dv_value.specs.declared.value.Value.{Value}
 use Rattle.dv_value.specs.Inner.TreeLaws.{fields_again, elements_again}
+use Rattle.dv_value.specs.Inner.ListLaws.{positive}
 use Rattle.dv_path.specs.Apart.{AreApart, IsApartFrom, AreAllApart, remove_each}
 use Rattle.dv_path.specs.Inner.Apart.{fields_alone, leading_further}
 use Rattle.dv_candidates.specs.Candidates.{Candidate}
@@ -17,7 +18,7 @@ use Rattle.dv_path.specs.Inner.Groups.{Group, begun, ungrouped, AreFilled, AreSo
 use Rattle.dv_candidates.specs.Path.{index_of}
 use Rattle.dv_path.specs.Placing.{with_field}
 use Rattle.dv_path.specs.Removing.{changed_at, remove_field, remove_element, left_behind, remove}
-use Rattle.dv_path.proofs.Fielded.{field-missing, field-again}
+use Rattle.dv_path.specs.Inner.Fielded.{field-missing, field-again}
 use Rattle.dv_path.proofs.Parting.{left_of, field-left, field-twice, stays}
 use Rattle.dv_path.proofs.Together.{fields-first}
 
@@ -173,10 +174,6 @@ total-parts : (a : List ℕ) (rests qs : List (List (List ℕ))) → total (begu
 total-parts a [] qs = omega arith
 total-parts a (r ∷ rests) qs = omega (arith, total-parts a rests qs)
 
-filled-length : {X : Type 0} (xs : List X) → (xs ≡ [] → ⊥) → 0 < length xs
-filled-length [] some = absurd (some refl)
-filled-length (x ∷ xs) some = omega arith
-
 -- groups that are still to be gone through, of paths with so many components
 pub record AreOpen (bound : ℕ) (groups : List Group) : Type 0 where
   pub apart : AreAllApart (ungrouped groups)
@@ -192,7 +189,7 @@ module _ {bound : ℕ} (g : Group) (gs rest : List Group) (is : gs ≡ g ∷ res
 
   pub open-less : total g.1 < bound
   open-less =
-      let some = filled-length g.1 here.filled.0 in
+      let some = positive g.1 here.filled.0 in
       let parts = total-parts g.0 g.1 (ungrouped rest) in
       let most = here.within in
       omega arith

@@ -1,5 +1,5 @@
 -- Items that a loop or a call reads, and lists that are seen as fields and elements.
-use Rattle.std.proofs.Common.{◌≡◌, ℕ, zero, suc, ◌≤◌, List, [], ◌∷◌, length, Some, None, slice_get, refl, ap, ◌∙◌, arith}
+use Rattle.std.proofs.Common.{◌≡◌, Some, ap, ◌∙◌}
 use Rattle.dv_value.specs.Tree.{Tree}
 use Rattle.dv_value.specs.View.{tree}
 use Rattle.dv_value.specs.declared.value.Value.{Value}
@@ -11,9 +11,3 @@ use denote.Ref.{Bor}
 -- the value that a candidate in memory leads to
 pub seen-at : (c : memory.Candidate) (value : Bor Value) → c ≡ Found value → (v : Tree) → tree value.now ≡ v → seen c ≡ Some v
 seen-at c value at v e = ap seen at ∙ ap Some e
-
--- no item stands past a list's end
-pub none-past : {X : Type 0} (xs : List X) (place : ℕ) → length xs ≤ place → slice_get xs place ≡ None
-none-past [] place h = refl
-none-past (x ∷ xs) zero h = absurd (omega arith)
-none-past (x ∷ xs) (suc place) h = none-past xs place (omega arith)

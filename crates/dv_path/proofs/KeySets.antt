@@ -10,12 +10,12 @@ use Rattle.std.specs.Ordering.{is_eq}
 use Rattle.dv_value.specs.Tree.{Tree, array, list_of_elements}
 use Rattle.dv_value.specs.View.{tree}
 use Rattle.dv_value.specs.declared.value.Value.{Value}
+use Rattle.dv_value.specs.Inner.ListLaws.{take-read}
 use Rattle.dv_order.specs.Order.{canon}
 use Rattle.dv_order.specs.Key.{KeyTree, value, key_order}
 use Rattle.dv_order.specs.Inner.KeyLaws.{key_order_total}
 use Rattle.dv_candidates.specs.Candidates.{Candidate, array_in, or_null, with_elements}
 use Rattle.dv_path.specs.LeafKeys.{is_key_of, is_some_key}
-use Rattle.dv_path.proofs.Gathered.{take_one_more}
 
 pub map-flat_map : {X Y Z : Type 0} (f : Y → Z) (g : X → List Y) (xs : List X) → map f (flat_map g xs) ≡ flat_map (λ x. map f (g x)) xs
 map-flat_map f g [] = refl
@@ -56,7 +56,7 @@ pub keys-more : (k : KeyTree) (was : Bool) (xs : List Value) (i : ℕ) (x : Valu
 keys-more k was xs i x within is =
     let before = is_some_key k (map tree (take i xs)) in
     let more : is_some_key k (map tree (take (i + 1) xs)) ≡ before || is_key_of k (tree x) =
-    ap (λ ys. is_some_key k (map tree ys)) (take_one_more xs i x within is) ∙ ap (is_some_key k) (map-append tree (take i xs) (x ∷ []))
+    ap (λ ys. is_some_key k (map tree ys)) (take-read xs i x within is) ∙ ap (is_some_key k) (map-append tree (take i xs) (x ∷ []))
     ∙ list_any-append (is_key_of k) (map tree (take i xs)) (tree x ∷ []) ∙ ap (λ b. before || b) (or-false (is_key_of k (tree x))) in
     or_assoc was before (is_key_of k (tree x)) ∙ ap (λ b. was || b) (sym more)
 

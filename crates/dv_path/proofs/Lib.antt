@@ -4,7 +4,6 @@ pub mod Left
 pub mod Earliest
 pub mod KeySets
 pub mod Slotted
-pub mod Fielded
 pub mod Placed
 pub mod Exchanged
 pub mod Vectors

@@ -14,18 +14,15 @@ use Rattle.dv_candidates.specs.Path.{index_of}
 use Rattle.dv_path.specs.Placing.{result_map, field_with, with_field, with_element, put_field, put_element, put_behind, put}
 use Rattle.dv_path.specs.Removing.{changed_at, remove_field, remove_element, left_behind, remove}
 use Rattle.dv_path.specs.Slots.{slot_of, element_slot, slot_behind, slot}
-use Rattle.dv_path.proofs.Fielded.{field-at, field-other, field-missing, differ}
+use Rattle.dv_path.specs.Inner.Fielded.{field-at, field-other, field-missing, differ}
 use Rattle.dv_path.proofs.Indexed.{same-place}
+use Rattle.dv_path.specs.Inner.ResultLaws.{map-both}
 
 -- ---- results
 
 map-none : {X : Type 0} (r : Result X PathFault) → result_map (λ x. x) r ≡ r
 map-none (Ok x) = refl
 map-none (Err e) = refl
-
-map-both : {X Y Z W : Type 0} (f : Y → Z) (g : X → Y) (h : W → Z) (k : X → W) → ((x : X) → f (g x) ≡ h (k x)) → (r : Result X PathFault) → result_map f (result_map g r) ≡ result_map h (result_map k r)
-map-both f g h k same (Ok x) = ap Ok (same x)
-map-both f g h k same (Err e) = refl
 
 map-one : {X Y Z : Type 0} (f : X → Z) (h : Y → Z) (k : X → Y) → ((x : X) → f x ≡ h (k x)) → (r : Result X PathFault) → result_map f r ≡ result_map h (result_map k r)
 map-one f h k same (Ok x) = ap Ok (same x)

@@ -15,19 +15,15 @@ use Rattle.dv_path.specs.Slots.{Slot, taken, free, blocked, slot_of, element_slo
 use Rattle.dv_path.specs.Placing.{field_with, put, put_behind, put_element, put_field, result_map, with_element, with_field}
 use Rattle.dv_path.specs.Removing.{changed_at, remove_field, remove_element, left_behind, remove}
 use Rattle.std.specs.Str.{bytes_eq}
-use Rattle.dv_path.proofs.Fielded.{differ, field-other, field-at, field-missing, field-again, element-at, changed-missing, changed-same}
-
--- what a step gives comes from what is put further on
-mapped : {X Y : Type 0} (f : X → Y) (r : Result X PathFault) (y : Y) → result_map f r ≡ Ok y → (x : X) × (r ≡ Ok x) × (f x ≡ y)
-mapped f (Ok x) y e = (x, refl, cc)
-mapped f (Err e) y h = absurd cc
+use Rattle.dv_path.specs.Inner.Fielded.{differ, field-other, field-at, field-missing, field-again, element-at, changed-missing, changed-same}
+use Rattle.dv_path.specs.Inner.ResultLaws.{made-by}
 
 -- a field that is put has what is put further on
 field-put : (inner : Candidate → Result Tree PathFault) (name : List ℕ) (fs after : List Field) → put_field inner name fs ≡ Ok after → (u : Tree) × (inner (value_under name fs) ≡ Ok u) × (with_field name (Some u) fs ≡ after)
-field-put inner name fs after e = mapped (λ v. with_field name (Some v) fs) (inner (value_under name fs)) after e
+field-put inner name fs after e = made-by (λ v. with_field name (Some v) fs) (inner (value_under name fs)) after e
 
 element-case : (within : Bool) (inner : Candidate → Result Tree PathFault) (place : ℕ) (vs after : List Tree) → (if within then result_map (λ v. with_element place v vs) (inner (slice_get vs place)) else Err IndexTooLarge) ≡ Ok after → (u : Tree) × (inner (slice_get vs place) ≡ Ok u) × (with_element place u vs ≡ after)
-element-case true inner place vs after e = mapped (λ v. with_element place v vs) (inner (slice_get vs place)) after e
+element-case true inner place vs after e = made-by (λ v. with_element place v vs) (inner (slice_get vs place)) after e
 element-case false inner place vs after e = absurd cc
 
 element-slotted : (inner : Candidate → Result Tree PathFault) (index : Option ℕ) (vs after : List Tree) → put_element inner index vs ≡ Ok after → (c : Candidate) × (u : Tree) × (inner c ≡ Ok u) × (element_slot index after ≡ taken u)
@@ -43,7 +39,7 @@ field-slotted inner name fs after e =
 
 fields-slotted : (inner : Candidate → Result Tree PathFault) (name : List ℕ) (fs : List Field) (t : Tree) → result_map (λ gs. document (fields_of gs)) (put_field inner name fs) ≡ Ok t → (c : Candidate) × (u : Tree) × (inner c ≡ Ok u) × (next_slot name (taken t) ≡ taken u)
 fields-slotted inner name fs t e =
-    let made = mapped (λ gs. document (fields_of gs)) (put_field inner name fs) t e in
+    let made = made-by (λ gs. document (fields_of gs)) (put_field inner name fs) t e in
     let put = field-slotted inner name fs made.0 made.1 in
     (put.0, put.1, put.2, ap (λ d. next_slot name (taken d)) (sym made.2) ∙ ap (λ gs. slot_of (value_under name gs)) (fields_again made.0) ∙ put.3)
 
@@ -52,7 +48,7 @@ step-slotted : (names : List (List ℕ)) (name : List ℕ) (v : Tree) (c : Candi
 step-slotted names name v None t e = fields-slotted (put_behind names v) name [] t e
 step-slotted names name v (Some (document fs)) t e = fields-slotted (put_behind names v) name (list_of_fields fs) t e
 step-slotted names name v (Some (array vs)) t e =
-    let made = mapped (λ ws. array (elements_of ws)) (put_element (put_behind names v) (index_of name) (list_of_elements vs)) t e in
+    let made = made-by (λ ws. array (elements_of ws)) (put_element (put_behind names v) (index_of name) (list_of_elements vs)) t e in
     let put = element-slotted (put_behind names v) (index_of name) (list_of_elements vs) made.0 made.1 in
     (put.0, put.1, put.2, ap (λ d. next_slot name (taken d)) (sym made.2) ∙ ap (element_slot (index_of name)) (elements_again made.0) ∙ put.3)
 step-slotted names name v (Some w) t e = absurd cc
@@ -80,7 +76,7 @@ missing-stays (name ∷ names) = append-nil (candidates names None) ∙ missing-
 
 fields-found : (names : List (List ℕ)) (name : List ℕ) (v : Tree) (fs : List Field) (t : Tree) → result_map (λ gs. document (fields_of gs)) (put_field (put_behind names v) name fs) ≡ Ok t → ((u : Tree) → put_behind names v (value_under name fs) ≡ Ok u → candidates names (Some u) ≡ Some v ∷ []) → candidates (name ∷ names) (Some t) ≡ Some v ∷ []
 fields-found names name v fs t e further =
-    let made = mapped (λ gs. document (fields_of gs)) (put_field (put_behind names v) name fs) t e in
+    let made = made-by (λ gs. document (fields_of gs)) (put_field (put_behind names v) name fs) t e in
     let put = field-put (put_behind names v) name fs made.0 made.1 in
     let there : value_under name made.0 ≡ Some put.0 = ap (value_under name) (sym put.2) ∙ field-at name put.0 fs in
     ap (λ d. candidates (name ∷ names) (Some d)) (sym made.2) ∙ ap (λ gs. candidates names (value_under name gs) ++ []) (fields_again made.0) ∙ append-nil (candidates names (value_under name made.0)) ∙ ap (candidates names) there ∙ further put.0 put.1

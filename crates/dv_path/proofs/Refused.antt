@@ -11,19 +11,15 @@ use Rattle.dv_candidates.specs.declared.fault.PathFault.TheVariants.{IndexTooLar
 use Rattle.dv_candidates.specs.Candidates.{Candidate}
 use Rattle.dv_candidates.specs.Path.{index_of}
 use Rattle.dv_path.specs.Placing.{put, put_behind, put_element, put_field, result_map, with_element, with_field}
-
--- what a step gives is refused as what is put further on
-further : {X Y : Type 0} (f : X → Y) (r : Result X PathFault) → result_err (result_map f r) ≡ result_err r
-further f (Ok x) = refl
-further f (Err e) = refl
+use Rattle.dv_path.specs.Inner.ResultLaws.{refused-further}
 
 field-refused : (put : Candidate → Result Tree PathFault) (name : List ℕ) (fs : List Field) → result_err (put_field put name fs) ≡ result_err (put (value_under name fs))
-field-refused put name fs = further (λ v. with_field name (Some v) fs) (put (value_under name fs))
+field-refused put name fs = refused-further (λ v. with_field name (Some v) fs) (put (value_under name fs))
 
 -- what is missing is made
 pub missing : (names : List (List ℕ)) (v : Tree) → result_err (put_behind names v None) ≡ None
 missing [] v = refl
-missing (name ∷ names) v = further (λ fs. document (fields_of fs)) (put_field (put_behind names v) name []) ∙ field-refused (put_behind names v) name [] ∙ missing names v
+missing (name ∷ names) v = refused-further (λ fs. document (fields_of fs)) (put_field (put_behind names v) name []) ∙ field-refused (put_behind names v) name [] ∙ missing names v
 
 pub refused-missing : (names : List (List ℕ)) (v : Tree) (c : Candidate) → None ≡ c → None ≡ result_err (put_behind names v c)
 refused-missing names v c none = sym (missing names v) ∙ ap (λ d. result_err (put_behind names v d)) none
@@ -35,11 +31,11 @@ refused-first (n ∷ names) v fs name some is = ap (λ m. result_err (put_behind
 
 pub refused-in-document : (names : List (List ℕ)) (v : Tree) (name : List ℕ) (fs : List Field) → result_err (put_behind (name ∷ names) v (Some (document (fields_of fs)))) ≡ result_err (put_behind names v (value_under name fs))
 refused-in-document names v name fs =
-    further (λ gs. document (fields_of gs)) (put_field (put_behind names v) name _) ∙ field-refused (put_behind names v) name _ ∙ ap (λ gs. result_err (put_behind names v (value_under name gs))) (fields_again fs)
+    refused-further (λ gs. document (fields_of gs)) (put_field (put_behind names v) name _) ∙ field-refused (put_behind names v) name _ ∙ ap (λ gs. result_err (put_behind names v (value_under name gs))) (fields_again fs)
 
 pub refused-in-array : (names : List (List ℕ)) (v : Tree) (name : List ℕ) (vs : List Tree) → result_err (put_behind (name ∷ names) v (Some (array (elements_of vs)))) ≡ result_err (put_element (put_behind names v) (index_of name) vs)
 refused-in-array names v name vs =
-    further (λ ws. array (elements_of ws)) (put_element (put_behind names v) (index_of name) _) ∙ ap (λ ws. result_err (put_element (put_behind names v) (index_of name) ws)) (elements_again vs)
+    refused-further (λ ws. array (elements_of ws)) (put_element (put_behind names v) (index_of name) _) ∙ ap (λ ws. result_err (put_element (put_behind names v) (index_of name) ws)) (elements_again vs)
 
 past-end : (vs : List Tree) (place : ℕ) → slice_get vs place ≡ None → length vs ≤ place
 past-end vs place none = elim (slice_get_cases vs place).1 [ inl here ↦ absurd cc | inr past ↦ past.0 ]
@@ -50,7 +46,7 @@ module _ (put : Candidate → Result Tree PathFault) (o : Option ℕ) (place : �
   chosen may e = ap (λ i. result_err (put_element put i vs)) (sym index) ∙ rw e (go may)
     where
       go : (b : Bool) → result_err (if b then result_map (λ v. with_element place v vs) (put (slice_get vs place)) else Err IndexTooLarge) ≡ (if b then result_err (put (slice_get vs place)) else Some IndexTooLarge)
-      go true = further (λ v. with_element place v vs) (put (slice_get vs place))
+      go true = refused-further (λ v. with_element place v vs) (put (slice_get vs place))
       go false = refl
 
   pub refused-element : (w : Tree) → slice_get vs place ≡ Some w → result_err (put_element put o vs) ≡ result_err (put (Some w))

@@ -12,7 +12,7 @@ use Rattle.dv_path.specs.Inner.Apart.{fields_alone, leading_further, field_alone
 use Rattle.dv_candidates.specs.Candidates.{Candidate}
 use Rattle.dv_path.specs.Placing.{field_with, with_field}
 use Rattle.dv_path.specs.Removing.{remove_field, left_behind, remove}
-use Rattle.dv_path.proofs.Fielded.{field-other, differ}
+use Rattle.dv_path.specs.Inner.Fielded.{field-other, differ}
 
 -- ---- one field
 

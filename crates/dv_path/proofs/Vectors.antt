@@ -6,13 +6,13 @@ use Rattle.dv_value.specs.declared.value.Value.{Value}
 use Rattle.dv_value.specs.Tree.{Tree, null}
 use Rattle.dv_value.specs.View.{tree}
 use Rattle.dv_value.specs.Results.{Gives}
+use Rattle.dv_value.specs.Inner.ListLaws.{none-past}
 use Rattle.dv_candidates.specs.declared.fault.PathFault.{PathFault}
 use Rattle.dv_candidates.specs.declared.fault.PathFault.TheVariants.{IndexTooLarge, NoMemory}
 use Rattle.dv_candidates.specs.Candidates.{Candidate}
 use Rattle.dv_path.specs.Placing.{result_map, with_element, put_element}
 use Rattle.dv_path.specs.Removing.{remove_element}
-use Rattle.dv_path.proofs.Items.{none-past}
-use Rattle.dv_path.proofs.Fielded.{changed-missing}
+use Rattle.dv_path.specs.Inner.Fielded.{changed-missing}
 use Rattle.dv_path.proofs.Placed.{element-taken}
 use Rattle.dv_path.proofs.Exchanged.{null-before, element-last, element-twice, changed-there}
 use Rattle.std.specs.Option.{unwrap_or}

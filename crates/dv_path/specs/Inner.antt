@@ -4,3 +4,5 @@ pub mod Apart
 pub mod Groups
 pub mod GroupView
 pub mod Examples
+pub mod Fielded
+pub mod ResultLaws

@@ -6,6 +6,7 @@ use Rattle.std.proofs.lemmas.List.{get_or-take, length-take}
 use Rattle.std.proofs.lemmas.List.Sums.{fails_before_first}
 use Rattle.std.proofs.lemmas.Slice.Eq.{bytes_eq-Decides}
 use Rattle.std.proofs.lemmas.Str.Pattern.{IsSplitOnceResult, split_after, split_parts}
+use Rattle.std.proofs.lemmas.Bool.{and_from}
 use Rattle.dv_pipe.specs.Stages.{database_of, beside}
 use Rattle.dv_value.specs.Inner.ListLaws.{same-truth}
 
@@ -17,11 +18,6 @@ no-dot source i within is =
     let fails = fails_before_first (λ b. b == 46) source i 0 below in
     let same : (46 == 46) ≡ false = ap (λ b. b == 46) (sym is ∙ read) ∙ fails in
     cc
-
-both-true : (a b : Bool) → a ≡ true → b ≡ true → a && b ≡ true
-both-true true true e f = refl
-both-true true false e f = f
-both-true false b e f = e
 
 first-true : (a b : Bool) → a && b ≡ true → a ≡ true
 first-true true b e = refl
@@ -46,7 +42,7 @@ module _ (source collection namespace : List ℕ) where
     both =
         same-truth (a && b) (bytes_eq namespace (beside source collection))
         (λ e. decided.1 ((split_parts 46 namespace (Some (d, n)) split (omega arith)).0 ∙ ap₂ (λ x y. x ++ 46 ∷ y) ((bytes_eq-Decides d.now (database_of source)).0 (sym first ∙ first-true a b e)) ((bytes_eq-Decides n.now collection).0 (sym second ∙ second-true a b e))))
-        (λ e. let is : (d.now ≡ database_of source) × (n.now ≡ collection) = split_after 46 namespace (database_of source) collection (Some (d, n)) split (omega arith) (decided.0 e) (no-dot source) in both-true a b (first ∙ (bytes_eq-Decides d.now (database_of source)).1 is.0) (second ∙ (bytes_eq-Decides n.now collection).1 is.1))
+        (λ e. let is : (d.now ≡ database_of source) × (n.now ≡ collection) = split_after 46 namespace (database_of source) collection (Some (d, n)) split (omega arith) (decided.0 e) (no-dot source) in and_from a b (first ∙ (bytes_eq-Decides d.now (database_of source)).1 is.0) (second ∙ (bytes_eq-Decides n.now collection).1 is.1))
 
     pub beside-second : a ≡ true → b ≡ bytes_eq namespace (beside source collection)
     beside-second e = ap (λ t. t && b) (sym e) ∙ both

@@ -6,11 +6,11 @@ use Rattle.std.specs.Cmp.{both_ways, eq_by_cmp_equiv}
 use Rattle.std.specs.List.{list_any, FoldsTo}
 use Rattle.std.specs.Ordering.{is_eq}
 use Rattle.dv_value.specs.Tree.{Tree, array, elements_of}
+use Rattle.dv_value.specs.Inner.ListLaws.{any-map, any-flat_map}
 use Rattle.dv_candidates.specs.Candidates.{Candidate, leaves, or_null, whole}
 use Rattle.dv_candidates.specs.Inner.Fold.{FoldsOver, PassesOne, Takes}
 use Rattle.dv_order.specs.Order.{order}
 use Rattle.dv_order.specs.Inner.TotalOrder.{order_total}
-use Rattle.dv_path.specs.Inner.GatheredKeys.{any-flat_map}
 use Rattle.dv_path.specs.LeafKeys.{leaf_values}
 use Rattle.dv_match.specs.Match.{is_among, matches, matches_member, meets, meets_all}
 use Rattle.dv_gather.specs.Joining.{as_value, is_equal_to_one, is_joined, joined_by, local_values}
@@ -36,10 +36,6 @@ module _ {X : Type 0} (p q : X → Bool) where
   any-same : ((x : X) → p x ≡ q x) → (xs : List X) → list_any p xs ≡ list_any q xs
   any-same same [] = refl
   any-same same (x ∷ xs) = ap₂ (λ a b. a || b) (same x) (any-same same xs)
-
-any-map : {X Y : Type 0} (p : Y → Bool) (f : X → Y) (xs : List X) → list_any p (map f xs) ≡ list_any (λ x. p (f x)) xs
-any-map p f [] = refl
-any-map p f (x ∷ xs) = ap (λ b. p (f x) || b) (any-map p f xs)
 
 any-never : {X : Type 0} (xs : List X) → list_any (λ (x : X). false) xs ≡ false
 any-never [] = refl

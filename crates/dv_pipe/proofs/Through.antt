@@ -1,5 +1,5 @@
 -- Rows through stages.
-use Rattle.std.proofs.Common.{◌≡◌, ◌∙◌, ap, sym, refl, List, [], ◌∷◌, ◌++◌, ℕ, zero, suc, take, filter, length, Bool, true, false, Option, Some, None, if◌then◌else◌}
+use Rattle.std.proofs.Common.{◌≡◌, ◌∙◌, ap, sym, refl, List, [], ◌∷◌, ◌++◌, ℕ, zero, suc, take, filter, length, Bool, true, false, Option, Some, None, if◌then◌else◌, take-take, arith}
 use Rattle.std.specs.List.{flat_map}
 use Rattle.std.proofs.lemmas.List.Concat.{flat_map_single}
 use Rattle.dv_match.specs.Filter.{Members}
@@ -20,16 +20,11 @@ use Rattle.dv_pipe.specs.Inner.Parts.{wanted}
 use Rattle.dv_pipe.specs.Sources.{Row}
 use Rattle.dv_pipe.specs.Stages.{Lists, beside, foreign_of, stage, through}
 
-take-again : {X : Type 0} (n : ℕ) (xs : List X) → take n (take n xs) ≡ take n xs
-take-again zero xs = refl
-take-again (suc n) [] = refl
-take-again (suc n) (x ∷ xs) = ap (λ l. x ∷ l) (take-again n xs)
-
 -- stages see no more of the rows than are wanted
 pub through_front : (later : List Stage) (source : List ℕ) (lists : Lists) (rows : List Row) → through later source lists (front (wanted later) rows) ≡ through later source lists rows
 unfolding through stage
 through_front [] source lists rows = refl
-through_front (Limit n ∷ later) source lists rows = ap (through later source lists) (take-again n rows)
+through_front (Limit n ∷ later) source lists rows = ap (through later source lists) (take-take n n rows (omega arith))
 through_front (Match form ∷ later) source lists rows = refl
 through_front (Project p ∷ later) source lists rows = refl
 through_front (Unwind u ∷ later) source lists rows = refl

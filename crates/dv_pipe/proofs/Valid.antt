@@ -17,7 +17,8 @@ use Rattle.dv_row.specs.Projecting.{projected}
 use Rattle.dv_row.specs.ProjectParsing.{project_in}
 use Rattle.dv_row.specs.Row.{Row}
 use Rattle.dv_row.specs.Unwinding.{unwound}
-use Rattle.dv_row.specs.Inner.Valid.{AreValues, IsValid, AreValid, IsSoundProject, fields-valid, valid-fields, either, bound, any-ok, of-ok, each-sound}
+use Rattle.dv_value.specs.Inner.ValidLaws.{AreValues, either}
+use Rattle.dv_row.specs.Inner.Valid.{IsValid, AreValid, IsSoundProject, fields-valid, valid-fields, bound, any-ok, of-ok, each-sound}
 use Rattle.dv_row.specs.Inner.ValidRows.{project_in-sound, projected-valid, unwound-valid}
 use Rattle.dv_gather.specs.GroupParsing.{group_in}
 use Rattle.dv_gather.specs.Lookups.{lookup_in}

@@ -4,6 +4,7 @@ use Rattle.std.specs.List.{list_any, AllByRecursion, cons_option}
 use Rattle.std.specs.Option.{option_map}
 use Rattle.std.specs.Str.{bytes_eq}
 use Rattle.std.proofs.lemmas.Slice.Eq.{bytes_eq-Decides}
+use Rattle.std.proofs.lemmas.Bool.{or_parts}
 use Rattle.dv_value.specs.Tree.{Tree, Field}
 use Rattle.dv_value.specs.Names.{has_name, bare, AreNamed}
 use Rattle.dv_value.specs.Inner.ByteLaws.{bytes_eq-symmetric}
@@ -34,22 +35,14 @@ Asks = List (List ℕ × Expression)
 abbrev AreNew : Asks → List Field → Type 0
 AreNew es fs = AllByRecursion (λ e. has_name e.0 fs ≡ false) es
 
-first-no : (a b : Bool) → a || b ≡ false → a ≡ false
-first-no true b h = h
-first-no false b h = refl
-
-second-no : (a b : Bool) → a || b ≡ false → b ≡ false
-second-no true b h = absurd cc
-second-no false b h = h
-
 named-behind : (m n : List ℕ) (v : Tree) (fs : List Field) → has_name m fs ≡ false → bytes_eq n m ≡ false → has_name m (fs ++ (n, v) ∷ []) ≡ false
 named-behind m n v [] none apart = ap (λ b. b || false) (bytes_eq-symmetric m n ∙ apart)
-named-behind m n v (f ∷ fs) none apart = ap (λ b. b || has_name m (fs ++ (n, v) ∷ [])) (first-no (bytes_eq m f.0) (has_name m fs) none) ∙ named-behind m n v fs (second-no (bytes_eq m f.0) (has_name m fs) none) apart
+named-behind m n v (f ∷ fs) none apart = ap (λ b. b || has_name m (fs ++ (n, v) ∷ [])) (or_parts (bytes_eq m f.0) (has_name m fs) none).0 ∙ named-behind m n v fs (or_parts (bytes_eq m f.0) (has_name m fs) none).1 apart
 
 still-new : (n : List ℕ) (v : Tree) (es : Asks) (fs : List Field) → has_name n (map (λ e. bare e.0) es) ≡ false → AreNew es fs → AreNew es (fs ++ (n, v) ∷ [])
 still-new n v [] fs apart new = tt
 still-new n v (e ∷ es) fs apart new =
-    (named-behind e.0 n v fs new.0 (first-no (bytes_eq n e.0) (has_name n (map (λ e. bare e.0) es)) apart), still-new n v es fs (second-no (bytes_eq n e.0) (has_name n (map (λ e. bare e.0) es)) apart) new.1)
+    (named-behind e.0 n v fs new.0 (or_parts (bytes_eq n e.0) (has_name n (map (λ e. bare e.0) es)) apart).0, still-new n v es fs (or_parts (bytes_eq n e.0) (has_name n (map (λ e. bare e.0) es)) apart).1 new.1)
 
 computed-last : (es : Asks) (d : Row) (fs : List Field) → AreNamed (map (λ e. bare e.0) es) → AreNew es fs → with_computed (computed_of es) d fs ≡ fs ++ computed_fields es d
 unfolding with_computed

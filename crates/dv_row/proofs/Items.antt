@@ -3,7 +3,8 @@ use Rattle.std.proofs.Common.{◌≡◌, ◌∙◌, ap, sym, refl, List, [], ◌
 use Rattle.std.specs.Prelude.{IsTrue, ◌↔◌}
 use Rattle.std.specs.List.{list_any}
 use Rattle.std.proofs.lemmas.Option.{slice_get_read}
-pub use Rattle.dv_row.specs.Inner.EachLaws.{drop-here, drop-read, drop-past, drop-found}
+pub use Rattle.dv_row.specs.Inner.EachLaws.{drop-past}
+pub use Rattle.dv_value.specs.Inner.ListLaws.{drop-found, drop-here, drop-read}
 
 pub take-here : {X : Type 0} (xs : List X) (i : ℕ) (x : X) → slice_get xs i ≡ Some x → take (suc i) xs ≡ take i xs ++ x ∷ []
 take-here [] i x e = absurd cc

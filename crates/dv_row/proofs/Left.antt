@@ -1,16 +1,13 @@
 -- What is left of fields and elements, one after the other.
-use Rattle.std.proofs.Common.{◌≡◌, ◌∙◌, ap, sym, refl, Bool, true, false, ◌||◌, List, [], ◌∷◌, ◌++◌, ℕ, Some, None, append_assoc, append-nil}
+use Rattle.std.proofs.Common.{◌≡◌, ◌∙◌, ap, sym, refl, Bool, false, ◌||◌, List, [], ◌∷◌, ◌++◌, ℕ, Some, None, append_assoc, append-nil}
 use Rattle.std.specs.Str.{bytes_eq}
+use Rattle.std.proofs.lemmas.Bool.{or_parts}
 use Rattle.dv_value.specs.Tree.{Tree, Field, fields_of, list_of_fields, elements_of, list_of_elements}
 use Rattle.dv_value.specs.Names.{has_name, has_zero, AreNamed}
 use Rattle.dv_value.specs.Inner.ByteLaws.{bytes_eq-symmetric}
 use Rattle.dv_candidates.specs.Candidates.{Candidate}
 use Rattle.dv_row.specs.Expressions.{with_field_behind}
 use Rattle.dv_row.specs.Projecting.{paths_behind, with_left, with_element_left, left_of_value, left_inside, fields_left, elements_left, row_left}
-
-either : (a b : Bool) → a || b ≡ false → (a ≡ false) × (b ≡ false)
-either true b h = absurd cc
-either false b h = (refl, h)
 
 -- a field alone, where there is a value
 abbrev alone : List ℕ → Candidate → List Field
@@ -40,15 +37,15 @@ module _ (keeps : Bool) (paths : List (List (List ℕ))) where
   names-left : (name : List ℕ) (d : List Field) → has_name name d ≡ false → has_name name (row_left keeps paths d) ≡ false
   unfolding fields_left
   names-left name [] h = refl
-  names-left name (f ∷ d) h = ap (has_name name) (row-left_first f.0 (left_of_value keeps (paths_behind f.0 paths) f.1) d) ∙ among f.0 (left_of_value keeps (paths_behind f.0 paths) f.1) (row_left keeps paths d) (either (bytes_eq name f.0) (has_name name d) h).0 (names-left name d (either (bytes_eq name f.0) (has_name name d) h).1)
+  names-left name (f ∷ d) h = ap (has_name name) (row-left_first f.0 (left_of_value keeps (paths_behind f.0 paths) f.1) d) ∙ among f.0 (left_of_value keeps (paths_behind f.0 paths) f.1) (row_left keeps paths d) (or_parts (bytes_eq name f.0) (has_name name d) h).0 (names-left name d (or_parts (bytes_eq name f.0) (has_name name d) h).1)
     where
       among : (n : List ℕ) (c : Candidate) (fs : List Field) → bytes_eq name n ≡ false → has_name name fs ≡ false → has_name name (alone n c ++ fs) ≡ false
       among n None fs e g = g
       among n (Some v) fs e g = ap (λ b. b || has_name name fs) e ∙ g
 
 not-among : (n : List ℕ) (fs : List Field) (f : Field) (rest : List Field) → has_name n (fs ++ f ∷ rest) ≡ false → bytes_eq n f.0 ≡ false
-not-among n [] f rest h = (either (bytes_eq n f.0) (has_name n rest) h).0
-not-among n (g ∷ fs) f rest h = not-among n fs f rest (either (bytes_eq n g.0) (has_name n (fs ++ f ∷ rest)) h).1
+not-among n [] f rest h = (or_parts (bytes_eq n f.0) (has_name n rest) h).0
+not-among n (g ∷ fs) f rest h = not-among n fs f rest (or_parts (bytes_eq n g.0) (has_name n (fs ++ f ∷ rest)) h).1
 
 -- a field's name is new behind those before it
 new-name : (fs : List Field) (f : Field) (rest : List Field) → AreNamed (fs ++ f ∷ rest) → (has_zero f.0 ≡ false) × (has_name f.0 fs ≡ false)

@@ -15,6 +15,7 @@ use Rattle.std.proofs.lemmas.List.MinMax.{ranks_by}
 use Rattle.std.proofs.lemmas.List.Sorted.{sorted_far, list_any-IsPermutation}
 use Rattle.std.proofs.lemmas.Map.Lookups.{exact_bytes}
 use Rattle.std.proofs.lemmas.Slice.Eq.{bytes_eq-Decides}
+use Rattle.dv_order.specs.Inner.KeyLaws.{is-less}
 use Rattle.dv_row.specs.Projecting.{paths_behind, ends}
 use Rattle.dv_row.specs.Inner.Ways.{name_order, way_order, way_beside, Ascend, IsInOrder}
 
@@ -47,11 +48,6 @@ first-not-less Less p h = h
 first-not-less Equal p h = refl
 first-not-less Greater p h = refl
 
-pub less : (o : Ordering) → is_lt o ≡ true → o ≡ Less
-less Less e = refl
-less Equal e = absurd cc
-less Greater e = absurd cc
-
 pub equal : (o : Ordering) → is_eq o ≡ true → o ≡ Equal
 equal Less e = absurd cc
 equal Equal e = refl
@@ -62,7 +58,7 @@ module _ (n m name : List ℕ) (upto : is_lt (name_order m n) ≡ false) where
   strictly e = go (name_order n m) refl
     where
       go : (o : Ordering) → name_order n m ≡ o → is_lt (name_order n name) ≡ true
-      go Less l = ap is_lt (nat_list_cmp_total.trans n m name l (less (name_order m name) e))
+      go Less l = ap is_lt (nat_list_cmp_total.trans n m name l (is-less (name_order m name) e))
       go Equal l = ap is_lt (nat_list_cmp_total.congr n m name l) ∙ e
       go Greater l =
           let turned : name_order m n ≡ Less = nat_list_cmp_total.antisymm m n ∙ ap ordering_reverse l in
@@ -166,7 +162,7 @@ module _ (depth : ℕ) (name : List ℕ) where
   taken (n ∷ ns) ws e = ap (λ b. if b then ns ∷ paths_behind name ws else paths_behind name ws) ((bytes_eq-Decides name n).1 (sym (same-name n name e)))
 
   before : (o : Ordering) → is_lt o ≡ true → is_eq o ≡ false
-  before o e = ap is_eq (less o e)
+  before o e = ap is_eq (is-less o e)
 
   past : (o : Ordering) → is_le o ≡ false → is_eq o ≡ false
   past Less e = absurd cc

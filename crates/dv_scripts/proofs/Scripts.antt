@@ -7,8 +7,8 @@ use Rattle.std.specs.Io.KnownBytes.{Appends, Consumes, IsAtEnd, Keeps}
 use Rattle.std.specs.Prelude.{IfErr, OnOk, replicate}
 use Rattle.std.specs.List.{slice_split}
 use Rattle.dv_wire.specs.Schedule.{World}
-use Rattle.dv_wire.specs.Service.{AsksFew, most_reads}
-use Rattle.dv_wire.specs.Inner.CountLaws.{one_more, no_more}
+use Rattle.dv_wire.specs.Service.{AsksFew}
+use Rattle.dv_wire.specs.Inner.CountLaws.{no_more}
 use Rattle.dv_streams.specs.Stream.{MoreBy, once_more}
 use Rattle.dv_scripts.specs.Inner.Pieces.{StopsIn, TakesPiece}
 use Rattle.dv_scripts.specs.Script.{DoesLine, DoesLines, HasNoLf, Runs, OpenSessions, no_sessions, is_lf, standing_of}
@@ -242,13 +242,6 @@ none_asked count = (0, omega arith, no_more count)
 
 pub asked : (reads old new : ℕ) → reads ≤ 2 ^ 32 → MoreBy reads old new → AsksFew old new
 asked reads old new few more = (reads, omega (arith, few), more)
-
--- one time more of those that there may be
-pub asked_once_more : (reads old mid new : ℕ) → reads < 2 ^ 32 → MoreBy reads old mid → MoreBy 1 mid new → AsksFew old new
-asked_once_more reads old mid new few before now = (reads + 1, omega (arith, few), one_more reads old mid new before now)
-
-pub asked_most : (reads old new : ℕ) → reads ≤ 2 ^ 32 → 2 ^ 32 ≤ reads → MoreBy reads old new → MoreBy most_reads old new
-asked_most reads old new most least more = omega (arith, most, least, more)
 
 -- ---- behind the last flush
 

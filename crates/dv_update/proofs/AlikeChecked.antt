@@ -5,6 +5,7 @@ use Rattle.std.proofs.lemmas.Bool.Decides.{nat_tests}
 use Rattle.dv_value.specs.Spelling.{payload, levels, spelling}
 use Rattle.dv_value.specs.Tree.{Tree, document, Field, fields_of, list_of_fields}
 use Rattle.dv_value.specs.Inner.TreeLaws.{fields_again}
+use Rattle.dv_value.specs.Inner.ListLaws.{same-truth}
 use Rattle.dv_order.specs.Same.{both_same, is_same}
 use Rattle.dv_order.specs.Inner.SameLaws.{same-is}
 use Rattle.dv_update.specs.Apply.{leading_id, is_id, checked, document_limit, level_limit}
@@ -32,11 +33,6 @@ one-same n v x y h alike same =
     let e : y ≡ x = equal-shallow n y x (sym alike) less in
     ap (is_same v) e ∙ same
 
-equal-tests : (a b : Bool) → (a ≡ true → b ≡ true) → (b ≡ true → a ≡ true) → a ≡ b
-equal-tests true b h g = sym (h refl)
-equal-tests false true h g = g refl
-equal-tests false false h g = refl
-
 ids-alike : (n : ℕ) (o x y : Option Tree) → IsShallow n o → option_map (down_to n) x ≡ option_map (down_to n) y → both_same o x ≡ both_same o y
 ids-alike n o None None h e = refl
 ids-alike n o None (Some y) h e = absurd cc
@@ -44,7 +40,7 @@ ids-alike n o (Some x) None h e = absurd cc
 ids-alike n None (Some x) (Some y) h e = refl
 ids-alike n (Some v) (Some x) (Some y) h e =
     let alike : down_to n x ≡ down_to n y = cc in
-    equal-tests (is_same v x) (is_same v y) (one-same n v x y (h v refl) alike) (one-same n v y x (h v refl) (sym alike))
+    same-truth (is_same v x) (is_same v y) (one-same n v x y (h v refl) alike) (one-same n v y x (h v refl) (sym alike))
 
 leading-shallow : (n : ℕ) (d : List Field) → levels (document (fields_of d)) ≤ n → IsShallow n (leading_id d)
 leading-shallow n [] h v e = absurd cc

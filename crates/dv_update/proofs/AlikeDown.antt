@@ -1,18 +1,17 @@
 -- What documents that are alike down to a level have in common.
-use Rattle.std.proofs.Common.{◌≡◌, ◌∙◌, ap, ap₂, sym, refl, List, [], ◌∷◌, ◌++◌, ℕ, zero, suc, ◌+◌, ◌-◌, ◌<◌, map, length, length-append, Option, Some, None, slice_get, decimal, arith, subst}
+use Rattle.std.proofs.Common.{◌≡◌, ◌∙◌, ap, ap₂, sym, refl, List, [], ◌∷◌, ℕ, zero, suc, ◌+◌, ◌-◌, ◌<◌, map, length, length-append, Option, Some, None, slice_get, decimal, arith, subst}
 use Rattle.std.specs.Option.{option_map}
-use Rattle.std.specs.Int.{w32, to_le_bytes}
 use Rattle.std.proofs.Math.ListN.{replicate}
 use Rattle.std.proofs.lemmas.List.{length-replicate}
-use Rattle.dv_value.specs.Spelling.{payload, fields_spelling, elements_spelling, element_spelling, framed, kind_of, levels, fields_levels, elements_levels}
+use Rattle.dv_value.specs.Spelling.{payload, fields_spelling, elements_spelling, element_spelling, kind_of, levels, fields_levels, elements_levels}
 use Rattle.dv_value.specs.Tree.{Tree, document, array, Fields, no_fields, field, fields_of, list_of_fields, Elements, no_elements, element, elements_of, list_of_elements}
 use Rattle.dv_value.specs.Names.{value_under}
+use Rattle.dv_value.specs.Inner.Spelled.{length-array, length-document, length-element_spelling, length_binary}
 use Rattle.dv_value.specs.Inner.TreeLaws.{elements_again, fields_again}
 use Rattle.dv_candidates.specs.Path.{index_of}
 use Rattle.dv_path.specs.Slots.{Slot, taken, free, blocked, slot_of, element_slot, next_slot, slot_behind}
 use Rattle.dv_update.specs.Inner.StandIn.{in_one_piece, down_to, fields_down_to}
 use Rattle.dv_update.proofs.DownTo.{Path, below, value-marked, element-there, fields-opened, elements-opened}
-use Rattle.dv_update.proofs.Lengths.{length-binary}
 
 -- ---- what stands where a path leads
 
@@ -50,44 +49,17 @@ slot-marked m (name ∷ names) s = ap (slot_behind names) (next-slot (below name
 
 -- ---- lengths
 
-four : (n : ℕ) → length (to_le_bytes w32 n) ≡ 4
-four n = refl
-
-length-framed : (bytes : List ℕ) → length (framed bytes) ≡ length bytes + 5
-unfolding framed
-length-framed bytes = omega (arith, length-append (to_le_bytes w32 (length bytes + 5)) (bytes ++ 0 ∷ []), length-append bytes (0 ∷ []), four (length bytes + 5))
-
-pub length-document : (fs : Fields) → length (payload (document fs)) ≡ length (fields_spelling fs) + 5
-unfolding payload
-length-document fs = length-framed (fields_spelling fs)
-
-pub length-array : (vs : Elements) → length (payload (array vs)) ≡ length (elements_spelling 0 vs) + 5
-unfolding payload
-length-array vs = length-framed (elements_spelling 0 vs)
-
-length-element : (v : Tree) (name : List ℕ) → length (element_spelling (kind_of v) name (payload v)) ≡ length name + length (payload v) + 2
-unfolding element_spelling
-length-element v name = omega (arith, length-append name (0 ∷ payload v))
-
 pub length-field : (name : List ℕ) (v : Tree) (fs : Fields) → length (fields_spelling (field name v fs)) ≡ length name + length (payload v) + 2 + length (fields_spelling fs)
 unfolding payload
-length-field name v fs = omega (arith, length-append (element_spelling (kind_of v) name (payload v)) (fields_spelling fs), length-element v name)
+length-field name v fs = omega (arith, length-append (element_spelling (kind_of v) name (payload v)) (fields_spelling fs), length-element_spelling (kind_of v) name (payload v))
 
 pub length-item : (i : ℕ) (v : Tree) (vs : Elements) → length (elements_spelling i (element v vs)) ≡ length (decimal i) + length (payload v) + 2 + length (elements_spelling (suc i) vs)
 unfolding payload
-length-item i v vs = omega (arith, length-append (element_spelling (kind_of v) (decimal i) (payload v)) (elements_spelling (suc i) vs), length-element v (decimal i))
-
-no-fields : length (fields_spelling no_fields) ≡ 0
-unfolding payload
-no-fields = refl
-
-pub no-items : (i : ℕ) → length (elements_spelling i no_elements) ≡ 0
-unfolding payload
-no-items i = refl
+length-item i v vs = omega (arith, length-append (element_spelling (kind_of v) (decimal i) (payload v)) (elements_spelling (suc i) vs), length-element_spelling (kind_of v) (decimal i) (payload v))
 
 one-piece-length : (v : Tree) → length (payload (in_one_piece v)) ≡ length (payload v)
 one-piece-length (document fs) =
-    omega (arith, length-binary 0 (replicate (length (payload (document fs)) - 5) 0), length-replicate (length (payload (document fs)) - 5) (let z : ℕ = 0 in z), length-document fs)
+    omega (arith, length_binary 0 (replicate (length (payload (document fs)) - 5) 0), length-replicate (length (payload (document fs)) - 5) (let z : ℕ = 0 in z), length-document fs)
 one-piece-length v = refl
 
 module _ (n : ℕ) (same : (v : Tree) → length (payload (down_to n v)) ≡ length (payload v)) where

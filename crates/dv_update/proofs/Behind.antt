@@ -6,7 +6,8 @@ use Rattle.dv_value.specs.Tree.{Tree, array, Elements, no_elements, element, ele
 use Rattle.dv_value.specs.View.{tree}
 use Rattle.dv_value.specs.declared.value.Value.{Value}
 use Rattle.dv_order.specs.Same.{is_same}
-use Rattle.dv_update.proofs.AlikeDown.{length-array, length-item, no-items}
+use Rattle.dv_update.proofs.AlikeDown.{length-item}
+use Rattle.dv_value.specs.Inner.Spelled.{length-array, length-no_elements}
 
 -- one value in memory
 pub one-value : (values : List Value) (vs : List Tree) (value : Value) → 1 ≤ length values → length values < 2 → value ≡ get_or values 0 value → map tree values ≡ vs → vs ≡ tree value ∷ []
@@ -23,7 +24,7 @@ module _ (v : Tree) where
       → length (elements_spelling i (behind ws)) ≤ length (elements_spelling i ws) + (length (payload v) + 8)
   items-behind i place short no_elements at =
       let same : i ≡ place = omega (arith, at) in
-      omega (arith, length-item i v no_elements, no-items (suc i), ap (λ n. length (decimal n)) same, short)
+      omega (arith, length-item i v no_elements, length-no_elements (suc i), ap (λ n. length (decimal n)) same, short)
   items-behind i place short (element w ws) at =
       omega (arith, length-item i w ws, length-item i w (behind ws), items-behind (suc i) place short ws (omega (arith, at)))
 

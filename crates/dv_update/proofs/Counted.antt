@@ -5,6 +5,7 @@ use Rattle.std.specs.Str.{bytes_eq}
 use Rattle.std.specs.declared.cmp.Ordering.TheVariants.{Less}
 use Rattle.std.proofs.lemmas.Bool.Decides.{nat_tests}
 use Rattle.std.proofs.lemmas.Option.{slice_get_within}
+use Rattle.std.proofs.lemmas.Bool.{or_parts}
 use Rattle.dv_value.specs.Tree.{Tree, array, null, document, Field, fields_of, list_of_elements}
 use Rattle.dv_candidates.specs.Path.{index_of}
 use Rattle.dv_path.specs.Placing.{put}
@@ -22,12 +23,12 @@ use Rattle.dv_update.specs.Update.{Operation, assign, take_away, increase, appen
 use Rattle.dv_update.specs.declared.fault.UpdateFault.{UpdateFault}
 use Rattle.dv_update.proofs.Elements.{array-long}
 use Rattle.dv_update.proofs.Filled.{Fills, fills-so, has-array}
-use Rattle.dv_update.proofs.Lengths.{length-null}
+use Rattle.dv_value.specs.Inner.Spelled.{length-null}
 use Rattle.dv_update.proofs.Paths.{begins-between-both, begins-itself, begins-more}
 use Rattle.dv_update.proofs.Placed.{Rises}
 use Rattle.dv_update.proofs.PutThere.{free-stays}
 use Rattle.dv_update.proofs.Putting.{IsArray, long, put-keeps-array, put-exchanges}
-use Rattle.dv_update.proofs.RemovalsLast.{SlotsStay, or-none-first, or-none-second}
+use Rattle.dv_update.proofs.RemovalsLast.{SlotsStay}
 use Rattle.dv_update.proofs.Stepwise.{no_conflict, rises}
 
 -- ---- what dv_path's laws say
@@ -171,8 +172,8 @@ module _ (slots : SlotsStay) (there : PutsAreThere) where
   apart-each : (e : Edit) (es : List Edit) → list_any (conflicts e) es ≡ false → Apart e es
   apart-each e [] none = tt
   apart-each e (x ∷ es) none =
-      let one : conflicts e x ≡ false = or-none-first (conflicts e x) (list_any (conflicts e) es) none in
-      ((or-none-first (begins e.0 x.0) (begins x.0 e.0) one, or-none-second (begins e.0 x.0) (begins x.0 e.0) one), apart-each e es (or-none-second (conflicts e x) (list_any (conflicts e) es) none))
+      let one : conflicts e x ≡ false = (or_parts (conflicts e x) (list_any (conflicts e) es) none).0 in
+      (((or_parts (begins e.0 x.0) (begins x.0 e.0) one).0, (or_parts (begins e.0 x.0) (begins x.0 e.0) one).1), apart-each e es (or_parts (conflicts e x) (list_any (conflicts e) es) none).1)
 
   -- what begins no path of a fill begins no way to its array
   not-begins : (p q : Path) (n : ℕ) → begins p q ≡ false → begins p (take n q) ≡ false
@@ -207,14 +208,14 @@ module _ (slots : SlotsStay) (there : PutsAreThere) where
 
     stand-filled : (es : List Edit) → has_conflict es ≡ false → (d after : List Field) → edited (other_edits es) d ≡ Ok after → Stand d (λ f. 0) (fills d0 es) → Stand after (λ f. suc (place_of f)) (fills d0 es)
     stand-filled [] none d after e is = tt
-    stand-filled (x ∷ es) none d after e is = by (is_removal x.1) refl e (λ d. stand-filled es (or-none-second (list_any (conflicts x) es) (has_conflict es) none) d after)
+    stand-filled (x ∷ es) none d after e is = by (is_removal x.1) refl e (λ d. stand-filled es (or_parts (list_any (conflicts x) es) (has_conflict es) none).1 d after)
       where
         -- what further edits make
         Rest : Type 0
         Rest = (d : List Field) → edited (other_edits es) d ≡ Ok after → Stand d (λ f. 0) (fills d0 es) → Stand after (λ f. suc (place_of f)) (fills d0 es)
 
         apart : Apart x es
-        apart = apart-each x es (or-none-first (list_any (conflicts x) es) (has_conflict es) none)
+        apart = apart-each x es (or_parts (list_any (conflicts x) es) (has_conflict es) none).0
 
         later : (f : Fill) → f.0 ≡ x.0 → (ys : List Edit) → Apart x ys → AllByRecursion (λ y. begins y.0 (array_of f) ≡ false) ys
         later f path [] h = tt

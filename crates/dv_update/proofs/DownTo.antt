@@ -1,5 +1,5 @@
 -- Documents that are alike down to a level.
-use Rattle.std.proofs.Common.{◌≡◌, ◌∙◌, ap, ap₂, sym, refl, List, [], ◌∷◌, ℕ, zero, suc, ◌+◌, ◌||◌, map, Bool, true, false, length, Option, Some, None, slice_get, nat_lt, nat_le, Result, Ok, Err, arith, if◌then◌else◌}
+use Rattle.std.proofs.Common.{◌≡◌, ◌∙◌, ap, ap₂, sym, refl, List, [], ◌∷◌, ℕ, zero, suc, ◌+◌, ◌||◌, map, Bool, true, false, length, Option, Some, None, slice_get, nat_lt, nat_le, Result, Err, arith, if◌then◌else◌}
 use Rattle.std.specs.Option.{option_map}
 use Rattle.std.specs.Str.{bytes_eq}
 use Rattle.dv_value.specs.Names.{value_under}
@@ -7,6 +7,7 @@ use Rattle.dv_value.specs.Tree.{Tree, document, array, null, Field, Fields, fiel
 use Rattle.dv_value.specs.Inner.TreeLaws.{elements_again, fields_again}
 use Rattle.dv_candidates.specs.Path.{index_of}
 use Rattle.dv_path.specs.Placing.{result_map, with_field, with_element, put_field, put_element, put_behind}
+use Rattle.dv_path.specs.Inner.ResultLaws.{map-both}
 use Rattle.dv_candidates.specs.declared.fault.PathFault.{PathFault}
 use Rattle.dv_candidates.specs.declared.fault.PathFault.TheVariants.{IndexTooLarge}
 use Rattle.dv_update.specs.Inner.StandIn.{down_to, fields_down_to}
@@ -67,14 +68,10 @@ element-marked n (suc place) v (w ∷ ws) = ap (λ us. down_to n w ∷ us) (elem
 
 -- ---- what is put
 
-mapped : {X Y Z W : Type 0} (f : Y → Z) (g : X → Y) (h : W → Z) (k : X → W) → ((x : X) → f (g x) ≡ h (k x)) → (r : Result X PathFault) → result_map f (result_map g r) ≡ result_map h (result_map k r)
-mapped f g h k same (Ok x) = ap Ok (same x)
-mapped f g h k same (Err e) = refl
-
 module _ (n : ℕ) (inner outer : Option Tree → Result Tree PathFault) where
   pub put-field-marked : (name : List ℕ) (fs : List Field) → result_map (down_to n) (inner (value_under name fs)) ≡ outer (option_map (down_to n) (value_under name fs)) → result_map (fields_down_to n) (put_field inner name fs) ≡ put_field outer name (fields_down_to n fs)
   put-field-marked name fs further =
-      mapped (fields_down_to n) (λ v. with_field name (Some v) fs) (λ v. with_field name (Some v) (fields_down_to n fs)) (down_to n) (λ v. field-marked n name v fs) (inner (value_under name fs))
+      map-both (fields_down_to n) (λ v. with_field name (Some v) fs) (λ v. with_field name (Some v) (fields_down_to n fs)) (down_to n) (λ v. field-marked n name v fs) (inner (value_under name fs))
       ∙ ap (result_map (λ v. with_field name (Some v) (fields_down_to n fs))) (further ∙ ap outer (sym (value-marked n name fs)))
 
   put-element-marked : (place : Option ℕ) (vs : List Tree) → ((c : Option Tree) → result_map (down_to n) (inner c) ≡ outer (option_map (down_to n) c)) → result_map (map (down_to n)) (put_element inner place vs) ≡ put_element outer place (map (down_to n) vs)
@@ -85,7 +82,7 @@ module _ (n : ℕ) (inner outer : Option Tree → Result Tree PathFault) where
     where
       by : (b : Bool) → result_map (map (down_to n)) (if b then result_map (λ v. with_element place v vs) (inner (slice_get vs place)) else Err IndexTooLarge) ≡ (if b then result_map (λ v. with_element place v (map (down_to n) vs)) (outer (slice_get (map (down_to n) vs) place)) else Err IndexTooLarge)
       by true =
-          mapped (map (down_to n)) (λ v. with_element place v vs) (λ v. with_element place v (map (down_to n) vs)) (down_to n) (λ v. element-marked n place v vs) (inner (slice_get vs place))
+          map-both (map (down_to n)) (λ v. with_element place v vs) (λ v. with_element place v (map (down_to n) vs)) (down_to n) (λ v. element-marked n place v vs) (inner (slice_get vs place))
           ∙ ap (result_map (λ v. with_element place v (map (down_to n) vs))) (further (slice_get vs place) ∙ ap outer (sym (element-there n vs place)))
       by false = refl
 
@@ -107,11 +104,11 @@ elements-opened n vs = refl
 
 in-document : (n : ℕ) (r s : Result (List Field) PathFault) → result_map (fields_down_to n) r ≡ s → result_map (down_to (suc n)) (result_map (λ fs. document (fields_of fs)) r) ≡ result_map (λ fs. document (fields_of fs)) s
 in-document n r s same =
-    mapped (down_to (suc n)) (λ fs. document (fields_of fs)) (λ fs. document (fields_of fs)) (fields_down_to n) (document-marked n) r ∙ ap (result_map (λ fs. document (fields_of fs))) same
+    map-both (down_to (suc n)) (λ fs. document (fields_of fs)) (λ fs. document (fields_of fs)) (fields_down_to n) (document-marked n) r ∙ ap (result_map (λ fs. document (fields_of fs))) same
 
 in-array : (n : ℕ) (r s : Result (List Tree) PathFault) → result_map (map (down_to n)) r ≡ s → result_map (down_to (suc n)) (result_map (λ vs. array (elements_of vs)) r) ≡ result_map (λ vs. array (elements_of vs)) s
 in-array n r s same =
-    mapped (down_to (suc n)) (λ vs. array (elements_of vs)) (λ vs. array (elements_of vs)) (map (down_to n)) (array-marked n) r ∙ ap (result_map (λ vs. array (elements_of vs))) same
+    map-both (down_to (suc n)) (λ vs. array (elements_of vs)) (λ vs. array (elements_of vs)) (map (down_to n)) (array-marked n) r ∙ ap (result_map (λ vs. array (elements_of vs))) same
 
 fields-none : (n : ℕ) → fields_down_to n [] ≡ []
 unfolding fields_down_to

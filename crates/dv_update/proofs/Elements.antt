@@ -5,7 +5,8 @@ use Rattle.dv_value.specs.Spelling.{payload}
 use Rattle.dv_value.specs.Tree.{Tree, array, Elements, elements_of, list_of_elements}
 use Rattle.dv_value.specs.Inner.TreeLaws.{elements_back}
 use Rattle.dv_update.specs.Inner.Filling.{elements_least, least}
-use Rattle.dv_update.proofs.AlikeDown.{length-array, length-item}
+use Rattle.dv_update.proofs.AlikeDown.{length-item}
+use Rattle.dv_value.specs.Inner.Spelled.{length-array}
 use Rattle.dv_update.proofs.Putting.{items}
 
 -- as many digits as a number has at least

@@ -1,8 +1,9 @@
 -- Edits whose paths have many components, of documents that are alike down to a level.
-use Rattle.std.proofs.Common.{◌≡◌, ◌∙◌, ap, ap₂, sym, refl, List, [], ◌∷◌, ◌++◌, ℕ, ◌+◌, ◌-◌, Bool, true, false, ◌&&◌, length, drop, Option, Some, None, Result, Ok, Err, arith}
+use Rattle.std.proofs.Common.{◌≡◌, ◌∙◌, ap, ap₂, sym, refl, List, [], ◌∷◌, ◌++◌, ℕ, ◌+◌, ◌-◌, Bool, true, false, length, drop, Option, Some, None, Result, Ok, Err, arith}
 use Rattle.std.specs.Str.{bytes_eq}
 use Rattle.std.proofs.Math.ListN.{replicate}
 use Rattle.std.proofs.lemmas.Slice.Eq.{bytes_eq-Decides}
+use Rattle.std.proofs.lemmas.Bool.{and_parts}
 use Rattle.dv_value.specs.Spelling.{payload}
 use Rattle.dv_value.specs.Tree.{Tree, document, array, binary, Field, fields_of, elements_of}
 use Rattle.dv_path.specs.Placing.{put_behind, put}
@@ -24,20 +25,12 @@ use Rattle.dv_update.proofs.LastWay.{IsMade, first_made, IsAdded, added, free-st
 
 -- ---- paths with a beginning
 
-and-left : (b c : Bool) → (b && c) ≡ true → b ≡ true
-and-left true c e = refl
-and-left false c e = cc
-
-and-right : (b c : Bool) → (b && c) ≡ true → c ≡ true
-and-right true c e = e
-and-right false c e = cc
-
 pub begins-split : (s q : Path) → begins s q ≡ true → s ++ drop (length s) q ≡ q
 begins-split [] q e = refl
 begins-split (a ∷ s) [] e = absurd cc
 begins-split (a ∷ s) (b ∷ q) e =
-    let same : a ≡ b = (bytes_eq-Decides a b).0 (and-left (bytes_eq a b) (begins s q) e) in
-    ap₂ (λ (c : List ℕ) (r : Path). c ∷ r) same (begins-split s q (and-right (bytes_eq a b) (begins s q) e))
+    let same : a ≡ b = (bytes_eq-Decides a b).0 (and_parts (bytes_eq a b) (begins s q) e).0 in
+    ap₂ (λ (c : List ℕ) (r : Path). c ∷ r) same (begins-split s q (and_parts (bytes_eq a b) (begins s q) e).1)
 
 behind-joined : (s r : Path) (x : Slot) → slot_behind (s ++ r) x ≡ slot_behind r (slot_behind s x)
 behind-joined [] r x = refl

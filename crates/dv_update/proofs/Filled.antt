@@ -3,6 +3,7 @@ use Rattle.std.proofs.Common.{◌≡◌, ◌∙◌, ap, sym, refl, ℕ, ◌-◌,
 use Rattle.std.proofs.Math.Seq.{take-append_seam}
 use Rattle.std.specs.Option.{option_map, unwrap_or}
 use Rattle.std.proofs.lemmas.Bool.Decides.{nat_tests}
+use Rattle.std.proofs.lemmas.Bool.{and_parts}
 use Rattle.dv_value.specs.declared.value.Value.{Value}
 use Rattle.dv_value.specs.declared.value.Value.TheVariants as values
 use Rattle.dv_value.specs.Names.{value_under}
@@ -11,7 +12,6 @@ use Rattle.dv_value.specs.View.{tree}
 use Rattle.dv_value.specs.Inner.TreeLaws.{elements_again, fields_again}
 use Rattle.dv_candidates.specs.Path.{index_of}
 use Rattle.dv_path.specs.Slots.{Slot, taken, slot_of, next_slot, slot_behind, slot}
-use Rattle.dv_order.specs.Inner.SameLaws.{and-left, and-right}
 use Rattle.dv_update.specs.Apply.{Path}
 use Rattle.dv_update.specs.Inner.Filling.{Fill, beyond, beyond_array, beyond_element, leads_into_id, filled, fill_of, left_out, array_of, place_of, first_number}
 use Rattle.dv_update.specs.Inner.StandIn.{new_value}
@@ -126,8 +126,8 @@ some-fill d e is = by (fill_of d e) refl is
 -- one that isn't made
 pub left-out : (with_id : Bool) (d : List Field) (e : Edit) → left_out with_id d e ≡ true → (f : Fill) × Fills d e f × (with_id ≡ false → leads_into_id e.0 ≡ false)
 left-out with_id d e is =
-    let found = some-fill d e (and-left _ _ is) in
-    (found.0, found.1, λ kept. not-true (leads_into_id e.0) (ap (λ b. b || not (leads_into_id e.0)) (sym kept) ∙ and-right _ _ is))
+    let found = some-fill d e (and_parts _ _ is).0 in
+    (found.0, found.1, λ kept. not-true (leads_into_id e.0) (ap (λ b. b || not (leads_into_id e.0)) (sym kept) ∙ (and_parts _ _ is).1))
   where
     not-true : (b : Bool) → not b ≡ true → b ≡ false
     not-true true h = cc

@@ -4,12 +4,13 @@ use Rattle.std.specs.Bool.{⊤}
 use Rattle.std.specs.List.{list_any, AllByRecursion}
 use Rattle.std.specs.Str.{bytes_eq}
 use Rattle.std.proofs.lemmas.Slice.Eq.{bytes_eq-Decides}
+use Rattle.std.proofs.lemmas.Bool.{or_parts, and_parts}
 use Rattle.dv_value.specs.Names.{value_under}
 use Rattle.dv_value.specs.Results.{◌>>=◌}
 use Rattle.dv_value.specs.Tree.{Tree, null, Field}
 use Rattle.dv_value.specs.Inner.TreeLaws.{fields_again}
 use Rattle.dv_order.specs.Same.{both_same, is_same}
-use Rattle.dv_order.specs.Inner.SameLaws.{and-left, and-right, same-is}
+use Rattle.dv_order.specs.Inner.SameLaws.{same-is}
 use Rattle.dv_path.specs.Placing.{put}
 use Rattle.dv_path.specs.Slots.{Slot, taken, free, slot_of, slot_behind, slot}
 use Rattle.dv_update.specs.Apply.{Path, edit_at, edited, is_id, leading_id, checked}
@@ -23,7 +24,7 @@ use Rattle.dv_update.proofs.Counted.{PutsAreThere, bound-ok, new-put, not-remova
 use Rattle.dv_update.proofs.Filled.{Fills, some-fill}
 use Rattle.dv_update.proofs.Meeting.{Met, fill-met}
 use Rattle.dv_update.proofs.Putting.{Stands, put-keeps}
-use Rattle.dv_update.proofs.RemovalsLast.{SlotsStay, or-none-first, or-none-second}
+use Rattle.dv_update.proofs.RemovalsLast.{SlotsStay}
 
 -- a value, whatever it is
 abbrev Any : Tree → Type 0
@@ -45,8 +46,8 @@ module _ (slots : SlotsStay) (there : PutsAreThere) (old : List Field) where
   apart-from : (e : Edit) (es : List Edit) → list_any (conflicts e) es ≡ false → AllByRecursion (λ x. begins x.0 e.0 ≡ false) es
   apart-from e [] none = tt
   apart-from e (x ∷ es) none = (
-    or-none-second (begins e.0 x.0) (begins x.0 e.0) (or-none-first (conflicts e x) (list_any (conflicts e) es) none),
-    apart-from e es (or-none-second (conflicts e x) (list_any (conflicts e) es) none),
+    (or_parts (begins e.0 x.0) (begins x.0 e.0) (or_parts (conflicts e x) (list_any (conflicts e) es) none).0).1,
+    apart-from e es (or_parts (conflicts e x) (list_any (conflicts e) es) none).1,
   )
 
   -- what the edit puts stands in the end
@@ -67,7 +68,7 @@ module _ (slots : SlotsStay) (there : PutsAreThere) (old : List Field) where
 
   all-fill : (es : List Edit) → has_conflict es ≡ false → list_any (fills_id old) es ≡ true → (d after : List Field) → edited (other_edits es) d ≡ Ok after → IsFilled old after
   all-fill [] none is d after made = absurd cc
-  all-fill (e ∷ es) none is d after made = by (fills_id old e) refl is (all-fill es (or-none-second (list_any (conflicts e) es) (has_conflict es) none))
+  all-fill (e ∷ es) none is d after made = by (fills_id old e) refl is (all-fill es (or_parts (list_any (conflicts e) es) (has_conflict es) none).1)
     where
       Rest : Type 0
       Rest = (d after : List Field) → edited (other_edits es) d ≡ Ok after → IsFilled old after
@@ -78,8 +79,8 @@ module _ (slots : SlotsStay) (there : PutsAreThere) (old : List Field) where
 
       by : (b : Bool) → fills_id old e ≡ b → (b || list_any (fills_id old) es) ≡ true → (list_any (fills_id old) es ≡ true → Rest) → IsFilled old after
       by true here is rest =
-          let fill = some-fill old e (and-right _ _ here) in
-          one-fills d after e es (or-none-first (list_any (conflicts e) es) (has_conflict es) none) fill.0 fill.1 (and-left _ _ (and-left _ _ here)) (and-right _ _ (and-left _ _ here)) made
+          let fill = some-fill old e (and_parts _ _ here).1 in
+          one-fills d after e es (or_parts (list_any (conflicts e) es) (has_conflict es) none).0 fill.0 fill.1 (and_parts _ _ (and_parts _ _ here).0).0 (and_parts _ _ (and_parts _ _ here).0).1 made
       by false here is rest = further (is_removal e.1) made (rest is)
 
 -- ---- so it is another `_id`

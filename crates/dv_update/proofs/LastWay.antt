@@ -17,7 +17,8 @@ use Rattle.dv_path.specs.Slots.{taken, free, blocked, slot_of, element_slot, slo
 use Rattle.dv_update.specs.PathOrder.{component_order}
 use Rattle.dv_update.specs.Inner.PathOrderLaws.{component_order_total}
 use Rattle.dv_update.specs.Inner.StandIn.{names_length, IsLastWay, parted, parting}
-use Rattle.dv_update.proofs.AlikeDown.{length-document, length-field}
+use Rattle.dv_update.proofs.AlikeDown.{length-field}
+use Rattle.dv_value.specs.Inner.Spelled.{length-document, length-no_fields}
 use Rattle.dv_update.proofs.DownTo.{Path}
 use Rattle.dv_update.proofs.Paths.{component-exact}
 
@@ -68,12 +69,8 @@ new-last name w (f ∷ fs) h =
 
 -- ---- lengths
 
-no-fields : length (fields_spelling no_fields) ≡ 0
-unfolding payload
-no-fields = refl
-
 fields-length-last : (fs : List Field) (f : Field) → length (fields_spelling (fields_of (fs ++ f ∷ []))) ≡ length (fields_spelling (fields_of fs)) + length f.0 + length (payload f.1) + 2
-fields-length-last [] f = omega (arith, length-field f.0 f.1 no_fields, no-fields)
+fields-length-last [] f = omega (arith, length-field f.0 f.1 no_fields, length-no_fields)
 fields-length-last (g ∷ fs) f = omega (arith, length-field g.0 g.1 (fields_of (fs ++ f ∷ [])), length-field g.0 g.1 (fields_of fs), fields-length-last fs f)
 
 document-length-last : (fs : List Field) (f : Field) → length (payload (document (fields_of (fs ++ f ∷ [])))) ≡ length (payload (document (fields_of fs))) + length f.0 + length (payload f.1) + 2

@@ -7,22 +7,21 @@ use Rattle.std.specs.declared.cmp.Ordering.TheVariants.{Less, Equal, Greater}
 use Rattle.std.proofs.lemmas.Bool.Decides.{nat_tests}
 use Rattle.std.proofs.lemmas.Slice.Eq.{bytes_eq-Decides}
 use Rattle.dv_value.specs.Spelling.{Fits, spelling, levels}
-use Rattle.dv_value.specs.Tree.{Tree, Field, fields_of, list_of_fields, document}
+use Rattle.dv_value.specs.Tree.{Tree, Field, fields_of, document}
 use Rattle.dv_path.specs.Slots.{slot, taken}
 use Rattle.dv_update.specs.Apply.{Path, told, set_at, is_id, leading_id, checked, changed, applied, document_limit, level_limit}
 use Rattle.dv_update.specs.Parsing.{conflicts, has_conflict, placed, sorted, in_order}
 use Rattle.dv_value.specs.Results.{◌>>=◌}
-use Rattle.dv_value.specs.Inner.TreeLaws.{fields_again}
 use Rattle.dv_update.specs.PathOrder.{path_order, begins}
 use Rattle.dv_update.specs.Inner.PathOrderLaws.{path_order_total}
-use Rattle.dv_order.specs.Same.{is_same, same_fields, both_same}
+use Rattle.dv_order.specs.Same.{both_same}
 use Rattle.dv_update.specs.Update.{Edit, Update, operators}
 use Rattle.dv_update.specs.declared.fault.UpdateFault.{UpdateFault}
 use Rattle.dv_update.specs.declared.fault.UpdateFault.TheVariants.{Conflict, IdChanged, TooLarge, TooDeep}
 use Rattle.dv_update.proofs.Paths.{path-exact, begins-itself}
 use Rattle.dv_update.proofs.Placed.{Alike-swap, Alike-behind}
 use Rattle.dv_update.proofs.PutThere.{put-again}
-use Rattle.dv_order.specs.Inner.SameLaws.{same-is, same-itself, same-fields, fields-itself}
+use Rattle.dv_order.specs.Inner.SameLaws.{same-is}
 
 -- ---- the order of paths
 
@@ -196,12 +195,3 @@ begins-with v (f ∷ fs) e = by (is_id f) refl e
 
 pub id_stays : (update : Update) (v : Tree) (others after : List Field) → applied update ((codes "_id", v) ∷ others) ≡ Ok after → (rest : List Field) × (after ≡ (codes "_id", v) ∷ rest)
 id_stays update v others after e = begins-with v after (behind-change (changed update ((codes "_id", v) ∷ others)) ((codes "_id", v) ∷ others) after e).id
-
--- ---- sameness
-
-pub same_values : (v w : Tree) → (is_same v w ≡ true) ↔ (v ≡ w)
-same_values v w = (same-is v w, λ same. ap (is_same v) (sym same) ∙ same-itself v)
-
-pub same_documents : (d e : List Field) → (same_fields (fields_of d) (fields_of e) ≡ true) ↔ (d ≡ e)
-same_documents d e =
-    (λ h. sym (fields_again d) ∙ ap list_of_fields (same-fields (fields_of d) (fields_of e) h) ∙ fields_again e, λ same. ap (λ gs. same_fields (fields_of d) (fields_of gs)) (sym same) ∙ fields-itself (fields_of d))

@@ -8,7 +8,6 @@ pub mod Gathered
 pub mod Items
 pub mod LastWay
 pub mod Lawful
-pub mod Lengths
 pub mod Made
 pub mod OneField
 pub mod Paths

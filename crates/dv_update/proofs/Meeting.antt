@@ -18,13 +18,15 @@ use Rattle.dv_value.specs.Inner.TreeLaws.{elements_again, fields_again}
 use Rattle.dv_candidates.specs.Path.{index_of}
 use Rattle.dv_path.specs.Placing.{result_map, with_field, with_element, put_field, put_element, put_behind, put}
 use Rattle.dv_path.specs.Slots.{Slot, free, blocked, slot_of, element_slot, slot_behind, slot}
+use Rattle.dv_path.specs.Inner.Fielded.{field-at, element-at, field-other}
+use Rattle.dv_path.specs.Inner.ResultLaws.{refused-further, made-by}
 use Rattle.dv_candidates.specs.declared.fault.PathFault.{PathFault}
 use Rattle.dv_candidates.specs.declared.fault.PathFault.TheVariants.{NotViable, IndexTooLarge}
 use Rattle.dv_update.specs.Apply.{Path}
 use Rattle.dv_update.specs.Inner.Filling.{beyond, beyond_array, beyond_element}
 use Rattle.dv_update.specs.PathOrder.{component_order, path_order, begins}
 use Rattle.dv_update.proofs.Paths.{component-exact}
-use Rattle.dv_update.proofs.Putting.{made-by, may-stand, element-made, places-apart, value-at, value-other, element-at}
+use Rattle.dv_update.proofs.Putting.{may-stand, element-made, places-apart}
 use Rattle.dv_update.proofs.RemovalsLast.{SlotsStay}
 use Rattle.dv_update.proofs.Stepwise.{Before}
 use Rattle.dv_update.specs.Inner.PathOrderLaws.{component_order_total}
@@ -42,10 +44,6 @@ met_in d q w = (slot d q, result_err (put d q w))
 
 pair : {s t : Slot} {o p : Option PathFault} → s ≡ t → o ≡ p → (let m : Met = (s, o) in m) ≡ (t, p)
 pair e f = ap₂ (λ s o. let m : Met = (s, o) in m) e f
-
-refused-further : {X Y : Type 0} (f : X → Y) (r : Result X PathFault) → result_err (result_map f r) ≡ result_err r
-refused-further f (Ok x) = refl
-refused-further f (Err e) = refl
 
 met-fields : (b : List ℕ) (q : Path) (w : Tree) (fs : Fields) → met (b ∷ q) w (Some (document fs)) ≡ met q w (value_under b (list_of_fields fs))
 met-fields b q w fs =
@@ -155,10 +153,10 @@ module _ (slots : SlotsStay) where
     Kept p q = Before p q → (w : Tree) (c : Option Tree) (u : Tree) → put_behind p v c ≡ Ok u → met q w (Some u) ≡ met q w c
 
     field-kept : (a : List ℕ) (p : Path) (b : List ℕ) (q : Path) → Kept p q → Parts a p b q → (w : Tree) (gs : List Field) (x : Tree) → put_behind p v (value_under a gs) ≡ Ok x → met q w (value_under b (with_field a (Some x) gs)) ≡ met q w (value_under b gs)
-    field-kept a p b q kept (inl h) w gs x put = ap (met q w) (value-other b a x gs (λ e. h.1 (sym e)))
+    field-kept a p b q kept (inl h) w gs x put = ap (met q w) (field-other a b (Some x) gs (λ e. h.1 (sym e)))
     field-kept a p b q kept (inr h) w gs x put =
         ap (λ n. met q w (value_under n (with_field a (Some x) gs))) (sym h.0)
-        ∙ ap (met q w) (value-at a x gs)
+        ∙ ap (met q w) (field-at a x gs)
         ∙ kept h.1 w (value_under a gs) x put
         ∙ ap (λ n. met q w (value_under n gs)) h.0
 

@@ -10,7 +10,7 @@ use Rattle.dv_value.specs.Spelling.{payload, spelling, levels, fields_levels}
 use Rattle.dv_value.specs.Tree.{Tree, document, array, Field, fields_of, Elements, elements_of, list_of_elements}
 use Rattle.dv_value.specs.Inner.TreeLaws.{fields_again}
 use Rattle.dv_order.specs.Same.{both_same, is_same, same_fields}
-use Rattle.dv_order.specs.Inner.SameLaws.{same-itself, fields-itself}
+use Rattle.dv_order.specs.Inner.SameLaws.{same-itself, fields-itself, same_documents}
 use Rattle.dv_path.specs.Placing.{with_field, put}
 use Rattle.dv_path.specs.Slots.{slot, slot_of, taken}
 use Rattle.dv_update.specs.Apply.{set_at, increased, appended, edit_at, checked, is_id, leading_id, document_limit, level_limit}
@@ -21,7 +21,6 @@ use Rattle.dv_update.specs.declared.fault.UpdateFault.{UpdateFault}
 use Rattle.dv_update.specs.declared.fault.UpdateFault.TheVariants.{IdChanged, TooLarge, TooDeep}
 use Rattle.dv_update.specs.declared.outcome.Outcome.{Outcome}
 use Rattle.dv_update.proofs.Behind.{length-behind, levels-behind, other-behind}
-use Rattle.dv_update.proofs.Lawful.{same_documents}
 
 -- what dv_value's law says of spellings
 abbrev pub FieldAdds : Type 0

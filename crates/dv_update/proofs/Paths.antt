@@ -1,5 +1,5 @@
 -- The order of paths, and paths that begin others.
-use Rattle.std.proofs.Common.{◌≡◌, ◌∙◌, ap, ap₂, sym, refl, List, [], ◌∷◌, take, ℕ, zero, suc, Bool, true, false, ◌&&◌}
+use Rattle.std.proofs.Common.{◌≡◌, ◌∙◌, ap, ap₂, sym, refl, List, [], ◌∷◌, take, ℕ, zero, suc, Bool, true, ◌&&◌}
 use Rattle.std.specs.Cmp.{tied_itself}
 use Rattle.std.specs.Cmp.Lexicographic.{slice_cmp}
 use Rattle.std.specs.Ordering.{ordering_then, ordering_reverse, nat_cmp, bool_cmp}
@@ -8,6 +8,7 @@ use Rattle.std.specs.declared.cmp.Ordering.{Ordering}
 use Rattle.std.specs.declared.cmp.Ordering.TheVariants.{Less, Equal, Greater}
 use Rattle.std.proofs.lemmas.Map.Lookups.{exact_bytes}
 use Rattle.std.proofs.lemmas.Slice.Eq.{bytes_eq-Decides}
+use Rattle.std.proofs.lemmas.Bool.{and_parts}
 use Rattle.dv_update.specs.PathOrder.{is_name, number_of, component_order, path_order, begins}
 use Rattle.dv_update.specs.Inner.PathOrderLaws.{component_order_total}
 
@@ -42,16 +43,8 @@ pub begins-itself : (p : Path) → begins p p ≡ true
 begins-itself [] = refl
 begins-itself (a ∷ p) = ap₂ (λ b c. b && c) ((bytes_eq-Decides a a).1 refl) (begins-itself p)
 
-and-left : (b c : Bool) → (b && c) ≡ true → b ≡ true
-and-left true c e = refl
-and-left false c e = cc
-
-and-right : (b c : Bool) → (b && c) ≡ true → c ≡ true
-and-right true c e = e
-and-right false c e = cc
-
 same-component : (a b : List ℕ) (p q : Path) → begins (a ∷ p) (b ∷ q) ≡ true → a ≡ b
-same-component a b p q e = (bytes_eq-Decides a b).0 (and-left (bytes_eq a b) (begins p q) e)
+same-component a b p q e = (bytes_eq-Decides a b).0 (and_parts (bytes_eq a b) (begins p q) e).0
 
 not-less : (o : Ordering) → o ≡ Equal → (p : Ordering) → ordering_then o p ≡ p
 not-less o e p = ap (λ r. ordering_then r p) e
@@ -63,7 +56,7 @@ begins-first [] (b ∷ q) e l = cc
 begins-first (a ∷ p) [] e l = cc
 begins-first (a ∷ p) (b ∷ q) e l =
     let same : component_order b a ≡ Equal = ap (component_order b) (same-component a b p q e) ∙ tied_itself component_order_total b in
-    begins-first p q (and-right (bytes_eq a b) (begins p q) e) (sym (not-less (component_order b a) same (path_order q p)) ∙ l)
+    begins-first p q (and_parts (bytes_eq a b) (begins p q) e).1 (sym (not-less (component_order b a) same (path_order q p)) ∙ l)
 
 both-less : (o s t : Ordering) → ordering_then o s ≡ Less → ordering_then (ordering_reverse o) t ≡ Less → (o ≡ Equal) × (s ≡ Less) × (t ≡ Less)
 both-less Less s t e f = cc
@@ -81,7 +74,7 @@ begins-between-both (e ∷ es) (a ∷ p) (b ∷ q) (c ∷ r) l m h g =
     let same : a ≡ c = sym here ∙ same-component e c es r g in
     let back : component_order b c ≡ ordering_reverse (component_order a b) = ap (component_order b) (sym same) ∙ component_order_total.antisymm b a in
     let split = both-less (component_order a b) (path_order p q) (path_order q r) l (ap (λ o. ordering_then o (path_order q r)) (sym back) ∙ m) in
-    ap₂ (λ x y. x && y) ((bytes_eq-Decides e b).1 (here ∙ component-exact a b split.0)) (begins-between-both es p q r split.1 split.2 (and-right (bytes_eq e a) (begins es p) h) (and-right (bytes_eq e c) (begins es r) g))
+    ap₂ (λ x y. x && y) ((bytes_eq-Decides e b).1 (here ∙ component-exact a b split.0)) (begins-between-both es p q r split.1 split.2 (and_parts (bytes_eq e a) (begins es p) h).1 (and_parts (bytes_eq e c) (begins es r) g).1)
 
 -- what begins a path begins each one that stands between
 pub begins-between : (p q r : Path) → path_order p q ≡ Less → path_order q r ≡ Less → begins p r ≡ true → begins p q ≡ true
@@ -92,4 +85,4 @@ pub begins-more : (p q : Path) (n : ℕ) → begins p (take n q) ≡ true → be
 begins-more [] q n e = refl
 begins-more (a ∷ p) q zero e = cc
 begins-more (a ∷ p) [] (suc n) e = cc
-begins-more (a ∷ p) (b ∷ q) (suc n) e = ap₂ (λ x y. x && y) (and-left (bytes_eq a b) (begins p (take n q)) e) (begins-more p q n (and-right (bytes_eq a b) (begins p (take n q)) e))
+begins-more (a ∷ p) (b ∷ q) (suc n) e = ap₂ (λ x y. x && y) (and_parts (bytes_eq a b) (begins p (take n q)) e).0 (begins-more p q n (and_parts (bytes_eq a b) (begins p (take n q)) e).1)

@@ -9,6 +9,7 @@ use Rattle.std.specs.Ordering.{is_eq, is_gt, match_ordering}
 use Rattle.std.specs.declared.cmp.Ordering.{Ordering}
 use Rattle.std.specs.declared.cmp.Ordering.TheVariants.{Less, Equal, Greater}
 use Rattle.std.proofs.lemmas.List.Folds.{list_any-append}
+use Rattle.std.proofs.lemmas.Bool.{or_from, or_parts}
 use Rattle.dv_update.specs.PathOrder.{path_order, begins}
 use Rattle.dv_update.specs.Inner.Collected.{last_begins}
 use Rattle.dv_update.specs.Parsing.{conflicts, has_conflict, placed, sorted}
@@ -185,17 +186,6 @@ unfolding IsStrictlySortedBy
 entries-rise [] h = tt
 entries-rise (e ∷ es) h = (below-entries e.0 es h.0, entries-rise es h.1)
 
-or-none-first : (a b : Bool) → (a || b) ≡ false → a ≡ false
-or-none-first true b h = cc
-or-none-first false b h = refl
-
-or-none-second : (a b : Bool) → (a || b) ≡ false → b ≡ false
-or-none-second true b h = cc
-or-none-second false b h = h
-
-pub or-none : (a b : Bool) → a ≡ false → b ≡ false → (a || b) ≡ false
-or-none a b h g = ap₂ (λ x y. x || y) h g
-
 pub is-false : (b : Bool) → (b ≡ true → ⊥) → b ≡ false
 is-false true f = absurd (f refl)
 is-false false f = refl
@@ -209,23 +199,23 @@ below-later e x [] rest h = h.0
 below-later e x (d ∷ es) rest h = below-later e x es rest h.1
 
 pub apart-below : (e x : Edit) → path_order e.0 x.0 ≡ Less → begins e.0 x.0 ≡ false → conflicts e x ≡ false
-apart-below e x l h = or-none _ _ h (is-false (begins x.0 e.0) (λ b. begins-first x.0 e.0 b l))
+apart-below e x l h = or_from _ _ h (is-false (begins x.0 e.0) (λ b. begins-first x.0 e.0 b l))
 
 any-none-append : (p : Edit → Bool) (es : List Edit) (x : Edit) → list_any p es ≡ false → p x ≡ false → list_any p (es ++ x ∷ []) ≡ false
-any-none-append p es x h g = list_any-append p es (x ∷ []) ∙ or-none _ _ h (or-none _ _ g refl)
+any-none-append p es x h g = list_any-append p es (x ∷ []) ∙ or_from _ _ h (or_from _ _ g refl)
 
 pub no-conflict-more : (done : List Edit) (x : Edit) (rest : List Edit) → Rises (done ++ x ∷ rest) → has_conflict done ≡ false → last_begins x.0 done ≡ false → has_conflict (done ++ x ∷ []) ≡ false
 no-conflict-more [] x rest up none apart = refl
-no-conflict-more (e ∷ []) x rest up none apart = or-none _ _ (or-none _ _ (apart-below e x up.0.0 apart) refl) refl
+no-conflict-more (e ∷ []) x rest up none apart = or_from _ _ (or_from _ _ (apart-below e x up.0.0 apart) refl) refl
 no-conflict-more (e ∷ d ∷ es) x rest up none apart =
-    let behind = no-conflict-more (d ∷ es) x rest up.1 (or-none-second _ _ none) apart in
-    let here : list_any (conflicts e) (d ∷ es) ≡ false = or-none-first _ _ none in
-    let beside : conflicts e d ≡ false = or-none-first _ _ here in
-    let not-begins : begins e.0 d.0 ≡ false = or-none-first _ _ beside in
+    let behind = no-conflict-more (d ∷ es) x rest up.1 (or_parts _ _ none).1 apart in
+    let here : list_any (conflicts e) (d ∷ es) ≡ false = (or_parts _ _ none).0 in
+    let beside : conflicts e d ≡ false = (or_parts _ _ here).0 in
+    let not-begins : begins e.0 d.0 ≡ false = (or_parts _ _ beside).0 in
     let x-below : path_order d.0 x.0 ≡ Less = below-later d x es rest up.1.0 in
     let not-x : begins e.0 x.0 ≡ false = is-false (begins e.0 x.0) (λ b. clash (begins e.0 d.0) not-begins (begins-between e.0 d.0 x.0 up.0.0 x-below b)) in
     let apart-x = apart-below e x (below-later e x (d ∷ es) rest up.0) not-x in
-    or-none _ _ (any-none-append (conflicts e) (d ∷ es) x here apart-x) behind
+    or_from _ _ (any-none-append (conflicts e) (d ∷ es) x here apart-x) behind
 
 pub conflict-here : (done : List Edit) (x : Edit) (rest : List Edit) → last_begins x.0 done ≡ true → has_conflict (done ++ x ∷ rest) ≡ true
 conflict-here [] x rest h = cc

@@ -1,6 +1,5 @@
 -- To put what stands there changes nothing.
-use Rattle.std.proofs.Common.{◌≡◌, ◌∙◌, ap, sym, refl, List, [], ◌∷◌, ◌++◌, ℕ, zero, suc, ◌||◌, Bool, true, false, length, Option, Some, None, slice_get, nat_lt, nat_le, arith, Result, Ok, Err, if◌then◌else◌}
-use Rattle.std.specs.Str.{bytes_eq}
+use Rattle.std.proofs.Common.{◌≡◌, ◌∙◌, ap, sym, refl, List, [], ◌∷◌, ℕ, zero, suc, ◌||◌, Bool, true, length, Option, Some, None, slice_get, nat_lt, nat_le, arith, Result, Ok, Err, if◌then◌else◌}
 use Rattle.std.proofs.lemmas.Bool.Decides.{nat_tests}
 use Rattle.std.proofs.lemmas.Option.{slice_get_within}
 use Rattle.dv_value.specs.Names.{value_under}
@@ -11,6 +10,7 @@ use Rattle.dv_path.specs.Placing.{result_map, with_field, with_element, put_fiel
 use Rattle.dv_candidates.specs.declared.fault.PathFault.{PathFault}
 use Rattle.dv_candidates.specs.declared.fault.PathFault.TheVariants.{IndexTooLarge}
 use Rattle.dv_path.specs.Slots.{taken, free, blocked, slot_of, element_slot, slot_behind, slot}
+use Rattle.dv_path.specs.Inner.Fielded.{field-again}
 
 pub free-stays : (names : List (List ℕ)) (v : Tree) → slot_behind names free ≡ taken v → ⊥
 free-stays [] v e = cc
@@ -20,14 +20,6 @@ pub blocked-stays : (names : List (List ℕ)) (v : Tree) → slot_behind names b
 blocked-stays [] v e = cc
 blocked-stays (name ∷ names) v e = blocked-stays names v e
 
-field-again : (b : Bool) (f : Field) (v : Tree) (rest : Option Tree) (gs fs : List Field) → (if b then Some f.1 else rest) ≡ Some v → (rest ≡ Some v → gs ≡ fs) → (if b then (f.0, v) ∷ [] ++ fs else f ∷ gs) ≡ f ∷ fs
-field-again true f v rest gs fs e h = let same : f.1 ≡ v = cc in ap (λ w. let g : Field = (f.0, w) in g ∷ fs) (sym same)
-field-again false f v rest gs fs e h = ap (λ hs. f ∷ hs) (h e)
-
-with_field-again : (name : List ℕ) (v : Tree) (fs : List Field) → value_under name fs ≡ Some v → with_field name (Some v) fs ≡ fs
-with_field-again name v [] e = cc
-with_field-again name v (f ∷ fs) e = field-again (bytes_eq name f.0) f v (value_under name fs) (with_field name (Some v) fs) fs e (with_field-again name v fs)
-
 with_element-again : (place : ℕ) (v : Tree) (vs : List Tree) → slice_get vs place ≡ Some v → with_element place v vs ≡ vs
 with_element-again place v [] e = cc
 with_element-again zero v (w ∷ ws) e = let same : w ≡ v = cc in ap (λ u. u ∷ ws) (sym same)
@@ -36,7 +28,7 @@ with_element-again (suc place) v (w ∷ ws) e = ap (λ us. w ∷ us) (with_eleme
 module _ (put : Option Tree → Result Tree PathFault) where
   field-put-again : (name : List ℕ) (w : Tree) (fs : List Field) → value_under name fs ≡ Some w → put (Some w) ≡ Ok w → put_field put name fs ≡ Ok fs
   field-put-again name w fs here same =
-      ap (λ c. result_map (λ v. with_field name (Some v) fs) (put c)) here ∙ ap (result_map (λ v. with_field name (Some v) fs)) same ∙ ap Ok (with_field-again name w fs here)
+      ap (λ c. result_map (λ v. with_field name (Some v) fs) (put c)) here ∙ ap (result_map (λ v. with_field name (Some v) fs)) same ∙ ap Ok (field-again name w fs here)
 
   element-put-again : (place : ℕ) (w : Tree) (vs : List Tree) → slice_get vs place ≡ Some w → put (Some w) ≡ Ok w → put_element put (Some place) vs ≡ Ok vs
   element-put-again place w vs here same =

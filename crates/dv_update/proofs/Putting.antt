@@ -1,5 +1,5 @@
 -- What is put where a path leads: how long what stands there then is, and that what stands elsewhere stays.
-use Rattle.std.proofs.Common.{◌≡◌, ◌∙◌, ap, sym, refl, subst, ℕ, zero, suc, ◌+◌, ◌≤◌, ◌||◌, ◌&&◌, inl, inr, nat_lt, nat_le, Bool, true, false, List, [], ◌∷◌, ◌++◌, length, Option, Some, None, slice_get, Result, Ok, Err, if◌then◌else◌, arith}
+use Rattle.std.proofs.Common.{◌≡◌, ◌∙◌, ap, sym, refl, subst, ℕ, zero, suc, ◌+◌, ◌≤◌, ◌||◌, ◌&&◌, inl, inr, nat_lt, nat_le, Bool, true, false, List, [], ◌∷◌, ◌++◌, length, Option, Some, None, slice_get, Ok, Err, if◌then◌else◌, arith}
 use Rattle.std.specs.Str.{bytes_eq}
 use Rattle.std.specs.Option.{unwrap_or}
 use Rattle.std.proofs.lemmas.Slice.Eq.{bytes_eq-Decides}
@@ -11,11 +11,14 @@ use Rattle.dv_candidates.specs.Path.{index_of}
 use Rattle.dv_path.specs.Placing.{result_map, field_with, with_field, with_element, put_field, put_element, put_behind, put}
 use Rattle.dv_path.specs.Removing.{changed_at, remove_element, left_behind, remove}
 use Rattle.dv_path.specs.Slots.{Slot, taken, slot_of, element_slot, slot_behind, slot}
+use Rattle.dv_path.specs.Inner.Fielded.{field-at, element-at, differ, field-other}
+use Rattle.dv_path.specs.Inner.ResultLaws.{made-by}
 use Rattle.dv_candidates.specs.declared.fault.PathFault.{PathFault}
 use Rattle.dv_candidates.specs.declared.fault.PathFault.TheVariants.{IndexTooLarge}
 use Rattle.dv_update.specs.Apply.{Path}
 use Rattle.dv_update.specs.PathOrder.{begins}
-use Rattle.dv_update.proofs.AlikeDown.{length-document, length-array, length-field, length-item}
+use Rattle.dv_update.proofs.AlikeDown.{length-field, length-item}
+use Rattle.dv_value.specs.Inner.Spelled.{length-array, length-document}
 use Rattle.dv_update.proofs.PutThere.{free-stays, blocked-stays}
 use Rattle.dv_update.proofs.RemovalsLast.{SlotsStay}
 
@@ -45,31 +48,6 @@ with-length name c (f ∷ fs) = by (bytes_eq name f.0) refl c (with-length name 
     by true is (Some v) rest = omega (arith, adds f fs, adds (f.0, v) fs, ap length ((bytes_eq-Decides name f.0).0 is))
     by false is c rest = omega (arith, adds f fs, adds f (with_field name c fs), rest)
 
-differ : (a b : List ℕ) → (a ≡ b → ⊥) → bytes_eq a b ≡ false
-differ a b ne = by (bytes_eq a b) refl
-  where
-    by : (c : Bool) → bytes_eq a b ≡ c → c ≡ false
-    by true e = absurd (ne ((bytes_eq-Decides a b).0 e))
-    by false e = refl
-
-pub value-at : (a : List ℕ) (v : Tree) (fs : List Field) → value_under a (with_field a (Some v) fs) ≡ Some v
-value-at a v [] = ap (λ b. if b then Some v else None) ((bytes_eq-Decides a a).1 refl)
-value-at a v (f ∷ fs) = by (bytes_eq a f.0) refl (value-at a v fs)
-  where
-    by : (b : Bool) → bytes_eq a f.0 ≡ b → value_under a (with_field a (Some v) fs) ≡ Some v → value_under a (if b then (f.0, v) ∷ fs else f ∷ with_field a (Some v) fs) ≡ Some v
-    by true e rest = ap (λ b. if b then Some v else value_under a fs) e
-    by false e rest = ap (λ b. if b then Some f.1 else value_under a (with_field a (Some v) fs)) e ∙ rest
-
-pub value-other : (a b : List ℕ) (v : Tree) (fs : List Field) → (a ≡ b → ⊥) → value_under a (with_field b (Some v) fs) ≡ value_under a fs
-value-other a b v [] ne = ap (λ c. if c then Some v else None) (differ a b ne)
-value-other a b v (f ∷ fs) ne = by (bytes_eq b f.0) refl (value-other a b v fs ne)
-  where
-    by : (c : Bool) → bytes_eq b f.0 ≡ c → value_under a (with_field b (Some v) fs) ≡ value_under a fs → value_under a (if c then (f.0, v) ∷ fs else f ∷ with_field b (Some v) fs) ≡ value_under a (f ∷ fs)
-    by true e rest =
-        let apart : bytes_eq a f.0 ≡ false = ap (bytes_eq a) (sym ((bytes_eq-Decides b f.0).0 e)) ∙ differ a b ne in
-        ap (λ c. if c then Some v else value_under a fs) apart ∙ sym (ap (λ c. if c then Some f.1 else value_under a fs) apart)
-    by false e rest = ap (λ o. if bytes_eq a f.0 then Some f.1 else o) rest
-
 -- ---- lengths of elements
 
 abbrev pub items : ℕ → List Tree → ℕ
@@ -83,12 +61,6 @@ element-length place i u [] w e = cc
 element-length zero i u (v ∷ vs) w e = let same : v ≡ w = cc in omega (arith, item i u v vs, ap size same)
 element-length (suc place) i u (v ∷ vs) w e = omega (arith, length-item i v (elements_of (with_element place u vs)), length-item i v (elements_of vs), element-length place (suc i) u vs w e)
 
-pub element-at : (place : ℕ) (u : Tree) (vs : List Tree) → slice_get (with_element place u vs) place ≡ Some u
-element-at zero u [] = refl
-element-at zero u (v ∷ vs) = refl
-element-at (suc place) u [] = element-at place u []
-element-at (suc place) u (v ∷ vs) = element-at place u vs
-
 element-other : (i j : ℕ) (u : Tree) (vs : List Tree) (w : Tree) → (i ≡ j → ⊥) → slice_get vs i ≡ Some w → slice_get (with_element j u vs) i ≡ Some w
 element-other i j u [] w ne e = cc
 element-other zero zero u (v ∷ vs) w ne e = absurd (ne refl)
@@ -100,11 +72,6 @@ no-shorter : (place : ℕ) (u : Tree) (vs : List Tree) → length vs ≤ length 
 no-shorter place u [] = omega arith
 no-shorter zero u (v ∷ vs) = omega arith
 no-shorter (suc place) u (v ∷ vs) = omega (arith, no-shorter place u vs)
-
--- where nothing is refused, there is what is put
-pub made-by : {X Y : Type 0} (f : X → Y) (r : Result X PathFault) (y : Y) → result_map f r ≡ Ok y → (x : X) × (r ≡ Ok x) × (f x ≡ y)
-made-by f (Ok x) y e = (x, refl, cc)
-made-by f (Err g) y e = absurd cc
 
 -- ---- two components that pick one place in arrays are one
 
@@ -179,11 +146,11 @@ module _ (slots : SlotsStay) (w : Tree) (Holds : Tree → Type 0) (keeps : Keeps
       by true s =
           let one : b ≡ e = (bytes_eq-Decides b e).0 s in
           let below : begins q a ≡ false = ap (λ c. c && begins q a) (sym s) ∙ apart in
-          let there : value_under e (with_field b (Some x) gs) ≡ Some x = ap (λ m. value_under m (with_field b (Some x) gs)) (sym one) ∙ value-at b x gs in
+          let there : value_under e (with_field b (Some x) gs) ≡ Some x = ap (λ m. value_under m (with_field b (Some x) gs)) (sym one) ∙ field-at b x gs in
           rw there (stays (value_under b gs) x below (rw one is) put)
       by false s =
           let other : e ≡ b → ⊥ = λ same. let no : bytes_eq b e ≡ true = (bytes_eq-Decides b e).1 (sym same) in cc in
-          rw (value-other e b x gs other) is
+          rw (field-other b e (Some x) gs other) is
 
   element-stays : (e b : List ℕ) (a q : Path) → Stays a q → (ws : List Tree) (x : Tree) (j : ℕ) → begins (b ∷ q) (e ∷ a) ≡ false → index_of b ≡ Some j → Stands Holds (slot_behind a (element_slot (index_of e) ws)) → put_behind q w (slice_get ws j) ≡ Ok x
       → Stands Holds (slot_behind a (element_slot (index_of e) (with_element j x ws)))

@@ -1,8 +1,9 @@
 -- Removals behind all other edits.
-use Rattle.std.proofs.Common.{◌≡◌, ◌∙◌, ap, sym, refl, List, [], ◌∷◌, ℕ, Bool, true, false, ◌&&◌, ◌||◌, ◌⊎◌, inl, inr, Result, Ok, Err, if◌then◌else◌}
+use Rattle.std.proofs.Common.{◌≡◌, ◌∙◌, ap, sym, refl, List, [], ◌∷◌, ℕ, Bool, true, false, ◌&&◌, ◌⊎◌, inl, inr, Result, Ok, Err, if◌then◌else◌}
 use Rattle.std.specs.List.{list_any}
 use Rattle.std.specs.Str.{bytes_eq}
 use Rattle.std.proofs.lemmas.Slice.Eq.{bytes_eq-Decides}
+use Rattle.std.proofs.lemmas.Bool.{or_parts}
 use Rattle.dv_value.specs.Tree.{Tree, array, Field}
 use Rattle.dv_candidates.specs.declared.fault.PathFault.{PathFault}
 use Rattle.dv_path.specs.Apart.{AreApart, IsApartFrom, AreAllApart, remove_each}
@@ -16,14 +17,6 @@ use Rattle.dv_value.specs.Results.{◌>>=◌}
 use Rattle.dv_update.specs.PathOrder.{begins}
 use Rattle.dv_update.specs.Removals.{is_removal, removals, other_edits}
 use Rattle.dv_update.specs.Update.{Operation, assign, take_away, increase, append, pull, Pulled, Edit}
-
-pub or-none-first : (a b : Bool) → (a || b) ≡ false → a ≡ false
-or-none-first true b h = cc
-or-none-first false b h = refl
-
-pub or-none-second : (a b : Bool) → (a || b) ≡ false → b ≡ false
-or-none-second true b h = cc
-or-none-second false b h = h
 
 -- ---- paths of edits without a conflict part
 
@@ -40,22 +33,22 @@ part (a ∷ p) (b ∷ q) h g = by (bytes_eq a b) refl (part p q)
     by false is rest = inl (λ e. let same : bytes_eq a b ≡ true = (bytes_eq-Decides a b).1 e in cc)
 
 pub apart : (d e : Edit) → conflicts d e ≡ false → AreApart d.0 e.0
-apart d e none = part d.0 e.0 (or-none-first (begins d.0 e.0) (begins e.0 d.0) none) (or-none-second (begins d.0 e.0) (begins e.0 d.0) none)
+apart d e none = part d.0 e.0 (or_parts (begins d.0 e.0) (begins e.0 d.0) none).0 (or_parts (begins d.0 e.0) (begins e.0 d.0) none).1
 
 apart-from : (e : Edit) (es : List Edit) → list_any (conflicts e) es ≡ false → IsApartFrom e.0 (removals es)
 apart-from e [] none = tt
-apart-from e (d ∷ es) none = by (is_removal d.1) (apart-from e es (or-none-second (conflicts e d) (list_any (conflicts e) es) none))
+apart-from e (d ∷ es) none = by (is_removal d.1) (apart-from e es (or_parts (conflicts e d) (list_any (conflicts e) es) none).1)
   where
     by : (b : Bool) → IsApartFrom e.0 (removals es) → IsApartFrom e.0 (if b then d.0 ∷ removals es else removals es)
-    by true rest = (apart e d (or-none-first (conflicts e d) (list_any (conflicts e) es) none), rest)
+    by true rest = (apart e d (or_parts (conflicts e d) (list_any (conflicts e) es) none).0, rest)
     by false rest = rest
 
 pub removals_apart : (es : List Edit) → has_conflict es ≡ false → AreAllApart (removals es)
 removals_apart [] none = tt
-removals_apart (e ∷ es) none = by (is_removal e.1) (removals_apart es (or-none-second (list_any (conflicts e) es) (has_conflict es) none))
+removals_apart (e ∷ es) none = by (is_removal e.1) (removals_apart es (or_parts (list_any (conflicts e) es) (has_conflict es) none).1)
   where
     by : (b : Bool) → AreAllApart (removals es) → AreAllApart (if b then e.0 ∷ removals es else removals es)
-    by true rest = (apart-from e es (or-none-first (list_any (conflicts e) es) (has_conflict es) none), rest)
+    by true rest = (apart-from e es (or_parts (list_any (conflicts e) es) (has_conflict es) none).0, rest)
     by false rest = rest
 
 -- ---- an edit before a removal
@@ -107,7 +100,7 @@ module _ (slots : SlotsStay) (puts : PutsStay) where
 
   removed-later : (e : Edit) (es : List Edit) → list_any (conflicts e) es ≡ false → (d : List Field) → edited (other_edits es) (remove d e.0) ≡ (edited (other_edits es) d >>= λ after. Ok (remove after e.0))
   removed-later e [] none d = refl
-  removed-later e (x ∷ es) none d = by (is_removal x.1) refl (removed-later e es (or-none-second (conflicts e x) (list_any (conflicts e) es) none))
+  removed-later e (x ∷ es) none d = by (is_removal x.1) refl (removed-later e es (or_parts (conflicts e x) (list_any (conflicts e) es) none).1)
     where
       one : (r : Result (List Field) UpdateFault) → ((a : List Field) → edited (other_edits es) (remove a e.0) ≡ (edited (other_edits es) a >>= λ after. Ok (remove after e.0))) → ((r >>= λ after. Ok (remove after e.0)) >>= edited (other_edits es)) ≡ ((r >>= edited (other_edits es)) >>= λ after. Ok (remove after e.0))
       one (Ok a) rest = rest a
@@ -117,12 +110,12 @@ module _ (slots : SlotsStay) (puts : PutsStay) where
           → edited (if b then other_edits es else x ∷ other_edits es) (remove d e.0) ≡ (edited (if b then other_edits es else x ∷ other_edits es) d >>= λ after. Ok (remove after e.0))
       by true is rest = rest d
       by false is rest =
-          ap (λ r. r >>= edited (other_edits es)) (edit-apart e.0 x.0 (apart e x (or-none-first (conflicts e x) (list_any (conflicts e) es) none)) d x.1 is)
+          ap (λ r. r >>= edited (other_edits es)) (edit-apart e.0 x.0 (apart e x (or_parts (conflicts e x) (list_any (conflicts e) es) none).0) d x.1 is)
           ∙ one (edit_at x.0 x.1 d) rest
 
   pub removals_last : (es : List Edit) (d : List Field) → has_conflict es ≡ false → edited es d ≡ (edited (other_edits es) d >>= λ after. Ok (remove_each after (removals es)))
   removals_last [] d none = refl
-  removals_last (e ∷ es) d none = by (is_removal e.1) refl (λ a. removals_last es a (or-none-second (list_any (conflicts e) es) (has_conflict es) none))
+  removals_last (e ∷ es) d none = by (is_removal e.1) refl (λ a. removals_last es a (or_parts (list_any (conflicts e) es) (has_conflict es) none).1)
     where
       first : (r : Result (List Field) UpdateFault) → ((r >>= λ after. Ok (remove after e.0)) >>= λ after. Ok (remove_each after (removals es))) ≡ (r >>= λ after. Ok (remove_each (remove after e.0) (removals es)))
       first (Ok a) = refl
@@ -137,7 +130,7 @@ module _ (slots : SlotsStay) (puts : PutsStay) where
       by true is rest =
           ap (λ o. edit_at e.0 o d >>= edited es) (removal-is e.1 is)
           ∙ rest (remove d e.0)
-          ∙ ap (λ r. r >>= λ after. Ok (remove_each after (removals es))) (removed-later e es (or-none-first (list_any (conflicts e) es) (has_conflict es) none) d)
+          ∙ ap (λ r. r >>= λ after. Ok (remove_each after (removals es))) (removed-later e es (or_parts (list_any (conflicts e) es) (has_conflict es) none).0 d)
           ∙ first (edited (other_edits es) d)
       by false is rest = one (edit_at e.0 e.1 d) rest
 
@@ -145,12 +138,12 @@ module _ (slots : SlotsStay) (puts : PutsStay) where
 
   all-part : (e : Edit) (es : List Edit) → list_any (conflicts e) es ≡ false → AllPart (removals es) e.0
   all-part e [] none = tt
-  all-part e (x ∷ es) none = by (is_removal x.1) (all-part e es (or-none-second (conflicts e x) (list_any (conflicts e) es) none))
+  all-part e (x ∷ es) none = by (is_removal x.1) (all-part e es (or_parts (conflicts e x) (list_any (conflicts e) es) none).1)
     where
       parts : AreApart x.0 e.0
       parts =
-          let both : conflicts e x ≡ false = or-none-first (conflicts e x) (list_any (conflicts e) es) none in
-          part x.0 e.0 (or-none-second (begins e.0 x.0) (begins x.0 e.0) both) (or-none-first (begins e.0 x.0) (begins x.0 e.0) both)
+          let both : conflicts e x ≡ false = (or_parts (conflicts e x) (list_any (conflicts e) es) none).0 in
+          part x.0 e.0 (or_parts (begins e.0 x.0) (begins x.0 e.0) both).1 (or_parts (begins e.0 x.0) (begins x.0 e.0) both).0
 
       by : (b : Bool) → AllPart (removals es) e.0 → AllPart (if b then x.0 ∷ removals es else removals es) e.0
       by true rest = (parts, rest)
@@ -171,7 +164,7 @@ module _ (slots : SlotsStay) (puts : PutsStay) where
 
   pub removals_first : (es : List Edit) (d : List Field) → has_conflict es ≡ false → edited es d ≡ edited (other_edits es) (remove_each d (removals es))
   removals_first [] d none = refl
-  removals_first (e ∷ es) d none = by (is_removal e.1) refl (λ a. removals_first es a (or-none-second (list_any (conflicts e) es) (has_conflict es) none))
+  removals_first (e ∷ es) d none = by (is_removal e.1) refl (λ a. removals_first es a (or_parts (list_any (conflicts e) es) (has_conflict es) none).1)
     where
       one : (r : Result (List Field) UpdateFault) → ((a : List Field) → edited es a ≡ edited (other_edits es) (remove_each a (removals es))) → (r >>= edited es) ≡ ((r >>= λ after. Ok (remove_each after (removals es))) >>= edited (other_edits es))
       one (Ok a) rest = rest a
@@ -182,4 +175,4 @@ module _ (slots : SlotsStay) (puts : PutsStay) where
       by true is rest = ap (λ o. edit_at e.0 o d >>= edited es) (removal-is e.1 is) ∙ rest (remove d e.0)
       by false is rest =
           one (edit_at e.0 e.1 d) rest
-          ∙ ap (λ r. r >>= edited (other_edits es)) (sym (edit-passes e.0 e.1 is (removals es) (all-part e es (or-none-first (list_any (conflicts e) es) (has_conflict es) none)) d))
+          ∙ ap (λ r. r >>= edited (other_edits es)) (sym (edit-passes e.0 e.1 is (removals es) (all-part e es (or_parts (list_any (conflicts e) es) (has_conflict es) none).0) d))

@@ -1,22 +1,20 @@
 -- The fields of a replacement behind its `_id`.
-use Rattle.std.proofs.Common.{◌≡◌, ◌∙◌, ap, ap₂, sym, refl, List, [], ◌∷◌, ◌++◌, ℕ, Bool, true, false, ◌||◌, not, Option, Some, None, append-nil, arith, codes, subst, if◌then◌else◌}
+use Rattle.std.proofs.Common.{◌≡◌, ◌∙◌, ap, sym, refl, List, [], ◌∷◌, ◌++◌, ℕ, Bool, true, false, ◌||◌, not, Option, Some, None, append-nil, codes, subst, if◌then◌else◌}
 use Rattle.std.specs.Str.{bytes_eq}
+use Rattle.std.proofs.lemmas.Bool.{or_from, or_parts}
 use Rattle.dv_value.specs.Names.{has_name, has_zero, AreNamed}
 use Rattle.dv_value.specs.Tree.{Tree, Field}
 use Rattle.dv_value.specs.Inner.ByteLaws.{bytes_eq-symmetric}
+use Rattle.dv_value.specs.Inner.NameLaws.{named_apart, named_whole}
 use Rattle.dv_update.specs.Apply.{is_id, others, with_id}
-use Rattle.dv_update.proofs.RemovalsLast.{or-none-first, or-none-second}
-
-pub or-false : (a b : Bool) → a ≡ false → b ≡ false → (a || b) ≡ false
-or-false a b h g = ap₂ (λ x y. x || y) h g
 
 has_name-kept : (b : Bool) (name : List ℕ) (f : Field) (fs : List Field) → (bytes_eq name f.0 || has_name name fs) ≡ false → has_name name (others fs) ≡ false → has_name name (if b then f ∷ others fs else others fs) ≡ false
-has_name-kept true name f fs h rest = or-false _ _ (or-none-first _ _ h) rest
+has_name-kept true name f fs h rest = or_from _ _ (or_parts _ _ h).0 rest
 has_name-kept false name f fs h rest = rest
 
 pub has_name-others : (name : List ℕ) (fs : List Field) → has_name name fs ≡ false → has_name name (others fs) ≡ false
 has_name-others name [] h = refl
-has_name-others name (f ∷ fs) h = has_name-kept (not (is_id f)) name f fs h (has_name-others name fs (or-none-second _ _ h))
+has_name-others name (f ∷ fs) h = has_name-kept (not (is_id f)) name f fs h (has_name-others name fs (or_parts _ _ h).1)
 
 named-kept : (b : Bool) (f : Field) (fs : List Field) → AreNamed (f ∷ fs) → AreNamed (others fs) → AreNamed (if b then f ∷ others fs else others fs)
 named-kept true f fs named rest = (named.0, has_name-others f.0 fs named.1, rest)
@@ -28,24 +26,11 @@ AreNamed-others (f ∷ fs) named = named-kept (not (is_id f)) f fs named (AreNam
 
 no-id-kept : (b : Bool) (f : Field) (fs : List Field) → bytes_eq (codes "_id") f.0 ≡ b → has_name (codes "_id") (others fs) ≡ false → has_name (codes "_id") (if not b then f ∷ others fs else others fs) ≡ false
 no-id-kept true f fs is rest = rest
-no-id-kept false f fs is rest = or-false _ _ is rest
+no-id-kept false f fs is rest = or_from _ _ is rest
 
 pub no-id : (fs : List Field) → has_name (codes "_id") (others fs) ≡ false
 no-id [] = refl
 no-id (f ∷ fs) = no-id-kept (is_id f) f fs (bytes_eq-symmetric (codes "_id") f.0) (no-id fs)
-
-has_name-append : (name : List ℕ) (fs gs : List Field) → has_name name (fs ++ gs) ≡ (has_name name fs || has_name name gs)
-has_name-append name [] gs = refl
-has_name-append name (f ∷ fs) gs = grind (arith, has_name-append name fs gs)
-
--- a field's name isn't that of one before it
-named-apart : (fs gs : List Field) (f : Field) → AreNamed (fs ++ f ∷ gs) → has_name f.0 fs ≡ false
-named-apart [] gs f named = refl
-named-apart (g ∷ fs) gs f named = grind (arith, named-apart fs gs f named.2, has_name-append g.0 fs (f ∷ gs), bytes_eq-symmetric f.0 g.0)
-
-named-whole : (fs gs : List Field) (f : Field) → AreNamed (fs ++ f ∷ gs) → has_zero f.0 ≡ false
-named-whole [] gs f named = named.0
-named-whole (g ∷ fs) gs f named = named-whole fs gs f named.2
 
 -- the fields so far, and what is left without `_id`
 pub record IsReplaced (id : Option Tree) (fields copy left : List Field) : Type 0 where
@@ -61,10 +46,10 @@ module _ {id : Option Tree} {fields copy left : List Field} (so-far : IsReplaced
   joined is = subst AreNamed (ap (λ l. copy ++ others l) here ∙ ap (λ b. copy ++ (if not b then f ∷ others rest else others rest)) is) so-far.apart
 
   pub whole_name : is_id f ≡ false → has_zero f.0 ≡ false
-  whole_name is = named-whole copy (others rest) f (joined is)
+  whole_name is = named_whole copy (others rest) f (joined is)
 
   pub fresh_name : is_id f ≡ false → has_name f.0 copy ≡ false
-  fresh_name is = named-apart copy (others rest) f (joined is)
+  fresh_name is = named_apart copy (others rest) f (joined is)
 
 pub all_replaced : {id : Option Tree} {fields copy left : List Field} → IsReplaced id fields copy left → left ≡ [] → copy ≡ with_id id (others fields)
 all_replaced {id} {fields} {copy} {left} so-far none = sym (append-nil copy) ∙ ap (λ l. copy ++ others l) (sym none) ∙ so-far.whole

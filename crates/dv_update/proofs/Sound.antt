@@ -1,6 +1,5 @@
 -- Updates that valid documents are, and what they make of valid documents.
-use Rattle.std.proofs.Common.{◌≡◌, refl, subst, ℕ, pos, negsuc, ℤ, ◌+ℤ◌, ◌==◌, ◌&&◌, not, nat_lt, Bool, true, false, List, [], ◌∷◌, ◌++◌, length, Option, Some, None, Result, Ok, Err, codes, arith, if◌then◌else◌}
-use Rattle.std.proofs.lemmas.Bool.Decides.{nat_tests}
+use Rattle.std.proofs.Common.{◌≡◌, refl, subst, ℕ, ℤ, ◌+ℤ◌, ◌==◌, ◌&&◌, not, nat_lt, Bool, true, false, List, [], ◌∷◌, ◌++◌, length, Option, Some, None, Result, Ok, Err, codes, if◌then◌else◌}
 use Rattle.std.specs.Bool.{⊤}
 use Rattle.std.specs.Int.{w32, w64}
 use Rattle.std.specs.List.{AllByRecursion, list_all, list_any, slice_split}
@@ -9,6 +8,7 @@ use Rattle.std.specs.Ordering.{is_gt}
 use Rattle.std.specs.Prelude.{FitsSigned}
 use Rattle.std.specs.Result.{IfOk}
 use Rattle.std.specs.Str.{IsUtf8, bytes_eq}
+use Rattle.std.proofs.lemmas.Bool.{and_parts}
 use Rattle.dv_value.specs.Names.{begins_with_dollar, has_zero, value_under}
 use Rattle.dv_value.specs.Spelling.{IsValue, AreFields, spelling, levels}
 use Rattle.dv_value.specs.Tree.{Tree, int32, int64, document, array, Fields, no_fields, field, Field, fields_of, list_of_fields, elements_of, list_of_elements}
@@ -33,9 +33,9 @@ use Rattle.dv_update.specs.declared.number.Number.{Number}
 use Rattle.dv_update.specs.declared.number.Number.TheVariants.{Int32, Int64}
 use Rattle.dv_update.specs.declared.operator.Operator.{Operator}
 use Rattle.dv_update.specs.declared.operator.Operator.TheVariants.{Set, Unset, Inc, Push, Pull}
-use Rattle.dv_order.specs.Inner.SameLaws.{and-left, and-right}
 use Rattle.dv_update.proofs.Texts.{IsUtf8-parts}
-use Rattle.dv_update.proofs.Valid.{either, IsName, AreNames, AreValues, AreValid, IsThere, listed-fields, fields-valid, valid-fields, listed-elements, valid-elements, value_under-valid, slot-valid, put-valid, remove-valid, with_id-valid}
+use Rattle.dv_value.specs.Inner.ValidLaws.{either, AreValues, listed-elements, valid-elements, fits-32, fits-64}
+use Rattle.dv_update.proofs.Valid.{IsName, AreNames, AreValid, IsThere, listed-fields, fields-valid, valid-fields, value_under-valid, slot-valid, put-valid, remove-valid, with_id-valid}
 
 -- ---- one thing after another
 
@@ -115,7 +115,7 @@ component_whole (b ∷ bs) e = not-true (has_zero (b ∷ bs)) e
 
 components_sound : (names : List (List ℕ)) → AllByRecursion IsUtf8 names → list_all is_component names ≡ true → AreNames names
 components_sound [] texts e = tt
-components_sound (name ∷ names) texts e = (record { text = texts.0; whole = component_whole name (and-left _ _ e) }, components_sound names texts.1 (and-right _ _ e))
+components_sound (name ∷ names) texts e = (record { text = texts.0; whole = component_whole name (and_parts _ _ e).0 }, components_sound names texts.1 (and_parts _ _ e).1)
 
 if_components : (names : List (List ℕ)) (b : Bool) → list_all is_component names ≡ b → AllByRecursion IsUtf8 names → IfSome (if b then Some names else None) AreNames
 if_components names true is texts = components_sound names texts is
@@ -179,14 +179,6 @@ told-valid (Err e) valid = tt
 
 set_at-valid : (path : Path) (v : Tree) (d : List Field) → AreNames path → IsValue v → AreValid d → IfOk (set_at path v d) AreValid
 set_at-valid path v d named value valid = told-valid (put d path v) (put-valid d path v named value valid)
-
-fits-32 : (n : ℤ) → fits_32 n ≡ true → FitsSigned w32 n
-fits-32 (pos n) e = record { sfits = grind (arith, nat_tests) }
-fits-32 (negsuc n) e = record { sfits = grind (arith, nat_tests) }
-
-fits-64 : (n : ℤ) → fits_64 n ≡ true → FitsSigned w64 n
-fits-64 (pos n) e = record { sfits = grind (arith, nat_tests) }
-fits-64 (negsuc n) e = record { sfits = grind (arith, nat_tests) }
 
 sum_by : (narrow short long : Bool) (n : ℤ) → (short ≡ true → FitsSigned w32 n) → (long ≡ true → FitsSigned w64 n) → IfOk (if narrow && short then Ok (int32 n) else if long then Ok (int64 n) else Err Overflow) IsValue
 sum_by true true long n few many = few refl

@@ -2,6 +2,7 @@
 use Rattle.std.proofs.Common.{◌≡◌, refl, ap, ◌∙◌, List, [], ◌∷◌, ℕ, false, Ok, length, map, arith}
 use Rattle.std.specs.List.{list_any, AllByRecursion}
 use Rattle.std.specs.declared.cmp.Ordering.TheVariants.{Less}
+use Rattle.std.proofs.lemmas.Bool.{or_from}
 use Rattle.dv_update.specs.Parsing.{conflicts, has_conflict, in_order, placed, sorted}
 use Rattle.dv_update.specs.PathOrder.{path_order, begins}
 use Rattle.dv_update.specs.Inner.Collected.{Steps}
@@ -10,7 +11,7 @@ use Rattle.dv_update.specs.View.{edit}
 use Rattle.dv_update.specs.declared.form.Edit as memory
 use Rattle.dv_update.proofs.Lawful.{through}
 use Rattle.dv_update.proofs.Paths.{begins-between}
-use Rattle.dv_update.proofs.Placed.{Rises, or-none, is-false, clash, apart-below}
+use Rattle.dv_update.proofs.Placed.{Rises, is-false, clash, apart-below}
 
 all-through : (e d : Edit) → path_order e.0 d.0 ≡ Less → (es : List Edit) → AllByRecursion (λ x. path_order d.0 x.0 ≡ Less) es → AllByRecursion (λ x. path_order e.0 x.0 ≡ Less) es
 all-through e d l [] h = tt
@@ -44,11 +45,11 @@ all-before (e ∷ d ∷ es) s = (((s.0, s.1), before-each e d (s.0, s.1) es (ris
 
 apart-each : (e : Edit) (es : List Edit) → AllByRecursion (λ x. Before e.0 x.0) es → list_any (conflicts e) es ≡ false
 apart-each e [] h = refl
-apart-each e (x ∷ es) h = or-none _ _ (apart-below e x h.0.0 h.0.1) (apart-each e es h.1)
+apart-each e (x ∷ es) h = or_from _ _ (apart-below e x h.0.0 h.0.1) (apart-each e es h.1)
 
 none-conflict : (es : List Edit) → AllBefore es → has_conflict es ≡ false
 none-conflict [] h = refl
-none-conflict (e ∷ es) h = or-none _ _ (apart-each e es h.0) (none-conflict es h.1)
+none-conflict (e ∷ es) h = or_from _ _ (apart-each e es h.0) (none-conflict es h.1)
 
 pub no_conflict : (es : List Edit) → Steps es → has_conflict es ≡ false
 no_conflict es s = none-conflict es (all-before es s)

@@ -8,6 +8,7 @@ use Rattle.dv_value.specs.Names.{value_under}
 use Rattle.dv_value.specs.Tree.{Tree, document, array, null, Field, fields_of, elements_of}
 use Rattle.dv_path.specs.Placing.{field_with, with_field, put_behind, put}
 use Rattle.dv_path.specs.Slots.{Slot, taken, free, blocked, slot}
+use Rattle.dv_path.specs.Inner.ResultLaws.{made-by}
 use Rattle.dv_candidates.specs.declared.fault.PathFault.{PathFault}
 use Rattle.dv_update.specs.Apply.{Path, number_tree, told, set_at, increased, appended, pull_from, edit_at, edited, is_id}
 use Rattle.dv_update.specs.Inner.Collected.{Steps}
@@ -20,7 +21,6 @@ use Rattle.dv_update.specs.Update.{Operation, assign, take_away, increase, appen
 use Rattle.dv_update.specs.declared.fault.UpdateFault.{UpdateFault}
 use Rattle.dv_update.proofs.Filled.{Fills}
 use Rattle.dv_update.proofs.Meeting.{Met, met_in, put-kept, fill-met}
-use Rattle.dv_update.proofs.Putting.{made-by}
 use Rattle.dv_update.proofs.RemovalsLast.{SlotsStay}
 use Rattle.dv_update.proofs.Stepwise.{Before, AllBefore, all-before}
 

@@ -6,10 +6,12 @@ use Rattle.std.specs.List.{AllByRecursion}
 use Rattle.std.specs.Option.{IfSome, unwrap_or, option_and_then}
 use Rattle.std.specs.Result.{IfOk}
 use Rattle.std.specs.Str.{IsUtf8, bytes_eq}
+use Rattle.std.proofs.lemmas.Bool.{or_from, or_parts}
 use Rattle.dv_value.specs.Names.{has_name, has_zero, value_under}
-use Rattle.dv_value.specs.Spelling.{IsValue, AreFields, AreElements}
-use Rattle.dv_value.specs.Tree.{Tree, document, array, null, Fields, no_fields, field, Field, fields_of, list_of_fields, Elements, no_elements, element, elements_of, list_of_elements}
+use Rattle.dv_value.specs.Spelling.{IsValue, AreFields}
+use Rattle.dv_value.specs.Tree.{Tree, document, array, null, Fields, no_fields, field, Field, fields_of, list_of_fields, elements_of, list_of_elements}
 use Rattle.dv_value.specs.Inner.TreeLaws.{fields_again}
+use Rattle.dv_value.specs.Inner.ValidLaws.{AreValues, either, listed-elements, valid-elements}
 use Rattle.dv_value.specs.Inner.ByteLaws.{bytes_eq-symmetric}
 use Rattle.dv_candidates.specs.Path.{index_of}
 use Rattle.dv_path.specs.Placing.{result_map, field_with, with_field, with_element, put_field, put_element, put_behind, put}
@@ -18,13 +20,7 @@ use Rattle.dv_path.specs.Slots.{Slot, taken, free, blocked, slot_of, element_slo
 use Rattle.dv_candidates.specs.declared.fault.PathFault.{PathFault}
 use Rattle.dv_candidates.specs.declared.fault.PathFault.TheVariants.{IndexTooLarge}
 use Rattle.dv_update.specs.Apply.{is_id, others, with_id}
-use Rattle.dv_update.proofs.Replacing.{or-false, has_name-others, no-id}
-use Rattle.dv_update.proofs.RemovalsLast.{or-none-first, or-none-second}
-
--- what holds of both holds of either
-pub either : {X : Type 0} (P : X → Type 0) (b : Bool) (x y : X) → P x → P y → P (if b then x else y)
-either P true x y first second = first
-either P false x y first second = second
+use Rattle.dv_update.proofs.Replacing.{has_name-others, no-id}
 
 pub record IsName (name : List ℕ) : Type 0 where
   pub text : IsUtf8 name
@@ -32,9 +28,6 @@ pub record IsName (name : List ℕ) : Type 0 where
 
 abbrev pub AreNames : List (List ℕ) → Type 0
 AreNames path = AllByRecursion IsName path
-
-abbrev pub AreValues : List Tree → Type 0
-AreValues vs = AllByRecursion IsValue vs
 
 -- `AreFields` of a list
 abbrev pub AreValid : List Field → Type 0
@@ -51,14 +44,6 @@ fields-valid fs valid = subst AreValid (fields_again fs) (listed-fields (fields_
 pub valid-fields : (fs : List Field) → AreValid fs → AreFields (fields_of fs)
 valid-fields [] valid = tt
 valid-fields (f ∷ fs) valid = (valid.0.text, valid.0.whole, subst (λ (gs : List Field). has_name f.0 gs ≡ false) (sym (fields_again fs)) valid.1, valid.2, valid-fields fs valid.3)
-
-pub listed-elements : (vs : Elements) → AreElements vs → AreValues (list_of_elements vs)
-listed-elements no_elements valid = tt
-listed-elements (element v vs) valid = (valid.0, listed-elements vs valid.1)
-
-pub valid-elements : (vs : List Tree) → AreValues vs → AreElements (elements_of vs)
-valid-elements [] valid = tt
-valid-elements (v ∷ vs) valid = (valid.0, valid-elements vs valid.1)
 
 -- ---- what stands there
 
@@ -101,14 +86,14 @@ slot-valid d path valid = slot_behind-valid path (taken (document (fields_of d))
 -- ---- a field with another value, or without one
 
 changed-apart : (other : List ℕ) (b : Bool) (c : Option Tree) (f : Field) (fs changed : List Field) → (bytes_eq other f.0 || has_name other fs) ≡ false → has_name other changed ≡ false → has_name other (if b then field_with f.0 c ++ fs else f ∷ changed) ≡ false
-changed-apart other true None f fs changed absent rest = or-none-second _ _ absent
+changed-apart other true None f fs changed absent rest = (or_parts _ _ absent).1
 changed-apart other true (Some v) f fs changed absent rest = absent
-changed-apart other false c f fs changed absent rest = or-false _ _ (or-none-first _ _ absent) rest
+changed-apart other false c f fs changed absent rest = or_from _ _ (or_parts _ _ absent).0 rest
 
 has_name-with_field : (other name : List ℕ) (c : Option Tree) (fs : List Field) → bytes_eq other name ≡ false → has_name other fs ≡ false → has_name other (with_field name c fs) ≡ false
 has_name-with_field other name None [] apart absent = refl
-has_name-with_field other name (Some v) [] apart absent = or-false _ _ apart refl
-has_name-with_field other name c (f ∷ fs) apart absent = changed-apart other (bytes_eq name f.0) c f fs (with_field name c fs) absent (has_name-with_field other name c fs apart (or-none-second _ _ absent))
+has_name-with_field other name (Some v) [] apart absent = or_from _ _ apart refl
+has_name-with_field other name c (f ∷ fs) apart absent = changed-apart other (bytes_eq name f.0) c f fs (with_field name c fs) absent (has_name-with_field other name c fs apart (or_parts _ _ absent).1)
 
 changed-valid : (name : List ℕ) (b : Bool) (c : Option Tree) (f : Field) (fs : List Field) → bytes_eq name f.0 ≡ b → IfSome c IsValue → AreValid (f ∷ fs) → AreValid (with_field name c fs) → AreValid (if b then field_with f.0 c ++ fs else f ∷ with_field name c fs)
 changed-valid name true None f fs is value valid rest = valid.3

@@ -82,7 +82,7 @@ pub fn what_comes_out_is_valid()
 {}
 
 /// Values are the same if each part is, and so are documents.
-#[tactic(auto, using(crate::proofs::Lawful::same_values, crate::proofs::Lawful::same_documents))]
+#[tactic(auto, using(dv_order::specs::Inner::SameLaws::same_values, dv_order::specs::Inner::SameLaws::same_documents))]
 pub fn sameness_is_equality()
     ensures values { (v w : Tree) → (is_same v w ≡ true) ↔ (v ≡ w) }
     ensures documents { (d e : List Field) → (same_fields (fields_of d) (fields_of e) ≡ true) ↔ (d ≡ e) }

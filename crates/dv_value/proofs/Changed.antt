@@ -43,10 +43,6 @@ module _ (name : List ℕ) where
   put_missing v [] none = refl
   put_missing v (f ∷ fs) none = grind (arith, put_missing v fs)
 
-  pub without_missing : (fs : List Field) → has_name name fs ≡ false → without name fs ≡ fs
-  without_missing [] none = refl
-  without_missing (f ∷ fs) none = grind (arith, without_missing fs)
-
 -- ---- the value at a place
 
 pub zip-at : (v : Tree) (place : ℕ) (ns : Texts) (vs : List Tree) → zip ns (slice_set vs place v) ≡ with_value_at place v (zip ns vs)

@@ -2,7 +2,6 @@ pub mod Named
 pub mod ByText
 pub mod Places
 pub mod Zipped
-pub mod Payloads
 pub mod Rest
 pub mod Moved
 pub mod Changed

@@ -6,7 +6,7 @@ use Rattle.std.proofs.lemmas.List.Elements.{All-nil, All-cons, All-head, All-tai
 use Rattle.dv_value.specs.Tree.{Field, fields_of}
 use Rattle.dv_value.specs.Names.{AreNamed, has_name}
 use Rattle.dv_value.specs.Spelling.{payload, spelling, fields_spelling, fields_levels, IsValue, AreFields}
-use Rattle.dv_value.proofs.Named.{has_name-append}
+use Rattle.dv_value.specs.Inner.NameLaws.{has_name-append}
 use Rattle.dv_value.specs.Inner.Spelled.{length-document}
 use Rattle.dv_value.specs.Inner.TreeLaws.{fields_again}
 use Rattle.dv_value.specs.Inner.ByteLaws.{bytes_eq-symmetric}

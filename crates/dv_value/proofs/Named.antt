@@ -1,5 +1,5 @@
 -- The names of a list of fields, and of one with a field more at its end.
-use Rattle.std.proofs.Common.{◌≡◌, ℕ, ◌+◌, ◌-◌, ◌≤◌, ◌<◌, true, false, ◌||◌, List, [], ◌∷◌, ◌++◌, length, get_or, Some, None, is_some, take, drop, map, sym, ap, subst, ◌∙◌, arith}
+use Rattle.std.proofs.Common.{◌≡◌, ℕ, ◌+◌, ◌-◌, ◌≤◌, ◌<◌, true, false, List, [], ◌∷◌, ◌++◌, length, get_or, Some, None, is_some, take, drop, map, sym, ap, subst, ◌∙◌, arith}
 use Rattle.std.proofs.lemmas.List.{take-append-drop, map-append}
 use Rattle.std.proofs.lemmas.Slice.Eq.{bytes_eq-Decides}
 use Rattle.std.specs.List.{position_from}
@@ -7,10 +7,7 @@ use Rattle.std.specs.Str.{bytes_eq}
 use Rattle.dv_value.specs.Tree.{Field, boolean}
 use Rattle.dv_value.specs.Names.{bare, place_under, value_under, has_name, has_zero, AreNamed}
 use Rattle.dv_value.specs.Inner.ByteLaws.{bytes_eq-symmetric}
-
-pub has_name-append : (name : List ℕ) (fs gs : List Field) → has_name name (fs ++ gs) ≡ (has_name name fs || has_name name gs)
-has_name-append name [] gs = grind arith
-has_name-append name (f ∷ fs) gs = grind (arith, has_name-append name fs gs)
+use Rattle.dv_value.specs.Inner.NameLaws.{has_name-append}
 
 pub AreNamed-push : (fs : List Field) (f : Field) → AreNamed fs → has_zero f.0 ≡ false → has_name f.0 fs ≡ false → AreNamed (fs ++ f ∷ [])
 AreNamed-push [] f named whole fresh = grind arith
@@ -26,11 +23,6 @@ pub AreNamed-take : (count : ℕ) (ns : List (List ℕ)) → AreNamed (map bare 
 AreNamed-take count ns named =
     let parts : map bare ns ≡ map bare (take count ns) ++ map bare (drop count ns) = ap (map bare) (sym (take-append-drop count ns)) ∙ map-append bare (take count ns) (drop count ns) in
     AreNamed-front (map bare (take count ns)) (map bare (drop count ns)) (subst AreNamed parts named)
-
-pub named_apart : (fs gs : List Field) (f : Field) → AreNamed (fs ++ f ∷ gs) → has_name f.0 fs ≡ false
-named_apart [] gs f named = grind arith
-named_apart (g ∷ fs) gs f named =
-    grind (arith, named_apart fs gs f named.2, has_name-append g.0 fs (f ∷ gs), bytes_eq-symmetric f.0 g.0)
 
 -- no field has a name that holds a zero byte
 pub zero_names_none : (name : List ℕ) (fs : List Field) → AreNamed fs → has_zero name ≡ true → has_name name fs ≡ false

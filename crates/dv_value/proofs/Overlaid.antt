@@ -12,7 +12,8 @@ use Rattle.dv_value.specs.Inner.Covers.{under, covered, IsCovered, AreCovered}
 use Rattle.dv_value.specs.Inner.Put.{with_value_at}
 use Rattle.dv_value.specs.Inner.ListLaws.{drop_item}
 use Rattle.dv_value.proofs.Changed.{found_within}
-use Rattle.dv_value.proofs.Named.{named_apart, value_there}
+use Rattle.dv_value.specs.Inner.NameLaws.{named_apart, named_whole}
+use Rattle.dv_value.proofs.Named.{value_there}
 
 -- ---- how many there are
 
@@ -104,10 +105,6 @@ AreCovered-put v (suc place) (f ∷ fs) (c ∷ cs) h = (h.0, AreCovered-put v pl
 
 -- ---- the names in front of a field
 
-fresh_behind : (fs gs : List Field) (f : Field) → AreNamed (fs ++ f ∷ gs) → has_zero f.0 ≡ false
-fresh_behind [] gs f named = named.0
-fresh_behind (g ∷ fs) gs f named = fresh_behind fs gs f named.2
-
 module _ (fs : List Field) (place : ℕ) (f : Field) (named : AreNamed fs) (here : slice_get fs place ≡ Some f) where
   split : fs ≡ take place fs ++ f ∷ drop (place + 1) fs
   split = sym (take-append-drop place fs) ∙ ap (λ (rest : List Field). take place fs ++ rest) (drop_item fs place f here)
@@ -118,7 +115,7 @@ module _ (fs : List Field) (place : ℕ) (f : Field) (named : AreNamed fs) (here
 
   -- and it holds no zero
   pub whole_here : has_zero f.0 ≡ false
-  whole_here = fresh_behind (take place fs) (drop (place + 1) fs) f (subst AreNamed split named)
+  whole_here = named_whole (take place fs) (drop (place + 1) fs) f (subst AreNamed split named)
 
 -- the fields in front of the next place
 pub take_field : (fs : List Field) (place : ℕ) (f : Field) → slice_get fs place ≡ Some f → take (place + 1) fs ≡ take place fs ++ f ∷ []

@@ -11,7 +11,7 @@ use Rattle.dv_value.specs.Names.{bare, has_name, AreNamed}
 use Rattle.dv_value.specs.Inner.Places.{Places, IsNameIndexOf}
 use Rattle.dv_value.specs.Inner.ByteLaws.{bytes_eq-symmetric}
 use Rattle.dv_value.proofs.ByText.{get-insert}
-use Rattle.dv_value.proofs.Named.{named_apart}
+use Rattle.dv_value.specs.Inner.NameLaws.{named_apart}
 
 -- counted from i, the last field stands at n
 position_from-push : (name : List ℕ) (i n : ℕ) (fs : List Field) (f : Field) → has_name f.0 fs ≡ false → n ≡ i + length fs → position_from (λ g. bytes_eq name g.0) i (fs ++ f ∷ []) ≡ cond (bytes_eq f.0 name) (Some n) (position_from (λ g. bytes_eq name g.0) i fs)

@@ -11,22 +11,9 @@ use Rattle.dv_value.specs.Removing.{without_each}
 use Rattle.dv_value.specs.Inner.Removing.{is_name_of, HasEach}
 use Rattle.dv_value.specs.Tree.{Field}
 use Rattle.dv_value.proofs.ByText.{get-insert}
-use Rattle.dv_value.proofs.Changed.{without_missing}
-use Rattle.dv_value.proofs.Named.{named_apart}
+use Rattle.dv_value.specs.Inner.NameLaws.{AreNamed-without, has_name-without, named_apart, without_missing}
 
 -- ---- fields one by one
-
-has_name-without : (n name : List ℕ) (fs : List Field) → has_name n fs ≡ false → has_name n (without name fs) ≡ false
-has_name-without n name [] none = refl
-has_name-without n name (f ∷ fs) none = grind (arith, has_name-without n name fs)
-
-AreNamed-without : (name : List ℕ) (fs : List Field) → AreNamed fs → AreNamed (without name fs)
-AreNamed-without name [] named = tt
-AreNamed-without name (f ∷ fs) named = by (bytes_eq name f.0) (AreNamed-without name fs named.2)
-  where
-    by : (b : Bool) → AreNamed (without name fs) → AreNamed (cond b fs (f ∷ without name fs))
-    by true rest = named.2
-    by false rest = (named.0, has_name-without f.0 name fs named.1, rest)
 
 AreNamed-each : (names : List (List ℕ)) (fs : List Field) → AreNamed fs → AreNamed (without_each names fs)
 AreNamed-each [] fs named = named

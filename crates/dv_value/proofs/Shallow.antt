@@ -1,16 +1,12 @@
 -- Each level of a document or an array has five bytes of its own: a length and the closing zero.
-use Rattle.std.proofs.Common.{◌≡◌, ℕ, suc, ◌+◌, ◌*◌, ◌≤◌, length, decimal, length-append, refl, arith}
+use Rattle.std.proofs.Common.{◌≡◌, ℕ, suc, ◌+◌, ◌*◌, ◌≤◌, length, length-append, refl, arith}
 use Rattle.dv_value.specs.Tree.{Tree, document, array, Fields, no_fields, field, Elements, no_elements, element}
 use Rattle.dv_value.specs.Spelling.{payload, fields_spelling, elements_spelling, levels, fields_levels, elements_levels}
-use Rattle.dv_value.specs.Inner.Spelled.{length-document, length-array, length-element_spelling}
+use Rattle.dv_value.specs.Inner.Spelled.{length-document, length-array, length-element, length-element_spelling}
 
 field_bytes : (name : _) (v : Tree) (fs : Fields) → length (fields_spelling (field name v fs)) ≡ length (payload v) + length name + 2 + length (fields_spelling fs)
 unfolding fields_spelling
 field_bytes name v fs = rw (length-append, length-element_spelling) refl
-
-element_bytes : (i : ℕ) (v : Tree) (vs : Elements) → length (elements_spelling i (element v vs)) ≡ length (payload v) + length (decimal i) + 2 + length (elements_spelling (suc i) vs)
-unfolding elements_spelling
-element_bytes i v vs = rw (length-append, length-element_spelling) refl
 
 mutual
   pub levels_within : (v : Tree) → 5 * levels v ≤ length (payload v)
@@ -24,4 +20,4 @@ mutual
 
   elements_within : (i : ℕ) (vs : Elements) → 5 * elements_levels vs ≤ length (elements_spelling i vs)
   elements_within i no_elements = omega arith
-  elements_within i (element v vs) = omega (arith, element_bytes i v vs, levels_within v, elements_within (suc i) vs)
+  elements_within i (element v vs) = omega (arith, length-element i v vs, levels_within v, elements_within (suc i) vs)

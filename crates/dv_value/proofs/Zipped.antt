@@ -10,7 +10,7 @@ use Rattle.std.proofs.lemmas.Slice.Zip.{length-zip}
 use Rattle.dv_value.specs.Tree.{Tree, Field}
 use Rattle.dv_value.specs.Names.{bare, AreNamed, has_name, place_under, with_values}
 use Rattle.dv_value.specs.Inner.ListLaws.{drop_item}
-use Rattle.dv_value.proofs.Named.{named_apart}
+use Rattle.dv_value.specs.Inner.NameLaws.{named_apart}
 
 abbrev Texts : Type 0
 Texts = List (List ℕ)

@@ -12,4 +12,6 @@ pub mod Removing
 pub mod ListLaws
 pub mod TreeLaws
 pub mod LeftLaws
+pub mod ValidLaws
+pub mod NameLaws
 pub mod ByteLaws

@@ -76,7 +76,7 @@ pub(crate) fn digits(number: usize) -> usize
 }
 
 /// The length of a binary: a count, the subtype, the bytes.
-#[tactic(auto, using(crate::proofs::Payloads::binary_length))]
+#[tactic(auto, using(crate::specs::Inner::Spelled::length_binary))]
 fn binary_size(subtype: u8, bytes: &[u8]) -> Option<usize>
     ensures size { SomeIff result (length (payload (trees.binary subtype bytes.now)) ≤ 2147483647) (length (payload (trees.binary subtype bytes.now))) }
     ensures valid { IsValue (trees.binary subtype bytes.now) }

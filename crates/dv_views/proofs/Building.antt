@@ -10,6 +10,7 @@ use Rattle.std.specs.declared.cmp.Ordering.TheVariants.{Less}
 use Rattle.dv_value.specs.Tree.{int64}
 use Rattle.dv_order.specs.Key.{key_order}
 use Rattle.dv_order.specs.OwnKeys.{IsOwn}
+use Rattle.dv_order.specs.Inner.TotalOrder.{then_Equal}
 use Rattle.dv_coll.specs.Collection.{IsAscending, id_key}
 use Rattle.dv_change.specs.declared.input.Input.TheVariants.{Named}
 use Rattle.dv_change.specs.declared.taking.Taken as taking
@@ -33,14 +34,13 @@ use Rattle.dv_views.specs.Views.{Kept, Inputs, ViewMark, View, live, inputs_from
 use Rattle.dv_views.specs.Inner.Views.{AreInOrder, Views, view_under}
 use Rattle.dv_views.proofs.Coming.{each_there, list_comes, list_takes}
 use Rattle.dv_views.proofs.Filling.{firsts_told, puts_lead}
-use Rattle.dv_views.proofs.Made.{one_part}
 use Rattle.dv_views.proofs.Marked.{take_count, take_last}
 
 -- ---- documents in order stand at exact positions, in their order
 
 below-first : (d : Row) (ds : List Row) → AllByRecursion (λ k. key_order (id_key d) k ≡ Less) (map id_key ds) → AllByRecursion (λ p. pos_order (own_position d) p ≡ Less) (keys_of (positioned ds))
 below-first d [] all = tt
-below-first d (e ∷ ds) all = (one_part (key_order (id_key d) (id_key e)) ∙ all.0, below-first d ds all.1)
+below-first d (e ∷ ds) all = (then_Equal (key_order (id_key d) (id_key e)) ∙ all.0, below-first d ds all.1)
 
 ascending-places : (ds : List Row) → IsAscending ds → IsStrictlySortedBy pos_order (keys_of (positioned ds))
 unfolding IsStrictlySortedBy

@@ -1,5 +1,5 @@
 -- Rows that stand at their `_id`s still do behind stages that leave these as they are.
-use Rattle.std.proofs.Common.{◌≡◌, ◌&&◌, ◌||◌, ℕ, zero, suc, Bool, true, false, not, List, [], ◌∷◌, ◌++◌, map, filter, take, drop, codes, cond, Option, Some, None, refl, ap, sym, subst, ◌∙◌}
+use Rattle.std.proofs.Common.{◌≡◌, ◌||◌, ℕ, zero, suc, Bool, true, false, not, List, [], ◌∷◌, ◌++◌, map, filter, take, drop, codes, cond, Option, Some, None, refl, ap, sym, subst, ◌∙◌}
 use Rattle.std.specs.Bool.{if◌then◌else◌}
 use Rattle.std.specs.List.{list_any}
 use Rattle.std.specs.Str.{bytes_eq}
@@ -25,15 +25,12 @@ use Rattle.dv_group.specs.Placed.{grouped_at}
 use Rattle.dv_join.specs.Turning.{first_input}
 use Rattle.dv_coll.specs.Collection.{HasId}
 use Rattle.std.specs.List.{AllByRecursion}
+use Rattle.std.proofs.lemmas.Bool.{and_parts}
 use Rattle.dv_pipe.specs.declared.stage.Stage.{Stage}
 use Rattle.dv_pipe.specs.declared.stage.Stage.TheVariants as stages
 use Rattle.dv_pipe.specs.Sources.{Row}
 use Rattle.dv_views.specs.Inner.ById.{AreAtIds, IsAtId, at_ids_behind, at_ids_through, shows_id}
 use Rattle.dv_views.specs.Placed.{forms, lists_in, own_position, positioned, stage_at}
-
-both : (a b : Bool) → a && b ≡ true → (a ≡ true) × (b ≡ true)
-both true b e = (refl, e)
-both false b e = absurd cc
 
 not-true : (b : Bool) → not b ≡ true → b ≡ false
 not-true true e = absurd cc
@@ -160,13 +157,13 @@ grouped-at-ids g rows = each (groups_of (map (keyed g) (forget rows)))
 stage-at-ids : (s : Stage) (named : List Positioned) (rows : Positioned) (before : Bool) → (before ≡ true → AreAtIds rows) → at_ids_behind before s ≡ true → AreAtIds (stage_at s named rows)
 unfolding stage_at
 stage-at-ids (stages.Match form) named rows before are is = filter-at-ids (λ e. matches form e.1) rows (are is)
-stage-at-ids (stages.Project p) named rows before are is = let two = both before (shows_id p) is in map-at-ids (projected p) (λ f fs here. shown-begins p f fs here two.1) rows (are two.0)
+stage-at-ids (stages.Project p) named rows before are is = let two = and_parts before (shows_id p) is in map-at-ids (projected p) (λ f fs here. shown-begins p f fs here two.1) rows (are two.0)
 stage-at-ids (stages.Unwind u) named rows before are is = absurd cc
 stage-at-ids (stages.Sort parts) named rows before are is = absurd cc
 stage-at-ids (stages.Limit count) named rows before are is = front-at-ids count rows (are is)
 stage-at-ids (stages.Group g) named rows before are is = grouped-at-ids g rows
 stage-at-ids (stages.Lookup l) named rows before are is =
-    let two = both before (not (bytes_eq l.target (codes "_id"))) is in
+    let two = and_parts before (not (bytes_eq l.target (codes "_id"))) is in
     map-at-ids (joined_row l (forget (first_input named))) (λ f fs here. joined-begins l (forget (first_input named)) f fs here (not-true (bytes_eq l.target (codes "_id")) two.1)) rows (are two.0)
 
 pub through_at_ids : (ss : List Stage) (named : List Positioned) (rows : Positioned) (before : Bool) → (before ≡ true → AreAtIds rows) → at_ids_through before ss ≡ true → AreAtIds (through_forms (forms ss named) rows)

@@ -1,11 +1,10 @@
 -- Documents that are kept beside views: how they are found, and what changes make of them.
-use Rattle.std.proofs.Common.{◌≡◌, ◌||◌, ℕ, zero, suc, Bool, true, false, List, [], ◌∷◌, ◌++◌, map, slice_get, Option, Some, None, is_some, cond, refl, ap, sym, subst, ◌∙◌}
+use Rattle.std.proofs.Common.{◌≡◌, ℕ, Bool, true, false, List, [], ◌∷◌, Option, Some, None, is_some, cond, refl, ap, sym, subst, ◌∙◌}
 use Rattle.std.proofs.lemmas.Map.Text.{hash_map_updates_text}
 use Rattle.std.proofs.lemmas.Slice.Eq.{bytes_eq-Decides}
 use Rattle.std.specs.BTreeMap.{BTreeMap}
 use Rattle.std.specs.Bool.{if◌then◌else◌}
 use Rattle.std.specs.HashMap.{HashMap, UpdatesBy}
-use Rattle.std.specs.List.{AllByRecursion}
 use Rattle.std.specs.Map.{lookup}
 use Rattle.std.specs.Map.Calls.{RetainsPairs}
 use Rattle.std.specs.Option.{option_map}
@@ -17,7 +16,6 @@ use Rattle.dv_change.specs.Inner.Changes.{IsPositioned}
 use Rattle.dv_change.specs.Positions.{PosTree}
 use Rattle.dv_pipe.specs.Sources.{Row}
 use Rattle.dv_pipe.specs.Stages.{Lists}
-use Rattle.dv_views.specs.Forms.{is_name_among}
 use Rattle.dv_views.specs.Placed.{positioned}
 use Rattle.dv_views.specs.Inner.Copies.{AreCopies, AreCopiesRead, ArePositionedCopies, HaveCopiesRead, HaveCopy, IsCopy, NamedCopies, copies_seen, copy_under}
 use Rattle.dv_views.specs.Inner.Views.{Views, reads_name}
@@ -159,12 +157,3 @@ copies_with name documents before after lists have same are =
     all_copies name (Some (positioned documents)) before after have (λ other copy. IsCopy copy (lists other)) (ap positioned same) are
 
 -- ---- names that are asked for
-
-pub among_there : (names : List (List ℕ)) (i : ℕ) (name : List ℕ) → slice_get names i ≡ Some name → is_name_among name names ≡ true
-among_there [] i name there = absurd cc
-among_there (n ∷ ns) zero name there = let same : n ≡ name = cc in subst (λ (m : List ℕ). bytes_eq name m || is_name_among name ns ≡ true) (sym same) (ap (λ (b : Bool). b || is_name_among name ns) (itself name))
-among_there (n ∷ ns) (suc i) name there = by (bytes_eq name n) (among_there ns i name there)
-  where
-    by : (b : Bool) → is_name_among name ns ≡ true → b || is_name_among name ns ≡ true
-    by true rest = refl
-    by false rest = rest

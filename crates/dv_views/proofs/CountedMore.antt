@@ -1,11 +1,11 @@
 -- The work that views take for changes, one after the other.
 use Rattle.std.proofs.Common.{◌≡◌, true, false, List, [], ◌∷◌, map, refl, ap, sym, ◌∙◌}
+use Rattle.std.proofs.lemmas.Bool.{or_parts}
 use Rattle.dv_change.specs.Raised.{raised}
 use Rattle.dv_views.specs.Inner.Counted.{AreCounted, HasCountedShare}
 use Rattle.dv_views.specs.Flow.{Share, all_together, nothing, shares_together}
 use Rattle.dv_views.specs.Views.{ViewMark, live, stale, View}
 use Rattle.dv_views.specs.Inner.Views.{Views, view_form, is_stale, mark_ticks}
-use Rattle.dv_views.proofs.Right.{neither}
 use Rattle.dv_views.proofs.Rolling.{raised_none, raised_twice}
 
 not-stale : (m n : ViewMark) → (is_stale m ≡ true → is_stale n ≡ true) → is_stale n ≡ false → is_stale m ≡ false
@@ -15,7 +15,7 @@ not-stale stale n stays has = absurd (let e : false ≡ true = sym has ∙ stays
 pub counted_more : (s t : Share) (v w u : View) → HasCountedShare s v w → HasCountedShare t w u → HasCountedShare (shares_together s t) v u
 counted_more s t v w u first second = record {
   form = second.form ∙ first.form;
-  unread = λ away. let both = neither s.reached t.reached away in second.unread both.1 ∙ first.unread both.0;
+  unread = λ away. let both = or_parts s.reached t.reached away in second.unread both.1 ∙ first.unread both.0;
   stale = λ is. second.stale (first.stale is);
   ticks = λ has. second.ticks has ∙ ap (λ n. raised n t.work) (first.ticks (not-stale w.mark u.mark second.stale has)) ∙ raised_twice (mark_ticks v.mark) s.work t.work;
 }

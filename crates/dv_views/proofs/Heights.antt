@@ -7,7 +7,7 @@ use Rattle.std.specs.Map.{values_of}
 use Rattle.std.specs.Str.{bytes_eq}
 use Rattle.std.specs.String.{string_bytes}
 use Rattle.std.specs.declared.string.String.{String}
-use Rattle.std.proofs.lemmas.Bool.{le-ltb, lt-ltb}
+use Rattle.std.proofs.lemmas.Bool.{le-ltb, lt-ltb, or_parts}
 use Rattle.std.proofs.lemmas.List.{length-map, map-append}
 use Rattle.std.proofs.lemmas.List.Sums.{fold-append}
 use Rattle.std.proofs.lemmas.Slice.Eq.{bytes_eq-Decides}
@@ -22,7 +22,7 @@ use Rattle.dv_views.specs.Inner.Older.{Entries, views}
 use Rattle.dv_views.specs.Inner.Seen.{HaveHeights, entry_view}
 use Rattle.dv_views.specs.Inner.Views.{Views, view_form, has_view, reads_name}
 use Rattle.dv_views.proofs.Needed.{closed}
-use Rattle.dv_views.proofs.Right.{itself, neither, or-left, or-right, read_among}
+use Rattle.dv_views.proofs.Right.{itself, or-left, or-right, read_among}
 use Rattle.dv_value.specs.Inner.ByteLaws.{bytes_eq-symmetric}
 
 -- ---- the highest of names
@@ -106,7 +106,7 @@ module _ {Y : Type 0} (stages : List Stage) (source : List ℕ) where
 height-elsewhere : (name : List ℕ) (below : List ℕ → ℕ) (vs : Views) → has_view name vs ≡ false → fold (λ below v. with_height v below) below (map view_form vs) name ≡ below name
 height-elsewhere name below [] away = refl
 height-elsewhere name below (v ∷ vs) away =
-    let both = neither (bytes_eq name v.name) (has_view name vs) away in
+    let both = or_parts (bytes_eq name v.name) (has_view name vs) away in
     height-elsewhere name (with_height (view_form v) below) vs both.1 ∙ ap (λ (b : Bool). if b then height_over below v.stages v.source else below name) both.0
 
 -- each is at most their number
@@ -137,7 +137,7 @@ module _ {Y : Type 0} where
   heights-under : (high : List ℕ → ℕ) (v : ViewForm) (es : Entries Y) → has_view v.name (views es) ≡ false → HaveHeights high es → HaveHeights (with_height v high) es
   heights-under high v [] away kept = tt
   heights-under high v (e ∷ es) away kept =
-      let both = neither (bytes_eq v.name (string_bytes e.0)) (has_view v.name (views es)) away in (
+      let both = or_parts (bytes_eq v.name (string_bytes e.0)) (has_view v.name (views es)) away in (
         kept.0 ∙ ap (λ (b : Bool). if b then height_over high v.stages v.source else high (string_bytes e.0)) (sym (bytes_eq-symmetric (string_bytes e.0) v.name ∙ both.0)),
         heights-under high v es both.1 kept.1,
       )

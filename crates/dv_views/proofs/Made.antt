@@ -5,11 +5,12 @@ use Rattle.std.specs.BTreeMap.{insert_entry, is_at}
 use Rattle.std.specs.List.{AllByRecursion}
 use Rattle.std.specs.List.Sorted.{IsStrictlySortedBy}
 use Rattle.std.specs.Map.{remove_entry, values_of}
-use Rattle.std.specs.Ordering.{is_eq, is_lt, match_ordering, ordering_then}
+use Rattle.std.specs.Ordering.{is_eq, is_lt, match_ordering}
 use Rattle.std.specs.declared.cmp.Ordering.{Ordering}
 use Rattle.std.specs.declared.cmp.Ordering.TheVariants.{Less, Equal, Greater}
 use Rattle.dv_order.specs.Key.{KeyTree, key_order}
 use Rattle.dv_order.specs.Inner.KeyLaws.{key_order_total, equal-from}
+use Rattle.dv_order.specs.Inner.TotalOrder.{then_Equal}
 use Rattle.dv_coll.specs.Collection.{IsAscending, id_key, has_key, found, inserted, removed, replaced}
 use Rattle.dv_change.specs.declared.change.Change.TheVariants.{Put, Gone}
 use Rattle.dv_change.specs.declared.position.Part.TheVariants.{Up}
@@ -47,12 +48,6 @@ apart-removed : (k : KeyTree) (ds : List Row) → AreApart k ds → removed k ds
 apart-removed k [] apart = refl
 apart-removed k (d ∷ ds) apart = ap (λ b. cond (not b) (d ∷ removed k ds) (removed k ds)) apart.0 ∙ ap (λ es. d ∷ es) (apart-removed k ds apart.1)
 
--- positions of one ascending key stand as their keys do
-pub one_part : (o : Ordering) → ordering_then o Equal ≡ o
-one_part Less = refl
-one_part Equal = refl
-one_part Greater = refl
-
 abbrev wanted : Row → List Row → List Row
 wanted d ds = if is_some (found (id_key d) ds) then replaced d ds else inserted d ds
 
@@ -64,7 +59,7 @@ forgotten (d ∷ ds) = ap (λ es. d ∷ es) (forgotten ds)
 -- what stands at the position of a key is what is found under it
 pub found_at : (k : KeyTree) (ds : List Row) → at (Up k ∷ []) (positioned ds) ≡ found k ds
 found_at k [] = refl
-found_at k (d ∷ ds) = λ i. cond (is_eq (one_part (key_order k (id_key d)) i)) (Some d) (found_at k ds i)
+found_at k (d ∷ ds) = λ i. cond (is_eq (then_Equal (key_order k (id_key d)) i)) (Some d) (found_at k ds i)
 
 module _ (d e : Row) (ds : List Row) where
   -- the documents from e on, by where d stands to e
@@ -87,7 +82,7 @@ unfolding IsStrictlySortedBy
 put_made d [] ascending = refl
 put_made d (e ∷ ds) ascending =
     ap (λ o. values_of (match_ordering o ((own_position d, d) ∷ (own_position e, e) ∷ positioned ds) ((own_position e, d) ∷ positioned ds) ((own_position e, e) ∷ insert_entry pos_order (positioned ds) (own_position d) d)))
-    (one_part (key_order (id_key d) (id_key e)))
+    (then_Equal (key_order (id_key d) (id_key e)))
     ∙ put-met d e ds (key_order (id_key d) (id_key e)) _ (λ here. apart-below (id_key d) (id_key e) ds here ascending.0) (λ here. apart-beside (id_key d) (id_key e) ds here ascending.0) (put_made d ds ascending.1)
 
 -- ---- a gone one
@@ -101,6 +96,6 @@ pub gone_made : (k : KeyTree) (ds : List Row) → IsAscending ds → documents_c
 unfolding IsStrictlySortedBy
 gone_made k [] ascending = refl
 gone_made k (d ∷ ds) ascending =
-    ap (λ o. values_of (cond (is_eq o) (positioned ds) ((own_position d, d) ∷ remove_entry (is_at (pos_order (Up k ∷ []))) (positioned ds)))) (one_part (key_order k (id_key d)))
+    ap (λ o. values_of (cond (is_eq o) (positioned ds) ((own_position d, d) ∷ remove_entry (is_at (pos_order (Up k ∷ []))) (positioned ds)))) (then_Equal (key_order k (id_key d)))
     ∙ gone-met k d ds (is_eq (key_order k (id_key d))) _
     (λ here. apart-removed k ds (apart-beside k (id_key d) ds (equal-from _ here) ascending.0)) (gone_made k ds ascending.1)

@@ -5,6 +5,7 @@ use Rattle.std.specs.List.{list_any}
 use Rattle.std.specs.Option.{option_map}
 use Rattle.std.specs.Str.{bytes_eq}
 use Rattle.std.proofs.lemmas.Slice.Eq.{bytes_eq-Decides}
+use Rattle.std.proofs.lemmas.Bool.{or_parts}
 use Rattle.dv_change.specs.declared.taking.Taken as taking
 use Rattle.dv_change.specs.Changes.{Positioned, forget, with_changes}
 use Rattle.dv_change.specs.Inner.Told.{changes_told, told_along}
@@ -21,7 +22,7 @@ use Rattle.dv_views.specs.Views.{Kept, ViewMark, Inputs, live, stale, View, inpu
 use Rattle.dv_views.specs.Inner.Views.{AreKept, AreOverLive, IsRight, Views, distance, view_form, is_stale, no_distance, reads, with_distance}
 use Rattle.dv_views.proofs.Agree.{Agrees, FromScratch, agree_over}
 use Rattle.dv_views.proofs.Coming.{all_come, all_taken, all_there, along_told, rows_behind, told_of_along}
-use Rattle.dv_views.proofs.Right.{UnreadDoesNotMatter, itself, neither, or-left, read_among, same_outs, same_taken}
+use Rattle.dv_views.proofs.Right.{UnreadDoesNotMatter, itself, or-left, read_among, same_outs, same_taken}
 
 pub none_of : {A : Type 0} (o : Option A) → is_some o ≡ false → o ≡ None
 none_of None e = refl
@@ -31,7 +32,7 @@ none_of (Some all) e = absurd cc
 nothing-told : (names : List (List ℕ)) (told : Known) (name : List ℕ) → list_any (λ n. is_some (told n)) names ≡ false → is_name_among name names ≡ true → told name ≡ None
 nothing-told [] told name away among = absurd cc
 nothing-told (n ∷ ns) told name away among =
-    let both = neither (is_some (told n)) (list_any (λ n. is_some (told n)) ns) away in
+    let both = or_parts (is_some (told n)) (list_any (λ n. is_some (told n)) ns) away in
     by (bytes_eq name n) refl (none_of (told n) both.0) (λ among. nothing-told ns told name both.1 among) among
   where
     by : (b : Bool) → bytes_eq name n ≡ b → told n ≡ None → (is_name_among name ns ≡ true → told name ≡ None) → b || is_name_among name ns ≡ true → told name ≡ None

@@ -13,6 +13,7 @@ use Rattle.std.specs.declared.ops.Bound.TheVariants.{Included, Excluded, Unbound
 use Rattle.dv_value.specs.Tree.{Tree, array, binary, no_elements, element}
 use Rattle.dv_order.specs.Key.{KeyTree, key_order, value}
 use Rattle.dv_order.specs.Order.{canon}
+use Rattle.dv_order.specs.Inner.TotalOrder.{then_Equal}
 use Rattle.dv_change.specs.declared.position.Part.TheVariants.{Up}
 use Rattle.dv_change.specs.Changes.{Positioned, forget}
 use Rattle.dv_change.specs.Positions.{PosTree, pos_order}
@@ -20,7 +21,6 @@ use Rattle.dv_coll.specs.Collection.{HasId, IsAscending, IsNoArray, id_key}
 use Rattle.dv_coll.specs.Inner.Walk.{walked}
 use Rattle.dv_pipe.specs.Sources.{Row}
 use Rattle.dv_views.specs.Inner.ById.{AreAtIds, BeginsWithId}
-use Rattle.dv_views.proofs.Made.{one_part}
 
 abbrev up : KeyTree → PosTree
 up k = Up k ∷ []
@@ -28,13 +28,13 @@ up k = Up k ∷ []
 -- ---- positions of keys stand as these do
 
 from-start : (low : Bound KeyTree) (k : KeyTree) → is_from_start pos_order (bound_map up low) (up k) ≡ is_from_start key_order low k
-from-start (Included a) k = ap is_le (one_part (key_order a k))
-from-start (Excluded a) k = ap is_lt (one_part (key_order a k))
+from-start (Included a) k = ap is_le (then_Equal (key_order a k))
+from-start (Excluded a) k = ap is_lt (then_Equal (key_order a k))
 from-start Unbounded k = refl
 
 past-end : (high : Bound KeyTree) (k : KeyTree) → is_past_end pos_order (bound_map up high) (up k) ≡ is_past_end key_order high k
-past-end (Included b) k = ap is_lt (one_part (key_order b k))
-past-end (Excluded b) k = ap is_le (one_part (key_order b k))
+past-end (Included b) k = ap is_lt (then_Equal (key_order b k))
+past-end (Excluded b) k = ap is_le (then_Equal (key_order b k))
 past-end Unbounded k = refl
 
 same-range : (low high : Bound KeyTree) (k : KeyTree) → range_contains pos_order (bound_map up low) (bound_map up high) (up k) ≡ range_contains key_order low high k
@@ -42,11 +42,11 @@ same-range low high k = λ i. from-start low k i && not (past-end high k i)
 
 forward : (low high : Bound KeyTree) → IsForward (IsLeBy key_order) (IsLtBy key_order) low high → IsForward (IsLeBy pos_order) (IsLtBy pos_order) (bound_map up low) (bound_map up high)
 forward Unbounded high h = tt
-forward (Included a) (Included b) h = ap is_gt (one_part (key_order a b)) ∙ h
-forward (Included a) (Excluded b) h = ap is_gt (one_part (key_order a b)) ∙ h
+forward (Included a) (Included b) h = ap is_gt (then_Equal (key_order a b)) ∙ h
+forward (Included a) (Excluded b) h = ap is_gt (then_Equal (key_order a b)) ∙ h
 forward (Included a) Unbounded h = tt
-forward (Excluded a) (Included b) h = ap is_gt (one_part (key_order a b)) ∙ h
-forward (Excluded a) (Excluded b) h = one_part (key_order a b) ∙ h
+forward (Excluded a) (Included b) h = ap is_gt (then_Equal (key_order a b)) ∙ h
+forward (Excluded a) (Excluded b) h = then_Equal (key_order a b) ∙ h
 forward (Excluded a) Unbounded h = tt
 
 -- ---- the rows between two ends
@@ -79,7 +79,7 @@ found_between backwards low high start end rows range is ends are found =
 later : (p : PosTree) (k : KeyTree) → p ≡ up k → (rows : Positioned) → AreAtIds rows → AllByRecursion (λ q. pos_order p q ≡ Less) (keys_of rows) → AllByRecursion (λ l. key_order k l ≡ Less) (map id_key (forget rows))
 later p k is [] are all = tt
 later p k is (e ∷ rows) are all =
-    (sym (one_part (key_order k (id_key e.1))) ∙ (λ i. pos_order (sym is i) (sym are.0.1 i)) ∙ all.0, later p k is rows are.1 all.1)
+    (sym (then_Equal (key_order k (id_key e.1))) ∙ (λ i. pos_order (sym is i) (sym are.0.1 i)) ∙ all.0, later p k is rows are.1 all.1)
 
 pub ids_ascend : (rows : Positioned) → AreAtIds rows → IsStrictlySortedBy pos_order (keys_of rows) → IsAscending (forget rows)
 unfolding IsStrictlySortedBy

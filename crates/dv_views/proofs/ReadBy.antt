@@ -9,6 +9,7 @@ use Rattle.std.specs.Str.{bytes_eq}
 use Rattle.std.specs.String.{string_bytes}
 use Rattle.std.proofs.lemmas.Bool.Decides.{nat_tests}
 use Rattle.std.proofs.lemmas.Slice.Eq.{bytes_eq-Decides}
+use Rattle.std.proofs.lemmas.Bool.{or_parts}
 use Rattle.dv_pipe.specs.Stages.{is_read}
 use Rattle.dv_pipe.specs.declared.stage.Stage.{Stage}
 use Rattle.dv_views.specs.Forms.{ViewForm, is_name_among, is_read_by, names_read}
@@ -18,14 +19,14 @@ use Rattle.dv_views.specs.Inner.Readers.{AreListed, AreReaders, Listing, has_lis
 use Rattle.dv_views.specs.Inner.Seen.{entry_view}
 use Rattle.dv_views.specs.Inner.Views.{view_form}
 use Rattle.dv_views.proofs.Heights.{forms_of}
-use Rattle.dv_views.proofs.Right.{itself, neither, or-left, or-right, read_among}
+use Rattle.dv_views.proofs.Right.{itself, or-left, or-right, read_among}
 
 -- ---- where no view reads a namespace, and where one does
 
 pub none_read : (name : List ℕ) (k : ℕ) (vs : List ViewForm) → is_read_by vs name ≡ false → readers_from (name ∷ []) k vs ≡ []
 none_read name k [] away = refl
 none_read name k (v ∷ vs) away =
-    let both = neither (is_read v.stages v.source name) (is_read_by vs name) away in
+    let both = or_parts (is_read v.stages v.source name) (is_read_by vs name) away in
     ap (λ (b : Bool). if b || false then k ∷ readers_from (v.name ∷ name ∷ []) (suc k) vs else readers_from (name ∷ []) (suc k) vs) both.0 ∙ none_read name (suc k) vs both.1
 
 pub some_read : (name : List ℕ) (k : ℕ) (vs : List ViewForm) → is_read_by vs name ≡ true → (length (readers_from (name ∷ []) k vs) == 0) ≡ false
@@ -184,7 +185,7 @@ listed_more es w names name listing are read = by (has_list name listing) refl
               (λ is. any-last (λ (l : List ℕ × List ℕ). bytes_eq n l.0) listing (name, length es ∷ []) ∙ or-right (has_list n listing) (bytes_eq n name) is);
         }
 
-among-at : (names : List (List ℕ)) (i : ℕ) (name : List ℕ) → slice_get names i ≡ Some name → is_name_among name names ≡ true
+pub among-at : (names : List (List ℕ)) (i : ℕ) (name : List ℕ) → slice_get names i ≡ Some name → is_name_among name names ≡ true
 among-at [] i name there = absurd cc
 among-at (n ∷ names) zero name there = let same : n ≡ name = cc in or-left (bytes_eq name n) (is_name_among name names) ((bytes_eq-Decides name n).1 (sym same))
 among-at (n ∷ names) (suc i) name there = or-right (bytes_eq name n) (is_name_among name names) (among-at names i name there)
@@ -259,7 +260,7 @@ module _ (gone : List ℕ) (names : List (List ℕ)) where
   unread-name : (front : List (List ℕ)) (k : ℕ) (vs : List ViewForm) → is_read_by vs gone ≡ false → readers_from (front ++ gone ∷ names) k vs ≡ readers_from (front ++ names) k vs
   unread-name front k [] away = refl
   unread-name front k (v ∷ vs) away =
-      let both = neither (is_read v.stages v.source gone) (is_read_by vs gone) away in
+      let both = or_parts (is_read v.stages v.source gone) (is_read_by vs gone) away in
       λ i. if unread-any front v both.0 i then k ∷ unread-name (v.name ∷ front) (suc k) vs both.1 i else unread-name front (suc k) vs both.1 i
 
 module _ {Y : Type 0} (gone : List ℕ) where
@@ -267,7 +268,7 @@ module _ {Y : Type 0} (gone : List ℕ) where
       → readers_from names k (forms_of (remove_entry (is_called gone) es)) ≡ without (k + i) (readers_from names k (forms_of es))
   readers_less names k i [] away at = absurd cc
   readers_less names k i (e ∷ es) away at =
-      let both = neither (is_read e.1.stages e.1.source gone) (is_read_by (forms_of es) gone) away in
+      let both = or_parts (is_read e.1.stages e.1.source gone) (is_read_by (forms_of es) gone) away in
       by (is_called gone e.0) refl i (place_of_name gone es) at both.1 (λ others m j is. readers_less others m j es both.1 is)
     where
       v : ViewForm

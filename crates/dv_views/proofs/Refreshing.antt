@@ -10,6 +10,8 @@ use Rattle.std.specs.Prelude.{nat_lt}
 use Rattle.std.specs.declared.string.String.{String}
 use Rattle.std.specs.String.{string_bytes}
 use Rattle.std.specs.Map.{values_of}
+use Rattle.std.proofs.lemmas.Bool.{or_parts}
+use Rattle.std.proofs.lemmas.List.{map-append}
 use Rattle.indexmap.specs.IndexMap.{set_value_at}
 use Rattle.dv_views.specs.declared.fault.ViewFault.{ViewFault}
 use Rattle.dv_views.specs.declared.fault.ViewFault.TheVariants.{Exists, LimitReached, ReadByView}
@@ -24,7 +26,8 @@ use Rattle.dv_views.specs.Views.{ViewMark, View}
 use Rattle.dv_views.specs.Inner.Views.{AreInOrder, AreNamedApart, AreOverLive, ArePartlyRefreshed, AreRight, AreRightOver, IsJustMade, IsMadeAnew, IsPartlyRefreshed, IsRefusedFor, Views, view_form, has_view, is_stale, no_distance, view_under, with_distance}
 use Rattle.dv_views.proofs.Agree.{FromScratch}
 use Rattle.dv_views.proofs.Joining.{Replaces, each_among, fresh_built, over_append, over_built, over_set, right_built, right_set, set_view}
-use Rattle.dv_views.proofs.Right.{UnreadDoesNotMatter, neither, read_among, right_append}
+use Rattle.dv_views.proofs.Right.{UnreadDoesNotMatter, read_among, right_append}
+use Rattle.dv_views.specs.Inner.FormLaws.{same_form}
 
 -- ---- the first of views
 
@@ -151,23 +154,19 @@ module _ (names : List (List ℕ)) (mark : ViewMark) (v : View) (stale : is_stal
 founded-last : (vs : List ViewForm) (w : ViewForm) → AreFounded vs → is_read_by vs w.name ≡ false → is_read w.stages w.source w.name ≡ false → AreFounded (vs ++ w ∷ [])
 founded-last [] w founded unread own = ((own, tt), tt)
 founded-last (v ∷ vs) w founded unread own =
-    let both = neither (is_read v.stages v.source w.name) (is_read_by vs w.name) unread in
+    let both = or_parts (is_read v.stages v.source w.name) (is_read_by vs w.name) unread in
     ((founded.0.0, more vs founded.0.1 both.0), founded-last vs w founded.1 both.1 own)
   where
     more : (us : List ViewForm) → AllByRecursion (λ other. is_read v.stages v.source other.name ≡ false) us → is_read v.stages v.source w.name ≡ false → AllByRecursion (λ other. is_read v.stages v.source other.name ≡ false) (us ++ w ∷ [])
     more [] all one = (one, tt)
     more (u ∷ us) all one = (all.0, more us all.1 one)
 
-forms-last : (vs : Views) (w : View) → map view_form (vs ++ w ∷ []) ≡ map view_form vs ++ view_form w ∷ []
-forms-last [] w = refl
-forms-last (v ∷ vs) w = ap (λ (fs : List ViewForm). view_form v ∷ fs) (forms-last vs w)
-
 module _ (vs : Views) (w : View) (sound : IsSoundRegistry vs) (lists : Lists) (built : IsBuilt w.stages w.source vs lists w.mark) where
   pub sound_last : AreNamedApart (vs ++ w ∷ []) → is_read_by (map view_form vs) w.name ≡ false → is_read w.stages w.source w.name ≡ false → IsSoundRegistry (vs ++ w ∷ [])
   sound_last apart unread own = record {
     apart = apart;
     live = over_append no_distance vs w sound.live (λ name read. over_built vs sound.apart lists w.stages w.source w.mark built name (sym (read_among w.stages w.source name) ∙ read));
-    founded = subst AreFounded (sym (forms-last vs w)) (founded-last (map view_form vs) (view_form w) sound.founded unread own);
+    founded = subst AreFounded (sym (map-append view_form vs (w ∷ []))) (founded-last (map view_form vs) (view_form w) sound.founded unread own);
   }
 
   pub right_last : FromScratch → UnreadDoesNotMatter → (others : Lists) → AreAlike (names_read w.stages w.source) lists others → AreRight others vs → AreRight others (vs ++ w ∷ [])
@@ -194,10 +193,6 @@ module _ (names : List (List ℕ)) where
   more_refreshed zero (u ∷ us) (v ∷ vs) (w ∷ ws) first at = (one-more u v w first.0 at.0, subst (λ (xs : Views). ArePartlyRefreshed names us xs) (sym at.2) first.1)
   more_refreshed (suc n) (u ∷ us) (v ∷ vs) (w ∷ ws) first at = (subst (λ (x : View). IsPartlyRefreshed names u x) (sym at.0) first.0, more_refreshed n us vs ws first.1 at.1)
 
-  same-form : (v w : View) → IsPartlyRefreshed names v w → view_form w ≡ view_form v
-  same-form v w (inl same) = ap view_form same
-  same-form v w (inr made) = made.1.form
-
   pub more_fresh : (n : ℕ) (vs ws : Views) → AllByRecursion (λ v. is_name_among v.name names ≡ true → is_stale v.mark ≡ false) (take n vs) → IsRefreshedAt n names vs ws → n < length vs
       → AllByRecursion (λ v. is_name_among v.name names ≡ true → is_stale v.mark ≡ false) (take (n + 1) ws)
   more_fresh n vs ws fresh at more = let next : suc n ≡ n + 1 = omega arith in subst (λ (m : ℕ). AllByRecursion (λ v. is_name_among v.name names ≡ true → is_stale v.mark ≡ false) (take m ws)) next (by n vs ws fresh at)
@@ -205,14 +200,8 @@ module _ (names : List (List ℕ)) where
       by : (n : ℕ) (vs ws : Views) → AllByRecursion (λ v. is_name_among v.name names ≡ true → is_stale v.mark ≡ false) (take n vs) → IsRefreshedAt n names vs ws → AllByRecursion (λ v. is_name_among v.name names ≡ true → is_stale v.mark ≡ false) (take (suc n) ws)
       by n [] ws fresh at = subst (λ (xs : Views). AllByRecursion (λ v. is_name_among v.name names ≡ true → is_stale v.mark ≡ false) (take (suc n) xs)) (sym at) tt
       by n (v ∷ vs) [] fresh at = tt
-      by zero (v ∷ vs) (w ∷ ws) fresh at = ((λ among. at.1 (subst (λ (n : List ℕ). is_name_among n names ≡ true) (ap (λ f. f.name) (same-form v w at.0)) among)), tt)
+      by zero (v ∷ vs) (w ∷ ws) fresh at = ((λ among. at.1 (subst (λ (n : List ℕ). is_name_among n names ≡ true) (ap (λ f. f.name) (same_form names v w at.0)) among)), tt)
       by (suc n) (v ∷ vs) (w ∷ ws) fresh at = (subst (λ (x : View). is_name_among x.name names ≡ true → is_stale x.mark ≡ false) (sym at.0) fresh.0, by n vs ws fresh.1 at.1)
-
-  pub same_forms : (vs ws : Views) → ArePartlyRefreshed names vs ws → map view_form ws ≡ map view_form vs
-  same_forms [] [] partly = refl
-  same_forms [] (w ∷ ws) partly = absurd partly
-  same_forms (v ∷ vs) [] partly = absurd partly
-  same_forms (v ∷ vs) (w ∷ ws) partly = λ i. same-form v w partly.0 i ∷ same_forms vs ws partly.1 i
 
 -- ---- views in memory
 
@@ -290,7 +279,7 @@ module _ (vs : Views) (name source : List ℕ) (stages : List Stage) (mark : Vie
   module _ (sound : IsSoundRegistry vs) where
     pub sound_added : AreNamedApart (vs ++ new_view ∷ []) → is_read_by (map view_form vs) name || is_read stages source name ≡ false → IsSoundRegistry (vs ++ new_view ∷ [])
     sound_added apart unread =
-        let both = neither (is_read_by (map view_form vs) name) (is_read stages source name) unread in
+        let both = or_parts (is_read_by (map view_form vs) name) (is_read stages source name) unread in
         sound_last vs new_view sound lists built apart both.0 both.1
 
     pub right_added : FromScratch → UnreadDoesNotMatter → (others : Lists) → AreAlike (names_read stages source) lists others → AreRight others vs → AreRight others (vs ++ new_view ∷ [])

@@ -7,6 +7,7 @@ use Rattle.std.specs.Map.{remove_entry}
 use Rattle.std.specs.Str.{bytes_eq}
 use Rattle.std.specs.String.{string_bytes}
 use Rattle.std.proofs.lemmas.Slice.Eq.{bytes_eq-Decides}
+use Rattle.std.proofs.lemmas.Bool.{or_parts}
 use Rattle.dv_pipe.specs.Stages.{is_read}
 use Rattle.dv_views.specs.Forms.{AreFounded, ViewForm, height_over, heights, is_name_among, names_read, with_height}
 use Rattle.dv_views.specs.Inner.Older.{Entries, is_called, views}
@@ -16,7 +17,7 @@ use Rattle.dv_views.specs.Views.{View}
 use Rattle.dv_views.specs.Inner.Views.{AreNamedApart, AreOverLive, Views, distance, view_form, no_distance, reads, reads_name, with_distance, views_without}
 use Rattle.dv_views.proofs.Entries.{AreOthers, others, taken_out}
 use Rattle.dv_views.proofs.Heights.{forms_of}
-use Rattle.dv_views.proofs.Right.{neither, read_among}
+use Rattle.dv_views.proofs.Right.{read_among}
 use Rattle.dv_views.proofs.Silent.{silent_removed}
 use Rattle.dv_value.specs.Inner.ByteLaws.{bytes_eq-symmetric}
 
@@ -46,7 +47,7 @@ read-near gone v distances others away same near name h = by (bytes_eq name gone
 live-without : (gone : List ℕ) (vs : Views) (distances others : List ℕ → ℕ) → AreSameBut gone distances others → reads_name vs gone ≡ false → AreOverLive distances vs → AreOverLive others (views_without gone vs)
 live-without gone [] distances others same away live = tt
 live-without gone (v ∷ vs) distances others same away live =
-    let both = neither (reads v gone) (reads_name vs gone) away in
+    let both = or_parts (reads v gone) (reads_name vs gone) away in
     by (bytes_eq gone v.name) refl both.0 (λ distances others same live. live-without gone vs distances others same both.1 live)
   where
     by : (b : Bool) → bytes_eq gone v.name ≡ b → reads v gone ≡ false → ((distances others : List ℕ → ℕ) → AreSameBut gone distances others → AreOverLive distances vs → AreOverLive others (views_without gone vs))
@@ -81,7 +82,7 @@ module _ (gone : List ℕ) where
   same-highest : (before after : List ℕ → ℕ) (first : ℕ) (names : List (List ℕ)) → AreSameBut gone before after → is_name_among gone names ≡ false → fold (λ so_far name. max so_far (before name)) first names ≡ fold (λ so_far name. max so_far (after name)) first names
   same-highest before after first [] same away = refl
   same-highest before after first (n ∷ names) same away =
-      let both = neither (bytes_eq gone n) (is_name_among gone names) away in
+      let both = or_parts (bytes_eq gone n) (is_name_among gone names) away in
       ap (λ (h : ℕ). fold (λ so_far name. max so_far (before name)) (max first h) names) (same n (bytes_eq-symmetric n gone ∙ both.0)) ∙ same-highest before after (max first (after n)) names same both.1
 
   same-height : (v : View) (before after : List ℕ → ℕ) → AreSameBut gone before after → reads v gone ≡ false → height_over before v.stages v.source ≡ height_over after v.stages v.source
@@ -91,7 +92,7 @@ module _ (gone : List ℕ) where
       → AreSameBut gone (fold (λ below v. with_height v below) before (map view_form vs)) (fold (λ below v. with_height v below) after (map view_form (views_without gone vs)))
   heights-without [] before after same away = same
   heights-without (v ∷ vs) before after same away =
-      let both = neither (reads v gone) (reads_name vs gone) away in
+      let both = or_parts (reads v gone) (reads_name vs gone) away in
       by (bytes_eq gone v.name) refl (same-height v before after same both.0) (λ after same. heights-without vs (with_height (view_form v) before) after same both.1)
     where
       behind : List ℕ → ℕ

@@ -4,6 +4,7 @@ use Rattle.std.specs.Bool.{if◌then◌else◌}
 use Rattle.std.specs.List.{list_any}
 use Rattle.std.specs.Str.{bytes_eq}
 use Rattle.std.proofs.lemmas.Slice.Eq.{bytes_eq-Decides}
+use Rattle.std.proofs.lemmas.Bool.{or_parts}
 use Rattle.dv_change.specs.Work.{through_forms}
 use Rattle.dv_pipe.specs.Sources.{Row}
 use Rattle.dv_pipe.specs.Stages.{Lists, evaluated, is_source_named, is_read, looked_into}
@@ -26,10 +27,6 @@ or-left false b e = absurd cc
 pub or-right : (a b : Bool) → b ≡ true → a || b ≡ true
 or-right true b e = refl
 or-right false b e = e
-
-pub neither : (a b : Bool) → a || b ≡ false → (a ≡ false) × (b ≡ false)
-neither true b e = absurd cc
-neither false b e = (refl, e)
 
 -- ---- names
 
@@ -118,7 +115,7 @@ module _ (unread : UnreadDoesNotMatter) where
       → AreRightOver places lists vs → AreRightOver others rows (views_without gone vs)
   right-without gone [] places others lists rows same away right = tt
   right-without gone (v ∷ vs) places others lists rows same away right =
-      let both = neither (reads v gone) (reads_name vs gone) away in
+      let both = or_parts (reads v gone) (reads_name vs gone) away in
       by (bytes_eq gone v.name) refl
       (λ name h. read-elsewhere name both.0 h (bytes_eq name gone) refl)
       (λ places others lists rows same right. right-without gone vs places others lists rows same both.1 right)

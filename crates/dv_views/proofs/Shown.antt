@@ -6,6 +6,7 @@ use Rattle.std.specs.List.{AllByRecursion, IsDistinct, list_any}
 use Rattle.std.specs.Option.{option_and_then}
 use Rattle.std.specs.Str.{bytes_eq}
 use Rattle.std.proofs.lemmas.Slice.Eq.{bytes_eq-Decides}
+use Rattle.std.proofs.lemmas.Bool.{or_parts}
 use Rattle.dv_change.specs.Changes.{Positioned, forget}
 use Rattle.dv_pipe.specs.Sources.{Row}
 use Rattle.dv_pipe.specs.Stages.{Lists, evaluated}
@@ -14,7 +15,6 @@ use Rattle.dv_views.specs.Forms.{ViewForm, outs_of, places_over, rows_over, with
 use Rattle.dv_views.specs.Placed.{ListPlaces, list_places}
 use Rattle.dv_views.specs.Views.{ViewMark, live, stale, View, inputs_from}
 use Rattle.dv_views.specs.Inner.Views.{AreKept, AreNamedApart, AreRight, AreRightOver, Views, distance, distances_of, view_form, is_view_named, kept_rows, no_distance, rows_shown, view_under, with_distance}
-use Rattle.dv_views.proofs.Right.{neither}
 
 -- ---- what later views leave
 
@@ -23,7 +23,7 @@ module _ {V X : Type 0} (named : V → List ℕ) (made : V → (List ℕ → X) 
   pub untouched : (vs : List V) (below : List ℕ → X) (name : List ℕ) → list_any (λ v. bytes_eq name (named v)) vs ≡ false → fold (λ below v name. if bytes_eq name (named v) then made v below else below name) below vs name ≡ below name
   untouched [] below name away = refl
   untouched (v ∷ vs) below name away =
-      let both = neither (bytes_eq name (named v)) (list_any (λ v. bytes_eq name (named v)) vs) away in
+      let both = or_parts (bytes_eq name (named v)) (list_any (λ v. bytes_eq name (named v)) vs) away in
       untouched vs (λ name. if bytes_eq name (named v) then made v below else below name) name both.1 ∙ ap (λ (b : Bool). if b then made v below else below name) both.0
 
 pub rows_untouched : (vs : List ViewForm) (lists : Lists) (name : List ℕ) → list_any (λ v. bytes_eq name v.name) vs ≡ false → rows_over vs lists name ≡ lists name
@@ -108,7 +108,7 @@ distance_over other (Some v) = distance v.mark
 distances-untouched : (vs : Views) (below : List ℕ → ℕ) (name : List ℕ) → list_any (λ (w : ViewForm). bytes_eq name w.name) (map view_form vs) ≡ false → fold (λ below v. with_distance v below) below vs name ≡ below name
 distances-untouched [] below name away = refl
 distances-untouched (v ∷ vs) below name away =
-    let both = neither (bytes_eq name v.name) (list_any (λ (w : ViewForm). bytes_eq name w.name) (map view_form vs)) away in
+    let both = or_parts (bytes_eq name v.name) (list_any (λ (w : ViewForm). bytes_eq name w.name) (map view_form vs)) away in
     distances-untouched vs (with_distance v below) name both.1 ∙ ap (λ (b : Bool). if b then distance v.mark else below name) both.0
 
 distance-over : (vs : Views) (below : List ℕ → ℕ) (name : List ℕ) → AreNamedApart vs → fold (λ below v. with_distance v below) below vs name ≡ distance_over (below name) (view_under name vs)

@@ -8,6 +8,7 @@ use Rattle.std.specs.declared.cmp.Ordering.{Ordering}
 use Rattle.std.specs.declared.cmp.Ordering.TheVariants.{Less, Equal, Greater}
 use Rattle.dv_order.specs.Key.{key_order}
 use Rattle.dv_order.specs.Inner.KeyLaws.{EqualKeysAreOne}
+use Rattle.dv_order.specs.Inner.TotalOrder.{then_Equal}
 use Rattle.dv_coll.specs.Collection.{HasId, id_key}
 use Rattle.dv_change.specs.declared.change.Change.{Change}
 use Rattle.dv_change.specs.declared.change.Change.TheVariants.{Put, Gone}
@@ -18,7 +19,7 @@ use Rattle.dv_pipe.specs.Sources.{Row}
 use Rattle.dv_views.specs.Changed.{documents_changed}
 use Rattle.dv_views.specs.Inner.Changed.{AreMade, AreMadeInTurn, IsMade}
 use Rattle.dv_views.specs.Placed.{own_position, positioned}
-use Rattle.dv_views.proofs.Made.{forgotten, one_part}
+use Rattle.dv_views.proofs.Made.{forgotten}
 
 same-position : EqualKeysAreOne → (d e : Row) → HasId d → HasId e → key_order (id_key d) (id_key e) ≡ Equal → own_position d ≡ own_position e
 same-position one [] e h k equal = absurd h
@@ -45,7 +46,7 @@ module _ (one : EqualKeysAreOne) (d : Row) (h : HasId d) where
   put-own [] all = refl
   put-own (e ∷ ds) all =
       put-own-met e ds (insert_entry pos_order (positioned ds) (own_position d) d) (pos_order (own_position d) (own_position e))
-      (λ here. sym (same-position one d e h all.0 (sym (one_part _) ∙ here))) (put-own ds all.1)
+      (λ here. sym (same-position one d e h all.0 (sym (then_Equal _) ∙ here))) (put-own ds all.1)
 
   put-identified-met : (e : Row) (ds : List Row) (rest : Positioned) (o : Ordering) → HasId e → AllByRecursion HasId ds → AllByRecursion HasId (values_of rest)
       → AllByRecursion HasId (values_of (match_ordering o ((own_position d, d) ∷ (own_position e, e) ∷ positioned ds) ((own_position e, d) ∷ positioned ds) ((own_position e, e) ∷ rest)))

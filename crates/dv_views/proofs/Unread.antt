@@ -3,6 +3,7 @@ use Rattle.std.proofs.Common.{◌≡◌, ◌||◌, ◌+◌, ℕ, suc, Bool, true
 use Rattle.std.specs.Bool.{if◌then◌else◌}
 use Rattle.std.specs.List.{AllByRecursion, list_any}
 use Rattle.std.specs.Str.{bytes_eq}
+use Rattle.std.proofs.lemmas.Bool.{or_parts}
 use Rattle.dv_change.specs.declared.change.Change.{Change}
 use Rattle.dv_change.specs.declared.input.Input.TheVariants.{Left, Named}
 use Rattle.dv_pipe.specs.Stages.{Lists, is_read}
@@ -12,7 +13,7 @@ use Rattle.dv_views.specs.Flow.{Flow, Share, Told, all_together, arrivals, arriv
 use Rattle.dv_views.specs.Forms.{ViewForm, is_name_among, is_read_by, names_read}
 use Rattle.dv_views.specs.Placed.{lookups_of, list_places}
 use Rattle.dv_views.specs.Views.{inputs_from}
-use Rattle.dv_views.proofs.Right.{neither, read_among}
+use Rattle.dv_views.proofs.Right.{read_among}
 
 -- ---- nothing comes where nothing is told
 
@@ -21,7 +22,7 @@ AreUntold told names = AllByRecursion (λ name. told name ≡ None) names
 
 pub none_told : (told : Told) (names : List (List ℕ)) → list_any (λ name. is_some (told name)) names ≡ false → AreUntold told names
 none_told told [] away = tt
-none_told told (name ∷ names) away = let both = neither (is_some (told name)) (list_any (λ name. is_some (told name)) names) away in (untold (told name) both.0, none_told told names both.1)
+none_told told (name ∷ names) away = let both = or_parts (is_some (told name)) (list_any (λ name. is_some (told name)) names) away in (untold (told name) both.0, none_told told names both.1)
   where
     untold : (o : Option (List Change)) → is_some o ≡ false → o ≡ None
     untold None is = refl
@@ -52,7 +53,7 @@ told-alone namespace changes name off = ap (λ (b : Bool). if b then Some change
 
 untold-names : (namespace : List ℕ) (told : Told) (names : List (List ℕ)) → IsToldAlone namespace told → is_name_among namespace names ≡ false → AreUntold told names
 untold-names namespace told [] alone away = tt
-untold-names namespace told (name ∷ names) alone away = let both = neither (bytes_eq namespace name) (is_name_among namespace names) away in (alone name both.0, untold-names namespace told names alone both.1)
+untold-names namespace told (name ∷ names) alone away = let both = or_parts (bytes_eq namespace name) (is_name_among namespace names) away in (alone name both.0, untold-names namespace told names alone both.1)
 
 pub not_reached : (namespace : List ℕ) (stages : List Stage) (source : List ℕ) (told : Told) → IsToldAlone namespace told → is_read stages source namespace ≡ false → is_reached stages source told ≡ false
 not_reached namespace stages source told alone away = none-reached told (names_read stages source) (untold-names namespace told (names_read stages source) alone (sym (read_among stages source namespace) ∙ away))
@@ -67,7 +68,7 @@ still-alone namespace name changes told none alone other off = by (bytes_eq othe
 no-shares-of : (namespace : List ℕ) (flow : Flow) (views : List ViewForm) → IsToldAlone namespace flow.told → is_read_by views namespace ≡ false → shares_of flow views ≡ map (λ v. nothing) views
 no-shares-of namespace flow [] alone away = refl
 no-shares-of namespace flow (v ∷ views) alone away =
-    let both = neither (is_read v.stages v.source namespace) (is_read_by views namespace) away in
+    let both = or_parts (is_read v.stages v.source namespace) (is_read_by views namespace) away in
     let off = not_reached namespace v.stages v.source flow.told alone both.0 in
     let none = no_arrivals v.stages v.source flow.told off in
     let rest = no-shares-of namespace (flow_through flow v) views (still-alone namespace v.name (flow_told v.stages v.source flow) flow.told (not_told_by v.stages v.source flow off) alone) both.1 in

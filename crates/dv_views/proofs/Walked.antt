@@ -9,6 +9,7 @@ use Rattle.std.specs.declared.string.String.{String}
 use Rattle.std.proofs.lemmas.Bool.Decides.{nat_tests}
 use Rattle.std.proofs.lemmas.List.{drop_all}
 use Rattle.std.proofs.lemmas.Slice.Eq.{bytes_eq-Decides}
+use Rattle.std.proofs.lemmas.Bool.{or_parts}
 use Rattle.indexmap.specs.IndexMap.{set_value_at}
 use Rattle.dv_change.specs.declared.taking.Taken as taking
 use Rattle.dv_pipe.specs.Stages.{is_read}
@@ -25,7 +26,7 @@ use Rattle.dv_views.specs.Views.{View}
 use Rattle.dv_views.proofs.Heights.{heights_written}
 use Rattle.dv_views.proofs.Marked.{HaveFirst, all_taken, apart_written, length_views, length_written, taken_next}
 use Rattle.dv_views.proofs.OneBehind.{forms_after, founded_after, none_of, over_after}
-use Rattle.dv_views.proofs.Right.{itself, neither, or-left, or-right, read_among}
+use Rattle.dv_views.proofs.Right.{itself, or-left, or-right, read_among}
 use Rattle.dv_value.specs.Inner.ByteLaws.{bytes_eq-symmetric}
 
 -- ---- a change comes to no view that reads none of the names to which it came
@@ -37,7 +38,7 @@ AreToldAlone names told = (name : List ℕ) → is_name_among name names ≡ fal
 none-among : (v : ViewForm) (names : List (List ℕ)) → reads_any names v ≡ false → (name : List ℕ) → is_read v.stages v.source name ≡ true → is_name_among name names ≡ false
 none-among v [] away name read = refl
 none-among v (n ∷ names) away name read =
-    let both = neither (is_read v.stages v.source n) (reads_any names v) away in
+    let both = or_parts (is_read v.stages v.source n) (reads_any names v) away in
     by (bytes_eq name n) refl both.0 (none-among v names both.1 name read)
   where
     by : (b : Bool) → bytes_eq name n ≡ b → is_read v.stages v.source n ≡ false → is_name_among name names ≡ false → b || is_name_among name names ≡ false
@@ -56,7 +57,7 @@ unreached names told v alone away = none-told told (names_read v.stages v.source
 
 told-first : (namespace : List ℕ) (all : List taking.Taken) → AreToldAlone (namespace ∷ []) (known_at namespace all)
 told-first namespace all name off =
-    let both = neither (bytes_eq name namespace) false off in
+    let both = or_parts (bytes_eq name namespace) false off in
     let away : bytes_eq namespace name ≡ false = bytes_eq-symmetric namespace name ∙ both.0 in
     ap (λ (b : Bool). if b then Some all else None) away
 
@@ -69,7 +70,7 @@ told-unlisted names told name all none alone other off = by (bytes_eq other name
 
 told-listed : (names : List (List ℕ)) (told : Known) (name : List ℕ) (all : Option (List taking.Taken)) → AreToldAlone names told → AreToldAlone (name ∷ names) (with_known name all told)
 told-listed names told name all alone other off =
-    let both = neither (bytes_eq other name) (is_name_among other names) off in
+    let both = or_parts (bytes_eq other name) (is_name_among other names) off in
     ap (λ (b : Bool). if b then all else told other) both.0 ∙ alone other both.1
 
 -- ---- places of readers

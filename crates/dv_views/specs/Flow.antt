@@ -5,9 +5,8 @@ use Rattle.std.specs.Str.{bytes_eq}
 use Rattle.dv_change.specs.declared.change.Change.{Change}
 use Rattle.dv_change.specs.declared.input.Input.{Input}
 use Rattle.dv_change.specs.declared.input.Input.TheVariants.{Left, Named}
-use Rattle.dv_change.specs.Changes.{Positioned}
 use Rattle.dv_change.specs.Inputs.{left_after, others_after}
-use Rattle.dv_change.specs.Work.{pass_in, through_forms, work_in}
+use Rattle.dv_change.specs.Work.{pass_in, work_in}
 use Rattle.dv_pipe.specs.declared.stage.Stage.{Stage}
 use Rattle.dv_pipe.specs.Stages.{Lists}
 use Rattle.dv_views.specs.Changed.{with_changed}
@@ -54,10 +53,6 @@ is_reached stages source told = list_any (λ name. is_some (told name)) (names_r
 -- the inputs after a change of one of them
 abbrev pub inputs_after : Input → Change → Inputs → Inputs
 inputs_after input change t = record { left = left_after input change t.left; named = others_after input change t.named }
-
--- the rows, at positions, that the stages return for these inputs
-abbrev pub outs_made : List Stage → Inputs → Positioned
-outs_made stages t = through_forms (forms stages t.named) t.left
 
 -- the work of a change of one input: each stage counts 1 for each change that it takes in, and 1 for each that it returns
 abbrev pub work_of : List Stage → Input → Change → Inputs → ℕ

@@ -26,3 +26,4 @@ pub mod Handing
 pub mod Copies
 pub mod CopiesCode
 pub mod ResultLaws
+pub mod FormLaws

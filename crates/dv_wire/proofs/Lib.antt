@@ -1,5 +1,4 @@
 mod Sessions
-mod Asking
 mod Fronts
 mod Runs
 mod Straight

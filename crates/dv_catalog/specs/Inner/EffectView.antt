@@ -75,11 +75,6 @@ abbrev pub StandsFor : List (List Field) → memory.Changes → Type 0
 StandsFor documents (Put updates) = AreUpdatesOf documents updates.name updates.each.items
 StandsFor documents (Gone keys) = ⊤
 
--- no zero byte is in the name of a field that is changed alone
-abbrev pub HasWholeName : memory.Changes → Type 0
-HasWholeName (Put updates) = has_zero updates.name ≡ false
-HasWholeName (Gone keys) = ⊤
-
 -- the first of changes, not all of them, or none
 pub record AreFirst (some all : List Change) : Type 0 where
   pub count : ℕ

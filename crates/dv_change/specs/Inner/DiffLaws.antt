@@ -1,6 +1,6 @@
 -- A difference leads from the one list of rows to the other one.
 use Rattle.std.specs.Prelude.{◌≡◌, Bool, true, false, not, cond, List, [], ◌∷◌, ◌++◌, map, Option, Some, None, is_none, is_some, refl}
-use Rattle.std.proofs.Common.{ap, sym, ◌∙◌, ◌⊎◌, inl, inr}
+use Rattle.std.proofs.Common.{ap, sym, ◌∙◌, ◌⊎◌, inl, inr, ◌≤◌, ◌+◌, length, arith}
 use Rattle.std.specs.declared.cmp.Ordering.TheVariants.{Less, Equal}
 use Rattle.std.specs.Ordering.{is_eq}
 use Rattle.std.specs.Cmp.{Equal-is}
@@ -8,7 +8,9 @@ use Rattle.std.specs.List.{AllByRecursion, filter}
 use Rattle.std.specs.List.Sorted.{IsStrictlySortedBy}
 use Rattle.std.specs.Map.{keys_of}
 use Rattle.std.proofs.lemmas.Map.Entries.{option_filter}
+use Rattle.std.proofs.lemmas.List.{length-append, length-map}
 use Rattle.dv_value.specs.Tree.{Field, fields_of}
+use Rattle.dv_value.specs.Inner.ListLaws.{filter-length}
 use Rattle.dv_order.specs.Same.{same_fields}
 use Rattle.dv_order.specs.Inner.SameLaws.{same_documents}
 use Rattle.dv_change.specs.declared.change.Change.{Change}
@@ -90,7 +92,7 @@ at-all_go q (e ∷ es) rows are =
     ∙ ap (cond (is_some (at q es)) None) (at-gone q e.0 rows are.ascending ∙ ap (λ b. cond b None (at q rows)) (at_back e.0 q))
     ∙ gone_twice (is_eq (pos_order q e.0)) e.1 (at q es) (at q rows)
 
-come_twice : {A : Type 0} (b : Bool) (v : A) (s r : Option A) → (b ≡ true → s ≡ None) → or_else s (cond b (Some v) r) ≡ or_else (cond b (Some v) s) r
+pub come_twice : {A : Type 0} (b : Bool) (v : A) (s r : Option A) → (b ≡ true → s ≡ None) → or_else s (cond b (Some v) r) ≡ or_else (cond b (Some v) s) r
 come_twice true v s r none = ap (λ t. or_else t (Some v)) (none refl)
 come_twice false v s r none = refl
 
@@ -230,3 +232,14 @@ at-alone q p None = by (is_eq (pos_order q p))
     by true = refl
     by false = refl
 at-alone q p (Some v) = refl
+
+-- ---- how many changes there are
+
+pub gones-length : (old new : Positioned) → length (gones old new) ≤ length old
+gones-length old new = omega (arith, length-map (filter (λ e. is_none (at e.0 new)) old) (λ (e : PosTree × List Field). Gone e.0), filter-length (λ e. is_none (at e.0 new)) old)
+
+pub puts-length : (old new : Positioned) → length (puts old new) ≤ length new
+puts-length old new = omega (arith, length-map (filter (λ e. not (stands_as (at e.0 old) e.1)) new) (λ (e : PosTree × List Field). Put e.0 e.1), filter-length (λ e. not (stands_as (at e.0 old) e.1)) new)
+
+pub diff-length : (old new : Positioned) → length (diff old new) ≤ length old + length new
+diff-length old new = omega (arith, length-append (gones old new) (puts old new), gones-length old new, puts-length old new)

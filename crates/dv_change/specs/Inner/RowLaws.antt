@@ -3,7 +3,7 @@ use Rattle.std.specs.Prelude.{◌≡◌, Bool, true, false, cond, List, [], ◌�
 use Rattle.std.proofs.Common.{ap, sym, ◌∙◌}
 use Rattle.std.specs.declared.cmp.Ordering.{Ordering}
 use Rattle.std.specs.declared.cmp.Ordering.TheVariants.{Less, Equal, Greater}
-use Rattle.std.specs.Ordering.{is_eq, match_ordering, ordering_reverse, ordering_then}
+use Rattle.std.specs.Ordering.{is_eq, match_ordering, ordering_reverse}
 use Rattle.std.specs.BTreeMap.{is_at}
 use Rattle.std.specs.Cmp.{Equal-is, alike_right, eq_by_cmp_equiv, tied_itself}
 use Rattle.std.specs.FinMap.{nat_cmp-IsAntisymmetric}
@@ -14,6 +14,7 @@ use Rattle.std.proofs.lemmas.Map.{lookup-none, lookup-remove_entry}
 use Rattle.std.proofs.lemmas.Map.Entries.{lookup_head, lookup_tail, none_past_head, none_below_head}
 use Rattle.std.proofs.lemmas.Map.Keys.{IsDistinct-from_sorted}
 use Rattle.dv_order.specs.Inner.OwnKeys.{own_keys_are_one}
+use Rattle.dv_order.specs.Inner.SameOrder.{both_Equal}
 use Rattle.dv_change.specs.declared.position.Part.{Part}
 use Rattle.dv_change.specs.declared.position.Part.TheVariants.{Up, Down, At}
 use Rattle.dv_change.specs.Positions.{IsExact, IsExactPart, PosTree, part_order, pos_order}
@@ -22,11 +23,6 @@ use Rattle.dv_change.specs.Inner.Changes.{IsPositioned}
 use Rattle.dv_change.specs.Inner.Ordered.{found_at, gone, put}
 
 -- ---- exact positions
-
-pub both_Equal : (a b : Ordering) → ordering_then a b ≡ Equal → (a ≡ Equal) × (b ≡ Equal)
-both_Equal Less b e = cc
-both_Equal Equal b e = (refl, e)
-both_Equal Greater b e = cc
 
 part_exact : (a b : Part) → IsExactPart a → IsExactPart b → part_order a b ≡ Equal → a ≡ b
 part_exact (Up k) (Up l) x y e = ap Up (own_keys_are_one k l x y e)

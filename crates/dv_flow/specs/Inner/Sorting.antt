@@ -8,6 +8,7 @@ use Rattle.std.specs.List.{AllByRecursion, best_of, flat_map}
 use Rattle.dv_value.specs.Tree.{Field, Tree, array, list_of_elements, null}
 use Rattle.dv_order.specs.Key.{KeyTree, key_at}
 use Rattle.dv_order.specs.OwnKeys.{IsOwn}
+use Rattle.dv_order.specs.Inner.SameOrder.{both_Equal}
 use Rattle.dv_candidates.specs.Candidates.{Candidate, whole}
 use Rattle.dv_path.specs.declared.direction.Direction.{Direction}
 use Rattle.dv_path.specs.declared.direction.Direction.TheVariants.{Ascending, Descending}
@@ -17,7 +18,6 @@ use Rattle.dv_path.specs.SortSpec as sorts
 use Rattle.dv_change.specs.Changes.{Positioned, at, in_row_order}
 use Rattle.dv_change.specs.Inner.Changes.{HaveOneLength, IsPositioned, alone}
 use Rattle.dv_change.specs.Positions.{IsExact, IsExactPart, PosTree, part_order, pos_order}
-use Rattle.dv_change.specs.Inner.RowLaws.{both_Equal}
 use Rattle.dv_flow.specs.Inner.Gathered.{all-in_order, all-made, positioned-gathered, single-gathered}
 use Rattle.dv_flow.specs.Placed.{part_at, sort_place, sorted_at}
 

@@ -13,9 +13,9 @@ use Rattle.dv_change.specs.declared.position.Part.TheVariants.{At}
 use Rattle.dv_change.specs.Changes.{Positioned, at, in_row_order}
 use Rattle.dv_change.specs.Inner.Changes.{HaveOneLength, IsPositioned, alone}
 use Rattle.dv_change.specs.Positions.{IsExact, PosTree, part_order, pos_order}
-use Rattle.dv_change.specs.Inner.RowLaws.{both_Equal}
 use Rattle.dv_flow.specs.Inner.Gathered.{all-in_order, all-made, positioned-gathered, single-gathered}
 use Rattle.dv_flow.specs.Placed.{rows_numbered, unwound_at}
+use Rattle.dv_order.specs.Inner.SameOrder.{both_Equal}
 
 -- a position without its last part
 abbrev pub but_last : PosTree → PosTree

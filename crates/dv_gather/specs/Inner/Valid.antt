@@ -23,7 +23,8 @@ use Rattle.dv_row.specs.ExpressionParsing.{expression_in}
 use Rattle.dv_row.specs.Expressions.{Expression, value_of, with_field_behind}
 use Rattle.dv_value.specs.Results.{◌>>=◌, each}
 use Rattle.dv_row.specs.Row.{Row}
-use Rattle.dv_row.specs.Inner.Valid.{AreValues, IsValid, AreValid, IsSound, listed-fields, valid-fields, valid-elements, either, bound, unless, any-ok, each-sound, value_under-valid, with_field-valid, with_value_under-valid, without-valid, value_of-valid, expression_in-sound}
+use Rattle.dv_value.specs.Inner.ValidLaws.{AreValues, valid-elements, either, fits-32, fits-64}
+use Rattle.dv_row.specs.Inner.Valid.{IsValid, AreValid, IsSound, listed-fields, valid-fields, bound, unless, any-ok, each-sound, value_under-valid, with_field-valid, with_value_under-valid, without-valid, value_of-valid, expression_in-sound}
 use Rattle.dv_gather.specs.declared.accumulator.Accumulator.{Accumulator}
 use Rattle.dv_gather.specs.declared.accumulator.Accumulator.TheVariants.{Sum, Min, Max, Push}
 use Rattle.dv_gather.specs.declared.extreme.Extreme.{Extreme}
@@ -49,14 +50,6 @@ abbrev pub IsSoundLookup : Lookup → Type 0
 IsSoundLookup l = IsUtf8 l.target
 
 -- ---- sums
-
-fits-32 : (n : ℤ) → fits_32 n ≡ true → FitsSigned w32 n
-fits-32 (pos n) e = record { sfits = grind (arith, nat_tests) }
-fits-32 (negsuc n) e = record { sfits = grind (arith, nat_tests) }
-
-fits-64 : (n : ℤ) → fits_64 n ≡ true → FitsSigned w64 n
-fits-64 (pos n) e = record { sfits = grind (arith, nat_tests) }
-fits-64 (negsuc n) e = record { sfits = grind (arith, nat_tests) }
 
 in-front : (b : ℕ) (bs : List ℕ) → b < 128 → IsAscii bs → IsAscii (b ∷ bs)
 in-front b bs low ascii zero = low

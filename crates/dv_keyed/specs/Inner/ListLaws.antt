@@ -1,7 +1,6 @@
 -- Lists by tests of their items, lists of lent items, and paths.
-use Rattle.std.proofs.Common.{Bor, filter, ◌≡◌, ℕ, zero, suc, ◌+◌, ◌<◌, List, [], ◌∷◌, length, map, take, drop, get_or, refl, ap, sym, ◌∙◌, arith, Bool, true, false, cond, ◌&&◌, ◌||◌, add-one, Some}
+use Rattle.std.proofs.Common.{Bor, filter, ◌≡◌, ℕ, zero, suc, ◌+◌, ◌<◌, List, [], ◌∷◌, length, map, take, get_or, refl, ap, sym, ◌∙◌, arith, Bool, true, false, cond, ◌&&◌, ◌||◌, add-one, Some}
 use Rattle.std.proofs.Math.Bool.{or-false, or_assoc}
-use Rattle.std.proofs.Math.Seq.{drop-cons}
 use Rattle.std.proofs.lemmas.Bool.{and_parts}
 use Rattle.std.proofs.lemmas.List.{length-map}
 use Rattle.std.proofs.lemmas.Slice.Eq.{bytes_eq-Decides}
@@ -36,10 +35,6 @@ any-kept r q (x ∷ xs) = at (r x) (any-kept r q xs)
     at : (b : Bool) → list_any q (filter r xs) ≡ list_any (λ y. r y && q y) xs → list_any q (cond b (x ∷ filter r xs) (filter r xs)) ≡ (b && q x) || list_any (λ y. r y && q y) xs
     at true e = ap (λ b. q x || b) e
     at false e = e
-
--- what is left of a list begins with its next one
-pub drop-step : {X : Type 0} (xs : List X) (i : ℕ) (x : X) → i < length xs → x ≡ get_or xs i x → drop i xs ≡ x ∷ drop (i + 1) xs
-drop-step xs i x within is = rw add-one (drop-cons xs i x within ∙ ap (λ y. y ∷ drop (suc i) xs) (sym is))
 
 -- what is kept of lent items is kept of what they are
 pub map-kept : {X : Type 0} (p : X → Bool) (xs : List (Bor X)) → map (λ (x : Bor X). x.now) (filter (λ (x : Bor X). p x.now) xs) ≡ filter p (map (λ (x : Bor X). x.now) xs)

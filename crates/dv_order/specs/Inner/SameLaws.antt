@@ -5,17 +5,10 @@ use Rattle.std.specs.Ordering.{int_eq}
 use Rattle.std.specs.Str.{bytes_eq}
 use Rattle.std.proofs.lemmas.Bool.Decides.{Decides-int_eq, nat_tests}
 use Rattle.std.proofs.lemmas.Slice.Eq.{bytes_eq-Decides}
+use Rattle.std.proofs.lemmas.Bool.{and_parts}
 use Rattle.dv_value.specs.Tree.{Tree, int32, int64, string, document, array, boolean, binary, object_id, date, null, timestamp, min_key, max_key, Fields, no_fields, field, Elements, no_elements, element, Field, fields_of, list_of_fields}
 use Rattle.dv_value.specs.Inner.TreeLaws.{fields_again}
 use Rattle.dv_order.specs.Same.{agree, is_same, same_fields, same_elements}
-
-pub and-left : (b c : Bool) → (b && c) ≡ true → b ≡ true
-and-left true c e = refl
-and-left false c e = cc
-
-pub and-right : (b c : Bool) → (b && c) ≡ true → c ≡ true
-and-right true c e = e
-and-right false c e = cc
 
 agreed : (a b : Bool) → agree a b ≡ true → a ≡ b
 agreed true true e = refl
@@ -37,7 +30,7 @@ mutual
   same-is (document fs) (document gs) e = ap document (same-fields fs gs e)
   same-is (array vs) (array ws) e = ap array (same-elements vs ws e)
   same-is (boolean a) (boolean b) e = ap boolean (agreed a b e)
-  same-is (binary s bs) (binary t cs) e = ap₂ binary (equal s t (and-left _ _ e)) (bytes bs cs (and-right _ _ e))
+  same-is (binary s bs) (binary t cs) e = ap₂ binary (equal s t (and_parts _ _ e).0) (bytes bs cs (and_parts _ _ e).1)
   same-is (object_id a) (object_id b) e = ap object_id (bytes a b e)
   same-is (date m) (date n) e = ap date ((Decides-int_eq m n).0 e)
   same-is null null e = refl
@@ -49,13 +42,13 @@ mutual
   pub same-fields : (fs gs : Fields) → same_fields fs gs ≡ true → fs ≡ gs
   same-fields no_fields no_fields e = refl
   same-fields (field a v fs) (field b w gs) e =
-      let front = and-left (bytes_eq a b && is_same v w) (same_fields fs gs) e in
-      λ i. field (bytes a b (and-left _ _ front) i) (same-is v w (and-right _ _ front) i) (same-fields fs gs (and-right _ _ e) i)
+      let front = (and_parts (bytes_eq a b && is_same v w) (same_fields fs gs) e).0 in
+      λ i. field (bytes a b (and_parts _ _ front).0 i) (same-is v w (and_parts _ _ front).1 i) (same-fields fs gs (and_parts _ _ e).1 i)
   same-fields fs gs e = cc
 
   same-elements : (vs ws : Elements) → same_elements vs ws ≡ true → vs ≡ ws
   same-elements no_elements no_elements e = refl
-  same-elements (element v vs) (element w ws) e = ap₂ element (same-is v w (and-left _ _ e)) (same-elements vs ws (and-right _ _ e))
+  same-elements (element v vs) (element w ws) e = ap₂ element (same-is v w (and_parts _ _ e).0) (same-elements vs ws (and_parts _ _ e).1)
   same-elements vs ws e = cc
 
 same-int : (n : ℤ) → int_eq n n ≡ true

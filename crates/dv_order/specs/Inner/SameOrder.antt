@@ -50,7 +50,7 @@ mutual
   elements_order_of_canon (element v vs) no_elements = refl
 
 -- what is equal in two steps is so in each
-both_Equal : (a b : Ordering) → ordering_then a b ≡ Equal → (a ≡ Equal) × (b ≡ Equal)
+pub both_Equal : (a b : Ordering) → ordering_then a b ≡ Equal → (a ≡ Equal) × (b ≡ Equal)
 both_Equal Less b e = cc
 both_Equal Equal b e = (refl, e)
 both_Equal Greater b e = cc

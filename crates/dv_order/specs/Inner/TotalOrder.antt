@@ -70,7 +70,7 @@ order_to_total (suc n) =
     (then_total (on_total truth bool_cmp_total)
     (then_total (on_total pairs (lists_total (pair_cmp_total (order_to_total n)))) (on_total items (lists_total (order_to_total n))))))))
 
-then_Equal : (r : Ordering) → ordering_then r Equal ≡ r
+pub then_Equal : (r : Ordering) → ordering_then r Equal ≡ r
 then_Equal Less = refl
 then_Equal Equal = refl
 then_Equal Greater = refl

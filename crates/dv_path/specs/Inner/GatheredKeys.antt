@@ -1,12 +1,11 @@
 -- What a fold over candidates gathers that puts keys into a set: what loops and folds of other crates go by too.
-use Rattle.std.proofs.Common.{◌≡◌, ◌∙◌, ◌||◌, refl, ap, sym, Bool, List, [], ◌∷◌, Result, Ok}
+use Rattle.std.proofs.Common.{◌≡◌, ◌∙◌, ◌||◌, ap, sym, Bool, List, [], ◌∷◌, Result, Ok}
 use Rattle.std.proofs.Math.Bool.{or-false, or_assoc}
-use Rattle.std.proofs.lemmas.List.Folds.{list_any-append}
 use Rattle.std.specs.BTreeSet.{BTreeSet, contains}
 use Rattle.std.specs.List.{list_any, flat_map, FoldsTo}
 use Rattle.std.specs.Ordering.{is_eq}
 use Rattle.dv_value.specs.Tree.{Tree}
-use Rattle.dv_value.specs.Inner.ListLaws.{same-truth}
+use Rattle.dv_value.specs.Inner.ListLaws.{same-truth, any-flat_map}
 use Rattle.dv_order.specs.Key.{KeyTree, key_order}
 use Rattle.dv_candidates.specs.Candidates.{Candidate}
 use Rattle.dv_candidates.specs.Inner.Fold.{Takes, FoldsOver, PassesOne}
@@ -15,11 +14,6 @@ use Rattle.dv_path.specs.LeafKeys.{is_some_key}
 -- a set of keys with those of these values
 abbrev pub AddsKeysOf : List Tree → BTreeSet KeyTree → BTreeSet KeyTree → Type 0
 AddsKeysOf vs old new = (k : KeyTree) → contains key_order new k ≡ (contains key_order old k || is_some_key k vs)
-
--- a test of some item behind each of a list
-pub any-flat_map : {X Y : Type 0} (test : Y → Bool) (f : X → List Y) (xs : List X) → list_any test (flat_map f xs) ≡ list_any (λ x. list_any test (f x)) xs
-any-flat_map test f [] = refl
-any-flat_map test f (x ∷ xs) = list_any-append test (f x) (flat_map f xs) ∙ ap (λ b. list_any test (f x) || b) (any-flat_map test f xs)
 
 module _ {X E Y : Type 0} (seen : X → Candidate) (call : BTreeSet KeyTree → X → Result (BTreeSet KeyTree) E → Type 0) (test : KeyTree → Y → Bool) (given : Candidate → List Y)
     (steps : (t : BTreeSet KeyTree) (x : X) (u : BTreeSet KeyTree) → call t x (Ok u) → (k : KeyTree) → contains key_order u k ≡ contains key_order t k || list_any (test k) (given (seen x))) where

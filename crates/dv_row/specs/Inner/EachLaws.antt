@@ -1,28 +1,15 @@
 -- Parts that are parsed one after the other: what loops go by.
-use Rattle.std.proofs.Common.{◌≡◌, ◌∙◌, ap, sym, refl, List, [], ◌∷◌, ◌++◌, ℕ, zero, suc, ◌+◌, ◌<◌, ◌≤◌, add-one, drop, map, length, Some, slice_get, get_or, arith, append_assoc, append-nil, Result, Ok, Err, ◌⊎◌, inl, inr}
-use Rattle.std.proofs.lemmas.Option.{slice_get_read}
+use Rattle.std.proofs.Common.{◌≡◌, ◌∙◌, ap, sym, refl, List, [], ◌∷◌, ◌++◌, ℕ, zero, suc, ◌+◌, ◌<◌, ◌≤◌, drop, map, length, get_or, arith, append_assoc, append-nil, Result, Ok, Err, ◌⊎◌, inl, inr}
 use Rattle.dv_row.specs.declared.fault.PipelineFault.{PipelineFault}
 use Rattle.dv_row.specs.declared.fault.PipelineFault.TheVariants.{NoMemory}
 use Rattle.dv_value.specs.Results.{◌>>=◌, Gives, each}
-
-pub drop-here : {X : Type 0} (xs : List X) (i : ℕ) (x : X) → slice_get xs i ≡ Some x → drop i xs ≡ x ∷ drop (suc i) xs
-drop-here [] i x e = absurd cc
-drop-here (z ∷ xs) zero x e = let same : z ≡ x = cc in ap (λ y. y ∷ xs) same
-drop-here (z ∷ xs) (suc i) x e = drop-here xs i x e
-
--- the element that a loop reads
-pub drop-read : {X : Type 0} (xs : List X) (i : ℕ) (x : X) → i < length xs → x ≡ get_or xs i x → drop i xs ≡ x ∷ drop (i + 1) xs
-drop-read xs i x within is = drop-here xs i x (slice_get_read xs (length xs) i x refl within is) ∙ ap (λ n. x ∷ drop n xs) (sym (add-one i))
+use Rattle.dv_value.specs.Inner.ListLaws.{drop-read}
 
 pub drop-past : {X : Type 0} (xs : List X) (i : ℕ) → length xs ≤ i → drop i xs ≡ []
 drop-past [] zero h = refl
 drop-past [] (suc i) h = refl
 drop-past (x ∷ xs) zero h = absurd (omega arith)
 drop-past (x ∷ xs) (suc i) h = drop-past xs i (omega arith)
-
--- the element that a look-up gives
-pub drop-found : {X : Type 0} (xs : List X) (i : ℕ) (x : X) → Some x ≡ slice_get xs i → drop i xs ≡ x ∷ drop (i + 1) xs
-drop-found xs i x e = drop-here xs i x (sym e) ∙ ap (λ n. x ∷ drop n xs) (sym (add-one i))
 
 abbrev pub after_each : {Y : Type 0} → List Y → Result (List Y) PipelineFault → Result (List Y) PipelineFault
 after_each ys (Ok rest) = Ok (ys ++ rest)

@@ -5,9 +5,10 @@ use Rattle.std.specs.List.{AllByRecursion, filter_map}
 use Rattle.std.specs.Option.{IfSome, option_and_then}
 use Rattle.std.specs.Result.{IfOk}
 use Rattle.std.specs.Str.{IsUtf8, bytes_eq}
+use Rattle.std.proofs.lemmas.Bool.{or_from, or_parts}
 use Rattle.dv_value.specs.Names.{begins_with_dollar, has_name, has_zero, value_under, with_value_under, without}
-use Rattle.dv_value.specs.Spelling.{IsValue, AreFields, AreElements}
-use Rattle.dv_value.specs.Tree.{Tree, string, document, array, Fields, no_fields, field, Field, fields_of, list_of_fields, Elements, no_elements, element, elements_of, list_of_elements}
+use Rattle.dv_value.specs.Spelling.{IsValue, AreFields}
+use Rattle.dv_value.specs.Tree.{Tree, string, document, array, Fields, no_fields, field, Field, fields_of, list_of_fields, list_of_elements}
 use Rattle.dv_candidates.specs.Candidates.{Candidate}
 use Rattle.dv_path.specs.Expression as paths
 use Rattle.dv_row.specs.declared.fault.PipelineFault.{PipelineFault}
@@ -20,11 +21,10 @@ use Rattle.dv_row.specs.ExpressionParsing.{switch_in, literal_in, text_expressio
 use Rattle.dv_row.specs.Parsing.{path_in}
 use Rattle.dv_value.specs.Results.{◌>>=◌, each}
 use Rattle.dv_value.specs.Inner.TreeLaws.{fields_again}
+use Rattle.dv_value.specs.Inner.NameLaws.{has_name-without}
+use Rattle.dv_value.specs.Inner.ValidLaws.{AreValues, either, listed-elements, valid-elements}
 use Rattle.dv_value.specs.Inner.ByteLaws.{bytes_eq-symmetric}
 use Rattle.dv_row.specs.Row.{Row}
-
-abbrev pub AreValues : List Tree → Type 0
-AreValues vs = AllByRecursion IsValue vs
 
 -- `AreFields` of a list
 abbrev pub IsValid : Row → Type 0
@@ -62,20 +62,7 @@ pub valid-fields : (fs : List Field) → IsValid fs → AreFields (fields_of fs)
 valid-fields [] valid = tt
 valid-fields (f ∷ fs) valid = (valid.0, valid.1, subst (λ (gs : List Field). has_name f.0 gs ≡ false) (sym (fields_again fs)) valid.2, valid.3, valid-fields fs valid.4)
 
-pub listed-elements : (vs : Elements) → AreElements vs → AreValues (list_of_elements vs)
-listed-elements no_elements valid = tt
-listed-elements (element v vs) valid = (valid.0, listed-elements vs valid.1)
-
-pub valid-elements : (vs : List Tree) → AreValues vs → AreElements (elements_of vs)
-valid-elements [] valid = tt
-valid-elements (v ∷ vs) valid = (valid.0, valid-elements vs valid.1)
-
 -- ---- choices and results
-
--- what holds of both holds of either
-pub either : {X : Type 0} (P : X → Type 0) (b : Bool) (x y : X) → P x → P y → P (if b then x else y)
-either P true x y first second = first
-either P false x y first second = second
 
 pub bound : {X Y : Type 0} (P : X → Type 0) (Q : Y → Type 0) (f : X → Result Y PipelineFault) → ((x : X) → P x → IfOk (f x) Q) → (r : Result X PipelineFault) → IfOk r P → IfOk (r >>= f) Q
 bound P Q f sound (Ok x) holds = sound x holds
@@ -101,30 +88,18 @@ each-sound {X} {Y} P Q f sound (x ∷ xs) all =
 
 -- ---- fields
 
-pub first-false : (a b : Bool) → a || b ≡ false → a ≡ false
-first-false true b e = cc
-first-false false b e = refl
-
-pub second-false : (a b : Bool) → a || b ≡ false → b ≡ false
-second-false true b e = absurd (let same : true ≡ false = e in cc)
-second-false false b e = e
-
-pub neither : (a b : Bool) → a ≡ false → b ≡ false → a || b ≡ false
-neither true b e f = e
-neither false b e f = f
-
 pub value_under-valid : (name : List ℕ) (fs : List Field) → IsValid fs → IfSome (value_under name fs) IsValue
 value_under-valid name [] valid = tt
 value_under-valid name (f ∷ fs) valid = either (λ c. IfSome c IsValue) (bytes_eq name f.0) (Some f.1) (value_under name fs) valid.3 (value_under-valid name fs valid.4)
 
 has_name-more : (other name : List ℕ) (v : Tree) (fs : List Field) → has_name other fs ≡ false → bytes_eq other name ≡ false → has_name other (fs ++ (name, v) ∷ []) ≡ false
-has_name-more other name v [] absent apart = neither (bytes_eq other name) false apart refl
-has_name-more other name v (f ∷ fs) absent apart = neither (bytes_eq other f.0) _ (first-false (bytes_eq other f.0) _ absent) (has_name-more other name v fs (second-false (bytes_eq other f.0) _ absent) apart)
+has_name-more other name v [] absent apart = or_from (bytes_eq other name) false apart refl
+has_name-more other name v (f ∷ fs) absent apart = or_from (bytes_eq other f.0) _ (or_parts (bytes_eq other f.0) _ absent).0 (has_name-more other name v fs (or_parts (bytes_eq other f.0) _ absent).1 apart)
 
 pub more-valid : (name : List ℕ) (v : Tree) (fs : List Field) → IsUtf8 name → has_zero name ≡ false → IsValue v → IsValid fs → has_name name fs ≡ false → IsValid (fs ++ (name, v) ∷ [])
 more-valid name v [] text whole value valid absent = (text, whole, refl, value, tt)
 more-valid name v (f ∷ fs) text whole value valid absent =
-    (valid.0, valid.1, has_name-more f.0 name v fs valid.2 (bytes_eq-symmetric f.0 name ∙ first-false (bytes_eq name f.0) _ absent), valid.3, more-valid name v fs text whole value valid.4 (second-false (bytes_eq name f.0) _ absent))
+    (valid.0, valid.1, has_name-more f.0 name v fs valid.2 (bytes_eq-symmetric f.0 name ∙ (or_parts (bytes_eq name f.0) _ absent).0), valid.3, more-valid name v fs text whole value valid.4 (or_parts (bytes_eq name f.0) _ absent).1)
 
 pub with_field-valid : (name : List ℕ) (c : Candidate) (fs : List Field) → IsUtf8 name → IfSome c IsValue → IsValid fs → IsValid (with_field_behind name c fs)
 with_field-valid name None fs text value valid = valid
@@ -132,27 +107,20 @@ with_field-valid name (Some v) fs text value valid = go (has_zero name || has_na
   where
     go : (b : Bool) → has_zero name || has_name name fs ≡ b → IsValid (if b then fs else fs ++ (name, v) ∷ [])
     go true e = valid
-    go false e = more-valid name v fs text (first-false (has_zero name) _ e) value valid (second-false (has_zero name) _ e)
+    go false e = more-valid name v fs text (or_parts (has_zero name) _ e).0 value valid (or_parts (has_zero name) _ e).1
 
 has_name-with : (other name : List ℕ) (v : Tree) (fs : List Field) → has_name other fs ≡ false → has_name other (with_value_under name v fs) ≡ false
 has_name-with other name v [] absent = refl
 has_name-with other name v (f ∷ fs) absent =
     let Absent : List Field → Type 0 = λ gs. has_name other gs ≡ false in
     either Absent (bytes_eq name f.0) ((f.0, v) ∷ fs) (f ∷ with_value_under name v fs) absent
-    (neither (bytes_eq other f.0) _ (first-false (bytes_eq other f.0) _ absent) (has_name-with other name v fs (second-false (bytes_eq other f.0) _ absent)))
+    (or_from (bytes_eq other f.0) _ (or_parts (bytes_eq other f.0) _ absent).0 (has_name-with other name v fs (or_parts (bytes_eq other f.0) _ absent).1))
 
 pub with_value_under-valid : (name : List ℕ) (v : Tree) (fs : List Field) → IsValue v → IsValid fs → IsValid (with_value_under name v fs)
 with_value_under-valid name v [] value valid = tt
 with_value_under-valid name v (f ∷ fs) value valid =
     either IsValid (bytes_eq name f.0) ((f.0, v) ∷ fs) (f ∷ with_value_under name v fs) (valid.0, valid.1, valid.2, value, valid.4)
     (valid.0, valid.1, has_name-with f.0 name v fs valid.2, valid.3, with_value_under-valid name v fs value valid.4)
-
-has_name-without : (other name : List ℕ) (fs : List Field) → has_name other fs ≡ false → has_name other (without name fs) ≡ false
-has_name-without other name [] absent = refl
-has_name-without other name (f ∷ fs) absent =
-    let Absent : List Field → Type 0 = λ gs. has_name other gs ≡ false in
-    either Absent (bytes_eq name f.0) fs (f ∷ without name fs) (second-false (bytes_eq other f.0) _ absent)
-    (neither (bytes_eq other f.0) _ (first-false (bytes_eq other f.0) _ absent) (has_name-without other name fs (second-false (bytes_eq other f.0) _ absent)))
 
 pub without-valid : (name : List ℕ) (fs : List Field) → IsValid fs → IsValid (without name fs)
 without-valid name [] valid = tt

@@ -4,6 +4,7 @@ use Rattle.std.specs.List.{AllByRecursion, list_any}
 use Rattle.std.specs.Option.{IfSome}
 use Rattle.std.specs.Result.{IfOk}
 use Rattle.std.specs.Str.{IsUtf8, bytes_eq}
+use Rattle.std.proofs.lemmas.Bool.{or_from, or_parts}
 use Rattle.dv_value.specs.Names.{has_name, value_under}
 use Rattle.dv_value.specs.Spelling.{IsValue, AreFields, AreElements}
 use Rattle.dv_value.specs.Tree.{Tree, document, array, null, Fields, no_fields, field, Field, fields_of, list_of_fields, Elements, no_elements, element, list_of_elements}
@@ -21,7 +22,8 @@ use Rattle.dv_row.specs.ProjectParsing.{AskedMembers, is_id_path, is_below_id, c
 use Rattle.dv_row.specs.Projecting.{paths_behind, ends, if_it, with_left, with_element_left, left_at, left_inside, fields_left, elements_left, row_left, projected}
 use Rattle.dv_row.specs.Row.{Row}
 use Rattle.dv_row.specs.Unwinding.{reached, in_document, set_under, changed_under, set_through, preserved, rows_of_elements, unwound_rows, unwound}
-use Rattle.dv_row.specs.Inner.Valid.{AreValues, IsValid, AreValid, IsSound, AreSound, IsSoundProject, IsSoundField, listed-fields, valid-fields, listed-elements, either, bound, unless, value_under-valid, with_value_under-valid, without-valid, with_computed-valid, expression_in-sound, neither, first-false, second-false}
+use Rattle.dv_value.specs.Inner.ValidLaws.{AreValues, listed-elements, either}
+use Rattle.dv_row.specs.Inner.Valid.{IsValid, AreValid, IsSound, AreSound, IsSoundProject, IsSoundField, listed-fields, valid-fields, bound, unless, value_under-valid, with_value_under-valid, without-valid, with_computed-valid, expression_in-sound}
 
 -- ---- the form of a $project
 
@@ -87,13 +89,13 @@ left_at-valid keeps (path ∷ paths) v inside value sound = either (λ c. IfSome
 
 has_name-left : (other name : List ℕ) (c : Candidate) (fs : Fields) (absent : bytes_eq other name ≡ false) → has_name other (list_of_fields fs) ≡ false → has_name other (list_of_fields (with_left name c fs)) ≡ false
 has_name-left other name None fs absent rest = rest
-has_name-left other name (Some v) fs absent rest = neither (bytes_eq other name) _ absent rest
+has_name-left other name (Some v) fs absent rest = or_from (bytes_eq other name) _ absent rest
 
 has_name-fields_left : (other : List ℕ) (keeps : Bool) (paths : List (List (List ℕ))) (fs : Fields) → has_name other (list_of_fields fs) ≡ false → has_name other (list_of_fields (fields_left keeps paths fs)) ≡ false
 unfolding fields_left
 has_name-fields_left other keeps paths no_fields absent = refl
 has_name-fields_left other keeps paths (field name v fs) absent =
-    has_name-left other name (left_at keeps (paths_behind name paths) v (left_inside keeps (paths_behind name paths) v)) (fields_left keeps paths fs) (first-false (bytes_eq other name) _ absent) (has_name-fields_left other keeps paths fs (second-false (bytes_eq other name) _ absent))
+    has_name-left other name (left_at keeps (paths_behind name paths) v (left_inside keeps (paths_behind name paths) v)) (fields_left keeps paths fs) (or_parts (bytes_eq other name) _ absent).0 (has_name-fields_left other keeps paths fs (or_parts (bytes_eq other name) _ absent).1)
 
 with_left-valid : (name : List ℕ) (c : Candidate) (fs : Fields) → IfSome c IsValue → ((v : Tree) → IsValue v → AreFields (field name v fs)) → AreFields fs → AreFields (with_left name c fs)
 with_left-valid name None fs value more rest = rest

@@ -1,8 +1,9 @@
 -- Lists: the items of a loop, and tests of items.
-use Rattle.std.proofs.Common.{◌≡◌, ◌∙◌, ℕ, zero, suc, ◌+◌, ◌≤◌, ◌<◌, ◌++◌, ◌||◌, Bool, true, false, cond, List, [], ◌∷◌, length, map, take, drop, drop_of_length-le, get_or, Option, Some, None, refl, ap, sym, add-one, arith}
-use Rattle.std.specs.List.{list_any, slice_get}
+use Rattle.std.proofs.Common.{◌≡◌, ◌∙◌, ℕ, zero, suc, ◌+◌, ◌≤◌, ◌<◌, ◌++◌, ◌||◌, Bool, true, false, cond, List, [], ◌∷◌, length, map, take, drop, drop_of_length-le, get_or, Option, Some, None, IfSome, filter, refl, ap, sym, subst, add-one, arith}
+use Rattle.std.specs.List.{flat_map, list_any, slice_get}
 use Rattle.std.specs.Option.{option_map}
 use Rattle.std.proofs.lemmas.List.{length-map, take_more}
+use Rattle.std.proofs.lemmas.List.Folds.{list_any-append}
 use Rattle.std.proofs.lemmas.Option.{slice_get_read, slice_get-map}
 
 -- the item at a place, as what is seen of it
@@ -16,6 +17,15 @@ pub drop_item : {X : Type 0} (xs : List X) (place : ℕ) (x : X) → slice_get x
 drop_item [] place x e = absurd cc
 drop_item (y ∷ ys) zero x e = cc
 drop_item (y ∷ ys) (suc place) x e = rw (drop_item ys place x e, add-one, add-one) refl
+
+pub drop-here : {X : Type 0} (xs : List X) (place : ℕ) (x : X) → slice_get xs place ≡ Some x → drop place xs ≡ x ∷ drop (suc place) xs
+drop-here xs place x e = drop_item xs place x e ∙ ap (λ n. x ∷ drop n xs) (add-one place)
+
+pub drop-found : {X : Type 0} (xs : List X) (place : ℕ) (x : X) → Some x ≡ slice_get xs place → drop place xs ≡ x ∷ drop (place + 1) xs
+drop-found xs place x e = drop_item xs place x (sym e)
+
+pub drop-read : {X : Type 0} (xs : List X) (place : ℕ) (x : X) → place < length xs → x ≡ get_or xs place x → drop place xs ≡ x ∷ drop (place + 1) xs
+drop-read xs place x within is = drop_item xs place x (slice_get_read xs (length xs) place x refl within is)
 
 -- past the last item nothing is left
 pub drop_seen : {X Y : Type 0} (view : X → Y) (xs : List X) (ys : List Y) (place : ℕ) → map view xs ≡ ys → length xs ≤ place → drop place ys ≡ []
@@ -46,7 +56,27 @@ pub none-of : {X Y : Type 0} (f : X → Y) (r : Option X) (o : Option Y) → opt
 none-of f None o e h = sym e
 none-of f (Some x) o e h = absurd (h x refl)
 
+pub some-is : {X : Type 0} (x : X) (P : X → Type 0) (o : Option X) → o ≡ Some x → IfSome o P → P x
+some-is x P None e h = absurd cc
+some-is x P (Some y) e h = let same : y ≡ x = cc in subst P same h
+
 -- ---- tests
+
+pub filter-length : {X : Type 0} (p : X → Bool) (xs : List X) → length (filter p xs) ≤ length xs
+filter-length p [] = omega arith
+filter-length p (x ∷ xs) = at (p x) (filter-length p xs)
+  where
+    at : (b : Bool) → length (filter p xs) ≤ length xs → length (cond b (x ∷ filter p xs) (filter p xs)) ≤ length (x ∷ xs)
+    at true h = omega arith
+    at false h = omega arith
+
+pub any-flat_map : {X Y : Type 0} (test : Y → Bool) (f : X → List Y) (xs : List X) → list_any test (flat_map f xs) ≡ list_any (λ x. list_any test (f x)) xs
+any-flat_map test f [] = refl
+any-flat_map test f (x ∷ xs) = list_any-append test (f x) (flat_map f xs) ∙ ap (λ b. list_any test (f x) || b) (any-flat_map test f xs)
+
+pub cond-over : {A : Type 0} (b : Bool) (x y z : A) → cond b x (cond b y z) ≡ cond b x z
+cond-over true x y z = refl
+cond-over false x y z = refl
 
 pub any-map : {X Y : Type 0} (p : Y → Bool) (view : X → Y) (xs : List X) → list_any p (map view xs) ≡ list_any (λ x. p (view x)) xs
 any-map p view [] = refl

@@ -1,10 +1,10 @@
 -- The spelling of a document field by field, and how long its parts are.
-use Rattle.std.specs.Prelude.{◌≡◌, ℕ, suc, ◌+◌, List, [], ◌∷◌, ◌++◌, length, decimal}
-use Rattle.std.specs.Int.{w32, to_le_bytes}
+use Rattle.std.specs.Prelude.{◌≡◌, ℕ, ℤ, suc, ◌+◌, List, [], ◌∷◌, ◌++◌, length, decimal}
+use Rattle.std.specs.Int.{w32, w64, to_le_bytes, cast_unsigned}
 use Rattle.std.proofs.Common.{refl, length-append, arith}
 use Rattle.dv_value.specs.declared.kind.Kind.{Kind}
 use Rattle.dv_value.specs.Spelling.{kind_of, framed, counted, tagged, element_spelling, payload, fields_spelling, elements_spelling}
-use Rattle.dv_value.specs.Tree.{Tree, document, array, Fields, Elements, element, Field, fields_of, elements_of}
+use Rattle.dv_value.specs.Tree.{Tree, int32, int64, string, binary, null, document, array, Fields, no_fields, Elements, no_elements, element, Field, fields_of, elements_of}
 
 -- ---- what a field or an element adds in front of the others
 
@@ -61,3 +61,39 @@ length-document fs = length-framed (fields_spelling fs)
 pub length-array : (vs : Elements) → length (payload (array vs)) ≡ length (elements_spelling 0 vs) + 5
 unfolding payload
 length-array vs = length-framed (elements_spelling 0 vs)
+
+pub length-string : (s : List ℕ) → length (payload (string s)) ≡ length s + 5
+unfolding payload
+length-string s = length-counted s
+
+pub length_binary : (subtype : ℕ) (bytes : List ℕ) → length (payload (binary subtype bytes)) ≡ length bytes + 5
+unfolding payload
+length_binary subtype bytes = length-tagged subtype bytes
+
+length-wide : (n : ℕ) → length (to_le_bytes w64 n) ≡ 8
+length-wide n = refl
+
+pub length-int32 : (n : ℤ) → length (payload (int32 n)) ≡ 4
+unfolding payload
+length-int32 n = length-count (cast_unsigned w32 n)
+
+pub length-int64 : (n : ℤ) → length (payload (int64 n)) ≡ 8
+unfolding payload
+length-int64 n = length-wide (cast_unsigned w64 n)
+
+pub length-null : length (payload null) ≡ 0
+unfolding payload
+length-null = refl
+
+-- ---- no field or element, and one in front of others
+
+pub length-no_fields : length (fields_spelling no_fields) ≡ 0
+unfolding fields_spelling
+length-no_fields = refl
+
+pub length-no_elements : (place : ℕ) → length (elements_spelling place no_elements) ≡ 0
+unfolding elements_spelling
+length-no_elements place = refl
+
+pub length-element : (place : ℕ) (v : Tree) (vs : Elements) → length (elements_spelling place (element v vs)) ≡ length (payload v) + length (decimal place) + 2 + length (elements_spelling (suc place) vs)
+length-element place v vs = rw (elements-element place v vs, length-append, length-element_spelling) refl

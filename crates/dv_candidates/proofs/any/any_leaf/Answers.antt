@@ -1,8 +1,8 @@
 use Rattle.std.proofs.Common.{◌∙◌, sym, rules}
 use Rattle.std.specs.List.{list_any}
 use Rattle.dv_candidates.specs.Candidates.{whole, leaves, with_elements}
-use Rattle.dv_candidates.proofs.Folds.{any-flat_map}
 use Rattle.dv_candidates.proofs.any.any_leaf.Goals as goal
+use Rattle.dv_value.specs.Inner.ListLaws.{any-flat_map}
 
 pub returns : goal.returns
 unfolding leaves

@@ -5,8 +5,9 @@ use Rattle.dv_index.specs.declared.ahead.Ahead.{Ahead}
 use Rattle.dv_keyed.specs.declared.before.Ties.TheVariants.{ById}
 use Rattle.dv_path.specs.Parts.{part}
 use Rattle.dv_pipe.specs.Sources.{rows_referred}
-use Rattle.dv_catalog.proofs.Foremost.{all-identified, first-part, if-some-weaker, some-is}
+use Rattle.dv_catalog.proofs.Foremost.{all-identified, first-part, if-some-weaker}
 use Rattle.dv_catalog.proofs.ahead.first_by_index.Goals as goal
+use Rattle.dv_value.specs.Inner.ListLaws.{some-is}
 
 pub first_of-requires-clause-parts : goal.first_of-requires-clause-parts
 first_of-requires-clause-parts c =

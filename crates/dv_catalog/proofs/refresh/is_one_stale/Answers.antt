@@ -2,8 +2,8 @@ use Rattle.std.proofs.Common.{◌≡◌, ℕ, ◌+◌, List, ◌∷◌, drop, tr
 use Rattle.std.proofs.lemmas.List.{drop_all}
 use Rattle.dv_catalog.specs.Inner.CatalogParts.{is_one_stale}
 use Rattle.dv_catalog.proofs.Stale.{live_each, stale_on}
-use Rattle.dv_catalog.proofs.Stopping.{next_item}
 use Rattle.dv_catalog.proofs.refresh.is_one_stale.Goals as goal
+use Rattle.dv_value.specs.Inner.ListLaws.{drop-read}
 
 pub names-preserved : goal.names-preserved
 names-preserved c =
@@ -11,7 +11,7 @@ names-preserved c =
     let name : List ℕ = c.name-item.result in
     let vs = c.args.registry.now in
     let rest : List (List ℕ) = drop (c.names.name-index + 1) names in
-    let left = next_item names c.names.name-index name c.names-test.true c.name-item.is in
+    let left = drop-read names c.names.name-index name c.names-test.true c.name-item.is in
     let here : is_one_stale (name ∷ rest) vs ≡ is_one_stale names vs = subst (λ (ns : List (List ℕ)). is_one_stale ns vs ≡ is_one_stale names vs) left c.names.invariant in
     stale_on vs name rest (is_one_stale names vs) here false (sym c.if-is_stale.false ∙ rw c.as_str.ensures at c.is_stale.ensures)
 
@@ -21,7 +21,7 @@ returns-then-is_stale-clause-stale c =
     let name : List ℕ = c.name-item.result in
     let vs = c.args.registry.now in
     let rest : List (List ℕ) = drop (c.names.name-index + 1) names in
-    let left = next_item names c.names.name-index name c.names-test.true c.name-item.is in
+    let left = drop-read names c.names.name-index name c.names-test.true c.name-item.is in
     let here : is_one_stale (name ∷ rest) vs ≡ is_one_stale names vs = subst (λ (ns : List (List ℕ)). is_one_stale ns vs ≡ is_one_stale names vs) left c.names.invariant in
     stale_on vs name rest (is_one_stale names vs) here true (sym c.if-is_stale.true ∙ rw c.as_str.ensures at c.is_stale.ensures)
 

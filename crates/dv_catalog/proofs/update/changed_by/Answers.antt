@@ -2,12 +2,12 @@ use Rattle.std.proofs.Common.{◌≡◌, ◌∙◌, ◌+◌, ◌++◌, List, Ok,
 use Rattle.dv_value.specs.Tree.{Field}
 use Rattle.dv_refusal.specs.Refusals.{refused_by, update_refusal}
 use Rattle.dv_value.specs.Results.{◌>>=◌}
+use Rattle.dv_value.specs.Inner.ListLaws.{drop-read}
 use Rattle.dv_pipe.specs.Sources.{rows_referred}
 use Rattle.dv_update.specs.Outcome as outcomes
 use Rattle.dv_update.specs.UpdateView as seen
 use Rattle.dv_catalog.specs.Effects as updates
 use Rattle.dv_catalog.specs.Inner.EffectView.{after_of}
-use Rattle.dv_catalog.proofs.Stopping.{next_item}
 use Rattle.dv_catalog.proofs.Updated.{afters_more, befores_more}
 use Rattle.dv_catalog.proofs.update.changed_by.Goals as goal
 
@@ -20,7 +20,7 @@ documents-preserved c =
     let rest = rows_referred (drop (c.documents.document-index + 1) c.args.documents.now) in
     let afters = map (after_of name) c.documents.changed.items in
     let befores = map (λ u. u.before) c.documents.changed.items in
-    let here = next_item c.args.documents.now c.documents.document-index c.document-item.result c.documents-test.true c.document-item.is in
+    let here = drop-read c.args.documents.now c.documents.document-index c.document-item.result c.documents-test.true c.document-item.is in
     let told : updates.after update d ≡ Ok e = ap (refused_by update_refusal) c.in_ok-outcome.ensures.applied in
     record {
       afters = c.documents.invariant.afters

@@ -3,9 +3,9 @@ use Rattle.dv_order.specs.Key.{KeyTree}
 use Rattle.dv_keyed.specs.Inner.Decided.{IsClosed}
 use Rattle.dv_keyed.specs.Inner.Keys.{has_key}
 use Rattle.dv_keyed.specs.Inner.Pairs.{IsOnlyKey, has_pair}
-use Rattle.dv_index.proofs.Foremost.{some-is}
 use Rattle.dv_index.proofs.Gathered.{between-all}
 use Rattle.dv_index.proofs.search.found_between.Goals as goal
+use Rattle.dv_value.specs.Inner.ListLaws.{some-is}
 
 pub returns : goal.returns
 returns c =

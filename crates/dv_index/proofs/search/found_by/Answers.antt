@@ -2,8 +2,8 @@ use Rattle.std.proofs.Common.{Bor, ◌≡◌, ◌∙◌, List, ap, filter, sym, 
 use Rattle.std.proofs.lemmas.List.{take-map}
 use Rattle.std.proofs.lemmas.Result.{IfOk-weaker}
 use Rattle.dv_value.specs.Tree.{Field}
+use Rattle.dv_value.specs.Inner.ListLaws.{some-is}
 use Rattle.dv_match.specs.Match.{matches}
-use Rattle.dv_index.proofs.Foremost.{some-is}
 use Rattle.dv_index.proofs.search.found_by.Goals as goal
 use Rattle.dv_keyed.specs.Inner.ListLaws.{map-kept}
 

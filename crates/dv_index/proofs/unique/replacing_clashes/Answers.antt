@@ -2,11 +2,11 @@ use Rattle.std.proofs.Common.{◌+◌, ◌∙◌, ◌||◌, List, arith, drop, m
 use Rattle.std.proofs.lemmas.List.{drop_all}
 use Rattle.dv_index.specs.Inner.Change.{UniqueAreIndexesOf}
 use Rattle.dv_keyed.specs.Inner.Index.{IndexTree, form_of}
-use Rattle.dv_keyed.specs.Inner.ListLaws.{drop-step}
 use Rattle.dv_index.specs.Inner.View.{afters}
 use Rattle.dv_index.specs.Unique as defined
 use Rattle.dv_index.proofs.Tried.{first-by-itself, none-clashes}
 use Rattle.dv_index.proofs.unique.replacing_clashes.Goals as goal
+use Rattle.dv_value.specs.Inner.ListLaws.{drop-read}
 
 pub returns-then-branch : goal.returns-then-branch
 returns-then-branch c =
@@ -16,7 +16,7 @@ returns-then-branch c =
     let rest = drop (c.indexes.index-index + 1) c.args.indexes.now in
     sym (ap (λ b. b || defined.replacing_clashes (map form_of rest) those ds) (sym c.in_ok-replacing_clashes_in.ensures ∙ c.if-branch.true))
     ∙ sym (first-by-itself (form_of index) (map form_of rest) those ds)
-    ∙ ap (λ (xs : List IndexTree). defined.replacing_clashes (map form_of xs) those ds) (sym (drop-step c.args.indexes.now c.indexes.index-index index c.indexes-test.true c.index-item.is))
+    ∙ ap (λ (xs : List IndexTree). defined.replacing_clashes (map form_of xs) those ds) (sym (drop-read c.args.indexes.now c.indexes.index-index index c.indexes-test.true c.index-item.is))
     ∙ c.indexes.invariant.whole
 
 pub indexes-preserved : goal.indexes-preserved
@@ -25,7 +25,7 @@ indexes-preserved c =
     let ds = c.args.documents.now in
     let index = c.index-item.result in
     let rest = drop (c.indexes.index-index + 1) c.args.indexes.now in
-    let here = drop-step c.args.indexes.now c.indexes.index-index index c.indexes-test.true c.index-item.is in
+    let here = drop-read c.args.indexes.now c.indexes.index-index index c.indexes-test.true c.index-item.is in
     record {
       whole =
           sym (ap (λ b. b || defined.replacing_clashes (map form_of rest) those ds) (sym c.in_ok-replacing_clashes_in.ensures ∙ c.if-branch.false))

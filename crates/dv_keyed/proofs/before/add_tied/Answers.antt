@@ -5,8 +5,8 @@ use Rattle.dv_order.specs.Key.{KeyTree, key_order}
 use Rattle.dv_keyed.specs.Inner.Ahead.{is_until}
 use Rattle.dv_keyed.specs.Inner.Keys.{has_key}
 use Rattle.dv_keyed.specs.Inner.Pairs.{has_pair}
-use Rattle.dv_keyed.proofs.Bars.{pair-of-equal}
 use Rattle.dv_keyed.proofs.before.add_tied.Goals as goal
+use Rattle.dv_keyed.specs.Inner.PairLaws.{same-key}
 
 both-there : (a b c : Bool) → b ≡ true → c ≡ true → a || (b && c) ≡ true
 both-there true b c e f = refl
@@ -20,7 +20,7 @@ returns-in-Some-clause-added c = on_ok_weaker c.add_ids_until.result (λ known k
     let bar = c.args.bar.now in
     known i
     ∙ both-there (has_key i (map (λ (l : Bor KeyTree). l.now) c.args.ids.now.items)) (has_pair bar.key.now i c.args.index.now) (is_lt (key_order i c.in-Some.until.now))
-    (sym (pair-of-equal k bar.key.now i c.args.index.now equal) ∙ there)
+    (sym (same-key k bar.key.now i c.args.index.now equal) ∙ there)
     (ap (is_until i) (sym c.in-Some.is) ∙ until)) c.add_ids_until.ensures
 
 pub returns-in-Some-clause-kept : goal.returns-in-Some-clause-kept

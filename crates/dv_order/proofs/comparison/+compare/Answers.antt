@@ -6,8 +6,9 @@ use Rattle.dv_value.specs.Tree.{elements_of}
 use Rattle.dv_value.specs.Inner.Tree.{weight, elements_weight}
 use Rattle.dv_value.specs.View.{tree}
 use Rattle.dv_value.specs.Inner.Weight.{field_weighs_less}
+use Rattle.dv_value.specs.Inner.ListLaws.{drop-found}
 use Rattle.dv_order.specs.Order.{order}
-use Rattle.dv_order.proofs.Steps.{IsLeft-all, IsLeft-more, decided, ended, drop_at, element_at, labels_decide, values_decide, fields_order-fields_of, elements_order-elements_of}
+use Rattle.dv_order.proofs.Steps.{IsLeft-all, IsLeft-more, decided, ended, element_at, labels_decide, values_decide, fields_order-fields_of, elements_order-elements_of}
 use Rattle.dv_order.proofs.comparison.+compare.Goals as goal
 use Rattle.dv_order.proofs.comparison.+compare.Goals.{compare_documents-else-fields-test, compare_documents-then-fields-test+then-place-len}
 
@@ -32,16 +33,16 @@ pub compare_documents-returns-then-is_ne : goal.compare_documents-returns-then-i
 compare_documents-returns-then-is_ne t c =
     let f = element_at c.args.a.now c.fields.place (search rules) in
     let g = element_at c.args.b.now c.fields.place (omega (arith, c.if-place-len.false, c.fields.invariant.passed, length-drop c.fields.place c.args.a.now, length-drop c.fields.place c.args.b.now)) in
-    let x = drop_at c.args.a.now c.fields.place f.0 f.1 in
-    let y = drop_at c.args.b.now c.fields.place g.0 g.1 in
+    let x = drop-found c.args.a.now c.fields.place f.0 f.1 in
+    let y = drop-found c.args.b.now c.fields.place g.0 g.1 in
     decided c.fields.invariant x y (c.compare_at-unequal.ensures f.0 g.0 (sym f.1) (sym g.1)) c.if-is_ne.ensures ∙ sym (fields_order-fields_of c.args.a.now c.args.b.now)
 
 pub compare_documents-fields-preserved : goal.compare_documents-fields-preserved
 compare_documents-fields-preserved t c =
     let f = element_at c.args.a.now c.fields.place (search rules) in
     let g = element_at c.args.b.now c.fields.place (omega (arith, c.if-place-len.false, c.fields.invariant.passed, length-drop c.fields.place c.args.a.now, length-drop c.fields.place c.args.b.now)) in
-    let x = drop_at c.args.a.now c.fields.place f.0 f.1 in
-    let y = drop_at c.args.b.now c.fields.place g.0 g.1 in
+    let x = drop-found c.args.a.now c.fields.place f.0 f.1 in
+    let y = drop-found c.args.b.now c.fields.place g.0 g.1 in
     IsLeft-more c.fields.invariant x y (c.compare_at-unequal.ensures f.0 g.0 (sym f.1) (sym g.1)) c.if-is_ne.ensures
 
 pub compare_documents-returns : goal.compare_documents-returns

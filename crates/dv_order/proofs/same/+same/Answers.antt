@@ -4,8 +4,9 @@ use Rattle.std.proofs.lemmas.List.{length-map}
 use Rattle.dv_value.specs.Inner.Tree.{weight}
 use Rattle.dv_value.specs.View.{tree}
 use Rattle.dv_value.specs.Inner.Weight.{field_weighs_less}
+use Rattle.dv_value.specs.Inner.ListLaws.{drop-found}
 use Rattle.dv_order.specs.Same.{is_same}
-use Rattle.dv_order.proofs.Steps.{drop_at, element_at}
+use Rattle.dv_order.proofs.Steps.{element_at}
 use Rattle.dv_order.proofs.SameLeft.{same_field, same_fields-pointwise, same_elements-pointwise, same-ended, same-more, differs}
 use Rattle.dv_order.proofs.same.+same.Goals as goal
 use Rattle.dv_order.proofs.same.+same.Goals.{same_documents-else-fields-test, same_documents-then-fields-test+then-place-len}
@@ -22,8 +23,8 @@ pub same_documents-returns-then-not-same_at : goal.same_documents-returns-then-n
 same_documents-returns-then-not-same_at t c =
     let f = element_at c.args.a.now c.fields.place (search rules) in
     let g = element_at c.args.b.now c.fields.place (omega (arith, c.if-place-len.false, c.fields.invariant.passed, length-drop c.fields.place c.args.a.now, length-drop c.fields.place c.args.b.now)) in
-    let x = drop_at c.args.a.now c.fields.place f.0 f.1 in
-    let y = drop_at c.args.b.now c.fields.place g.0 g.1 in
+    let x = drop-found c.args.a.now c.fields.place f.0 f.1 in
+    let y = drop-found c.args.b.now c.fields.place g.0 g.1 in
     let differ : same_field f.0 g.0 ≡ false = sym (c.if-not-same_at.ensures f.0 g.0 (sym f.1) (sym g.1)) in
     differs same_field c.fields.invariant x y differ ∙ sym (same_fields-pointwise c.args.a.now c.args.b.now)
 
@@ -31,8 +32,8 @@ pub same_documents-fields-preserved : goal.same_documents-fields-preserved
 same_documents-fields-preserved t c =
     let f = element_at c.args.a.now c.fields.place (search rules) in
     let g = element_at c.args.b.now c.fields.place (omega (arith, c.if-place-len.false, c.fields.invariant.passed, length-drop c.fields.place c.args.a.now, length-drop c.fields.place c.args.b.now)) in
-    let x = drop_at c.args.a.now c.fields.place f.0 f.1 in
-    let y = drop_at c.args.b.now c.fields.place g.0 g.1 in
+    let x = drop-found c.args.a.now c.fields.place f.0 f.1 in
+    let y = drop-found c.args.b.now c.fields.place g.0 g.1 in
     let same : same_field f.0 g.0 ≡ true = sym (c.if-not-same_at.ensures f.0 g.0 (sym f.1) (sym g.1)) in
     same-more same_field c.fields.invariant x y same
 

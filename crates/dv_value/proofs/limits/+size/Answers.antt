@@ -4,9 +4,8 @@ use Rattle.dv_value.specs.Tree.{Field, fields_of, elements_of}
 use Rattle.dv_value.specs.Spelling.{payload}
 use Rattle.dv_value.specs.View.{tree}
 use Rattle.dv_value.specs.Inner.Weight.{field_weighs_less, value_weighs_less}
-use Rattle.dv_value.specs.Inner.Spelled.{length-document, length-array, fields_spelling-nil, elements_spelling-nil}
+use Rattle.dv_value.specs.Inner.Spelled.{length-document, length-array, length-string, fields_spelling-nil, elements_spelling-nil}
 use Rattle.dv_value.specs.Inner.ListLaws.{slice_get_seen, drop_seen}
-use Rattle.dv_value.proofs.Payloads.{length-string}
 use Rattle.dv_value.proofs.Rest.{fields_length-drop, elements_length-drop, AreValidBefore-more, elements_valid-more}
 use Rattle.dv_value.proofs.limits.+size.Goals as goal
 

@@ -1,7 +1,7 @@
 use Rattle.std.proofs.Common.{◌∙◌, append-nil, arith, refl, rules, subst, sym, take}
 use Rattle.std.specs.List.{concat}
 use Rattle.std.specs.Io.KnownBytes.{Consumes}
-use Rattle.dv_wire.proofs.Asking.{asks_few, asks_most}
+use Rattle.dv_wire.specs.Inner.CountLaws.{asks_few, asks_most}
 use Rattle.dv_wire.proofs.Talks.{at_closing, at_end, at_failure, at_limit, at_part, begins, is_not_none, not_some, read_more, talks_on}
 use Rattle.dv_wire.proofs.service.serve.Goals as goal
 use Rattle.dv_wire.specs.Inner.CountLaws.{one_more, no_more}

@@ -1,6 +1,7 @@
 use Rattle.std.proofs.Common.{Bor, ◌≡◌, ◌∙◌, List, ap, filter, map, subst, sym}
 use Rattle.std.specs.Option.{IfSome}
 use Rattle.dv_value.specs.Tree.{Field}
+use Rattle.dv_value.specs.Inner.ListLaws.{some-is}
 use Rattle.dv_coll.specs.Collection.{AreStanding}
 use Rattle.dv_match.specs.Match.{matches}
 use Rattle.dv_path.specs.Parts.{part}
@@ -9,7 +10,6 @@ use Rattle.dv_keyed.specs.declared.before.Ties.TheVariants.{ById}
 use Rattle.dv_keyed.specs.Inner.ListLaws.{map-kept}
 use Rattle.dv_index.specs.Indexed.{IndexedTree}
 use Rattle.dv_index.specs.Inner.Ahead.{is_ahead}
-use Rattle.dv_index.proofs.Foremost.{some-is}
 use Rattle.dv_index.proofs.indexed.IndexedCollection.find_ahead.Goals as goal
 
 pub returns-clause-all : goal.returns-clause-all

@@ -5,9 +5,9 @@ use Rattle.std.specs.Io.KnownBytes.{Consumes}
 use Rattle.dv_streams.specs.Stream.{once_more}
 use Rattle.dv_scripts.specs.Inner.Pieces.{StopsIn, TakesPiece}
 use Rattle.dv_scripts.specs.Script.{standing_of}
-use Rattle.dv_scripts.proofs.Scripts.{asked, asked_most, asked_once_more, at_end, at_failure, at_limit, few_asked, last_stops, line_left, never_read, none_asked, not_flushed, nothing_read, read_more, read_stops}
+use Rattle.dv_scripts.proofs.Scripts.{asked, at_end, at_failure, at_limit, few_asked, last_stops, line_left, never_read, none_asked, not_flushed, nothing_read, read_more, read_stops}
 use Rattle.dv_scripts.proofs.script.Progress.read.Goals as goal
-use Rattle.dv_wire.specs.Inner.CountLaws.{one_more, no_more}
+use Rattle.dv_wire.specs.Inner.CountLaws.{one_more, no_more, asks_few, asks_most}
 
 -- what a read leaves in a piece of this length
 read_piece : (n : ℕ) (old new : List ℕ) → n ≡ length old → length new ≡ length old → take n (new ++ drop (length new) old) ≡ new
@@ -71,7 +71,7 @@ pub returns-in_default-clause-writer : goal.returns-in_default-clause-writer
 returns-in_default-clause-writer g c = c.in_ok-flush.ensures.failures ∙ c.reads.invariant.3
 
 pub returns-in_default-clause-reads : goal.returns-in_default-clause-reads
-returns-in_default-clause-reads g c = asked_once_more c.reads.counter _ _ _ c.reads-test.true c.reads.invariant.4 c.in_default.ensures.reads
+returns-in_default-clause-reads g c = asks_few c.reads.counter _ _ _ c.reads-test.true c.reads.invariant.4 c.in_default.ensures.reads
 
 pub finish_line-requires : goal.finish_line-requires
 finish_line-requires g c = line_left _ _ _ _ _ _ _ _ _ c.reads.invariant.0 c.reads-test.true
@@ -99,15 +99,15 @@ pub returns-clause-writer : goal.returns-clause-writer
 returns-clause-writer g c = c.reads.invariant.3
 
 pub returns-clause-reads : goal.returns-clause-reads
-returns-clause-reads g c = asked_most c.reads.counter _ _ (search (rules, arith)) c.reads-test.false c.reads.invariant.4
+returns-clause-reads g c = asks_most c.reads.counter _ _ (search (rules, arith)) c.reads-test.false c.reads.invariant.4
 
 pub returns-then-count-eq0-clause-reads : goal.returns-then-count-eq0-clause-reads
-returns-then-count-eq0-clause-reads g c = asked_once_more c.reads.counter _ _ _ c.reads-test.true c.reads.invariant.4 c.in-Ok.ensures.reads
+returns-then-count-eq0-clause-reads g c = asks_few c.reads.counter _ _ _ c.reads-test.true c.reads.invariant.4 c.in-Ok.ensures.reads
 
 pub returns-in_err-finish_line-clause-reads : goal.returns-in_err-finish_line-clause-reads
 returns-in_err-finish_line-clause-reads g c =
     let p = err_from_is_err_and c.from_residual-in_err-finish_line.result c.from_residual-in_err-finish_line.ensures.1 in
-    (few_asked _ c.from_residual-in_err-finish_line.result c.in_err-finish_line.field-0.0 _ _ _ _ _ _ _ (p.1 ∙ ap Err p.2) c.in_err-finish_line.ensures.stopped.2 (asked_once_more c.reads.counter _ _ _ c.reads-test.true c.reads.invariant.4 c.in-Ok.ensures.reads))
+    (few_asked _ c.from_residual-in_err-finish_line.result c.in_err-finish_line.field-0.0 _ _ _ _ _ _ _ (p.1 ∙ ap Err p.2) c.in_err-finish_line.ensures.stopped.2 (asks_few c.reads.counter _ _ _ c.reads-test.true c.reads.invariant.4 c.in-Ok.ensures.reads))
 
 -- what was read for the script
 pub returns-in_err-take-clause-stopped : goal.returns-in_err-take-clause-stopped
@@ -126,7 +126,7 @@ pub returns-in_err-take-clause-reads : goal.returns-in_err-take-clause-reads
 returns-in_err-take-clause-reads g c =
     let p = err_from_is_err_and c.from_residual-in_err-take.result c.from_residual-in_err-take.ensures.1 in
     let ends = c.in_err-take.ensures.stopped.2.ends [] in
-    (few_asked _ c.from_residual-in_err-take.result c.in_err-take.field-0.0 _ _ _ _ _ _ _ (p.1 ∙ ap Err p.2) ends.3 (asked_once_more c.reads.counter _ _ _ c.reads-test.true c.reads.invariant.4 c.in-Ok.ensures.reads))
+    (few_asked _ c.from_residual-in_err-take.result c.in_err-take.field-0.0 _ _ _ _ _ _ _ (p.1 ∙ ap Err p.2) ends.3 (asks_few c.reads.counter _ _ _ c.reads-test.true c.reads.invariant.4 c.in-Ok.ensures.reads))
 
 pub reads-preserved : goal.reads-preserved
 reads-preserved g c =

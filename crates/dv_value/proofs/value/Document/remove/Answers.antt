@@ -1,6 +1,7 @@
 use Rattle.std.proofs.Common.{◌≡◌, false, sym, ◌∙◌}
 use Rattle.dv_value.specs.Names.{has_name}
-use Rattle.dv_value.proofs.Changed.{value_missing, without_missing}
+use Rattle.dv_value.specs.Inner.NameLaws.{without_missing}
+use Rattle.dv_value.proofs.Changed.{value_missing}
 use Rattle.dv_value.proofs.value.Document.remove.Goals as goal
 
 pub returns-then-not-has-clause-before : goal.returns-then-not-has-clause-before

@@ -5,10 +5,11 @@ use Rattle.dv_views.specs.Inner.Copies.{AreCopies, HaveCopy, NamedCopies}
 use Rattle.dv_views.specs.Inner.Views.{AreInOrder}
 use Rattle.dv_views.specs.Placed.{positioned}
 use Rattle.dv_views.proofs.Building.{dropped}
-use Rattle.dv_views.proofs.Copied.{among_there, copies_with}
+use Rattle.dv_views.proofs.Copied.{copies_with}
 use Rattle.dv_views.proofs.Marked.{there_at}
 use Rattle.dv_views.proofs.copies.Copies.keep_all.Goals as goal
 use Rattle.dv_views.proofs.copies.Copies.keep_all.Goals.{then-not-has+then-not-has-2+in_ok-keep, else-not-has}
+use Rattle.dv_views.proofs.ReadBy.{among-at}
 
 pub names-preserved : goal.names-preserved
 names-preserved c =
@@ -21,7 +22,7 @@ names-preserved c =
           elim c.if-not-has.branch [
             | then-not-has+then-not-has-2+in_ok-keep w ↦
                 let documents = rows_referred w.get.result.now in
-                let same : documents ≡ lists n = w.get.ensures ∙ ap (λ (m : List ℕ). lists_of c.args.sources.now m) w.as_str-then-not-has-2-2.ensures ∙ alike n (among_there names c.names.name-index n there) in
+                let same : documents ≡ lists n = w.get.ensures ∙ ap (λ (m : List ℕ). lists_of c.args.sources.now m) w.as_str-then-not-has-2-2.ensures ∙ alike n (among-at names c.names.name-index n there) in
                 let have = subst (λ (m : List ℕ). HaveCopy m (Some (positioned documents)) c.names.self w.keep.new.self) w.as_str-then-not-has-2.ensures w.in_ok-keep.ensures.ok in
                 subst (λ (k : NamedCopies). AreCopies lists k) (sym w.self-is) (copies_with n documents c.names.self w.keep.new.self lists have same (c.names.invariant.copies lists alike are))
             | else-not-has w ↦ subst (λ (k : NamedCopies). AreCopies lists k) (sym w.self-is) (c.names.invariant.copies lists alike are)

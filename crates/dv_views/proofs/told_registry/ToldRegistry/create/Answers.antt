@@ -5,8 +5,9 @@ use Rattle.dv_views.specs.Forms.{ViewForm, fault_of_new, is_read_by, names_read,
 use Rattle.dv_views.specs.Inner.Made.{AreAlike}
 use Rattle.dv_views.specs.Inner.Views.{AreRefreshed, AreRight, view_form}
 use Rattle.dv_views.proofs.Needed.{asked_needed}
-use Rattle.dv_views.proofs.Refreshing.{alike_reads, fresh_reads, no_fault, none_refreshed, ordered_reads, refused_with, same_called, same_forms, where_refused}
+use Rattle.dv_views.proofs.Refreshing.{alike_reads, fresh_reads, no_fault, none_refreshed, ordered_reads, refused_with, same_called, where_refused}
 use Rattle.dv_views.proofs.told_registry.ToldRegistry.create.Goals as goal
+use Rattle.dv_views.specs.Inner.FormLaws.{same_forms}
 
 pub returns-in-Some-clause-fault : goal.returns-in-Some-clause-fault
 returns-in-Some-clause-fault c = refused_with (Unit {0}) (fault_of_new (map view_form c.args.self.now) c.args.name.now c.args.source.now c.args.pipeline) c.in-Some.fault (sym c.fault_of_new.ensures ∙ c.in-Some.is)

@@ -1,8 +1,9 @@
 use Rattle.std.proofs.Common.{◌<◌, List, length, ap, subst, sym, ◌∙◌, arith}
 use Rattle.dv_views.specs.Forms.{IsClosed, ViewForm}
 use Rattle.dv_views.proofs.Marked.{length_views}
-use Rattle.dv_views.proofs.Refreshing.{length_at, more_fresh, more_refreshed, none_refreshed, same_forms}
+use Rattle.dv_views.proofs.Refreshing.{length_at, more_fresh, more_refreshed, none_refreshed}
 use Rattle.dv_views.proofs.told_registry.ToldRegistry.refresh.Goals as goal
+use Rattle.dv_views.specs.Inner.FormLaws.{same_forms}
 
 pub views-init : goal.views-init
 views-init c = record {
