@@ -1,8 +1,8 @@
 //! Many connections at once, whose pieces are known.
 
+use crate::empty;
 use dv_host::{Channel, Failed, Fate, HostFault, Outside, Taken, host};
 use dv_testing::messages::{FIND, FOUND, INSERT, INSERTED, PING, PONG};
-use dv_wire::{Hub, Store};
 use std::alloc::Global;
 use std::io::{Cursor, Read};
 use std::test::Fail;
@@ -205,7 +205,7 @@ fn hosted(
     turns: u64,
     failing: u64,
 ) -> (Result<(), HostFault>, Vec<(Client, Fate)>) {
-    let mut hub = Hub::new(alloc, Store::new(alloc));
+    let mut hub = empty::hub(alloc);
     let mut clients = Clients {
         alloc,
         calls: 0,
@@ -213,7 +213,7 @@ fn hosted(
         came: 0,
         gone: Vec::new(alloc),
     };
-    let done = host(alloc, &mut hub, &mut clients, connections, turns);
+    let done = host(alloc, &mut *hub, &mut clients, connections, turns);
     (done, clients.gone)
 }
 

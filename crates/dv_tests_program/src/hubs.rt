@@ -1,10 +1,11 @@
 //! Sessions side by side: as many as there may be, and events that are played.
 
-use dv_core::Store;
+use crate::empty;
 use dv_testing::messages::{PING, PONG};
 use dv_value::Bytes;
 use dv_wire::{CloseFault, Event, Fed, Hub, HubFault, Said, SessionId};
 use std::alloc::Global;
+use std::mem::ManuallyDrop;
 use std::test::Fail;
 
 /// A header whose operation code isn't that of OP_MSG.
@@ -14,8 +15,8 @@ const STRANGE: &[u8] = b"/\0\0\0\x0a\0\0\0\0\0\0\0\xd4\x07\0\0";
 const FRONT: &[u8] = b"\x40\x42\x0f\0\x01\0\0\0\0\0\0\0\xdd\x07\0\0\0\0\0\0";
 
 /// A hub of which a thousand sessions are open.
-fn full(alloc: Global) -> Hub {
-    let mut hub = Hub::new(alloc, Store::new(alloc));
+fn full(alloc: Global) -> ManuallyDrop<Hub> {
+    let mut hub = empty::hub(alloc);
     for _ in 0..1000 {
         let _ = hub.open();
     }
@@ -51,7 +52,7 @@ fn a_thousand_sessions_are_open_at_most(rt: HostRuntime) {
 
 /// How many bytes of an unfinished message are dropped that has so many behind its front.
 fn unfinished(alloc: Global, count: usize) -> Result<usize, Fail> {
-    let mut hub = Hub::new(alloc, Store::new(alloc));
+    let mut hub = empty::hub(alloc);
     let session = hub.open()?;
     let mut out = Vec::new(alloc);
     hub.feed(session, FRONT, &mut out);
@@ -73,7 +74,7 @@ fn played(alloc: Global) -> Result<Vec<Said>, Fail> {
     events.push(Event::Piece(first, Bytes::of(PING.to_vec(alloc)?)))?;
     events.push(Event::End(first))?;
     let mut said = Vec::new(alloc);
-    Hub::new(alloc, Store::new(alloc)).play(&events, &mut said)?;
+    empty::hub(alloc).play(&events, &mut said)?;
     Ok(said)
 }
 

@@ -5,6 +5,8 @@
 #[cfg(test)]
 mod commands;
 #[cfg(test)]
+mod empty;
+#[cfg(test)]
 mod hosting;
 #[cfg(test)]
 mod hubs;

@@ -1,5 +1,6 @@
 //! Files of documents that are loaded.
 
+use crate::empty;
 use dv_core::Store;
 use dv_load::load_file;
 use dv_streams::CountedReader;
@@ -44,7 +45,7 @@ const LOADED: &[(&str, &[u8], &str)] = &[
 
 #[test]
 fn loads_documents(rt: HostRuntime) -> Result<(), Fail> {
-    let mut store = Store::new(rt.alloc());
+    let mut store = empty::store(rt.alloc());
     for (namespace, file, told) in LOADED {
         let found = loaded(rt.alloc(), &mut store, namespace, file)?;
         assert_eq!(rt; found.as_str(), *told, "{namespace} {file:?}");

@@ -1,15 +1,15 @@
 //! Scripts whose reader or writer fails, or gives and takes one byte at a call.
 
+use crate::empty;
 use dv_scripts::script::{ScriptFault, script};
 use dv_streams::{CountedReader, CountedWriter};
 use dv_testing::fakes::{FailingReader, FailingWriter};
-use dv_wire::{Hub, Store};
 use std::alloc::Global;
 use std::test::Fail;
 
 /// What a script writes and how it ends, whose bytes come one at a read, of which this one fails.
 fn ran(alloc: Global, text: &str, failing: usize) -> Result<String, Fail> {
-    let mut hub = Hub::new(alloc, Store::new(alloc));
+    let mut hub = empty::hub(alloc);
     let mut reader = CountedReader::of(FailingReader::failing(text.as_bytes(), failing));
     let mut written = Vec::new(alloc);
     let done = script(
@@ -52,7 +52,7 @@ fn runs_scripts(rt: HostRuntime) -> Result<(), Fail> {
 
 /// What a script comes to over a writer of which this call fails.
 fn ended(alloc: Global, failing: usize) -> Result<(), ScriptFault> {
-    let mut hub = Hub::new(alloc, Store::new(alloc));
+    let mut hub = empty::hub(alloc);
     let mut reader = CountedReader::of(b"0 end\n".as_slice());
     let mut writer = CountedWriter::of(FailingWriter::failing(alloc, failing));
     script(alloc, &mut hub, &mut reader, &mut writer)
@@ -69,7 +69,7 @@ fn tells_a_writer_that_fails(rt: HostRuntime) {
 
 #[test]
 fn tells_a_hub_that_opens_nothing(rt: HostRuntime) {
-    let mut hub = Hub::new(rt.alloc(), Store::new(rt.alloc()));
+    let mut hub = empty::hub(rt.alloc());
     for _ in 0..1000 {
         assert!(rt; hub.open().is_ok());
     }

@@ -1,10 +1,10 @@
 //! Connections that are served: of a listener that fails, and over the loopback.
 
+use crate::empty;
 use dv_serving::serve::{BlockingPort, Listener, ServeFault, serve_on};
 use dv_streams::{CountedReader, CountedWriter, Failed};
 use dv_testing::fakes::FailingReader;
 use dv_testing::messages::{FIND, FOUND, INSERT, INSERTED, PING};
-use dv_wire::{Hub, Store};
 use std::alloc::Global;
 use std::io::{Read, Write};
 use std::net::{Net, Shutdown, SocketAddr, TcpListener, TcpStream};
@@ -58,7 +58,7 @@ const ENDINGS: &str =
 
 /// What serving so many of these connections writes and comes to, and how many were closed.
 fn served(alloc: Global, connections: u32) -> (Vec<u8>, Result<(), ServeFault>, usize) {
-    let mut hub = Hub::new(alloc, Store::new(alloc));
+    let mut hub = empty::hub(alloc);
     let mut listener = Clients {
         alloc,
         all: CLIENTS,
@@ -99,7 +99,7 @@ where
 
 /// What serving so many connections at the port comes to.
 fn served_at(alloc: Global, listener: TcpListener, connections: u32) -> Result<(), ServeFault> {
-    let mut hub = Hub::new(alloc, Store::new(alloc));
+    let mut hub = empty::hub(alloc);
     let mut writer = CountedWriter::of(Vec::new(alloc));
     serve_on(
         alloc,

@@ -1,9 +1,10 @@
 //! Sessions over readers and writers.
 
+use crate::empty;
 use dv_streams::{CountedReader, CountedWriter};
 use dv_testing::fakes::{FailingReader, FailingWriter};
 use dv_testing::messages::{FIND, FOUND, INSERT, INSERTED, PING, PONG};
-use dv_wire::{Fed, Hub, SessionId, Store, run};
+use dv_wire::{Fed, Hub, SessionId, run};
 use std::alloc::Global;
 use std::test::Fail;
 
@@ -32,7 +33,7 @@ fn session(
     read: usize,
     write: usize,
 ) -> Result<(String, Vec<u8>), Fail> {
-    let mut hub = Hub::new(alloc, Store::new(alloc));
+    let mut hub = empty::hub(alloc);
     let mut narrow = FailingWriter::failing(alloc, write);
     let told = told(alloc, &mut hub, bytes, read, &mut narrow)?;
     Ok((told, narrow.taken))
@@ -72,7 +73,7 @@ fn tells_failures_of_sessions(rt: HostRuntime) -> Result<(), Fail> {
 
 /// What another session finds behind an insert whose reply this writer doesn't take, and what the session itself takes then.
 fn found_behind(alloc: Global, narrow: &mut FailingWriter) -> Result<(Vec<u8>, Fed), Fail> {
-    let mut hub = Hub::new(alloc, Store::new(alloc));
+    let mut hub = empty::hub(alloc);
     let told = told(alloc, &mut hub, INSERT, 0, narrow)?;
     if told.as_str() != "Write" {
         return Err(Fail::from("a write fault"));

@@ -1,6 +1,7 @@
 //! Commands at their limits, which no script brings.
 
 use crate::commands::told;
+use crate::empty;
 use dv_command::DocumentList;
 use dv_command::replies::cut_error;
 use dv_core::Store;
@@ -56,7 +57,7 @@ const LIMIT_REACHED: &[u8] =
 
 /// The bytes of the replies to inserts of a document of 16,777,216 bytes and of one of one byte more.
 fn largest(alloc: Global) -> Result<(Vec<u8>, Vec<u8>), Fail> {
-    let mut store = Store::new(alloc);
+    let mut store = empty::store(alloc);
     let largest = stored(alloc, &mut store, 1, 16_777_194)?;
     let larger = stored(alloc, &mut store, 2, 16_777_195)?;
     Ok((largest, larger))
@@ -80,7 +81,7 @@ fn grown(alloc: Global, store: &mut Store, id: i32, length: usize) -> Result<usi
 /// How many it has behind two documents of as many bytes together as a batch may have, the first of them alone and both,
 /// and behind a third, which comes with the next batch.
 fn batches(alloc: Global) -> Result<(usize, usize, usize), Fail> {
-    let mut store = Store::new(alloc);
+    let mut store = empty::store(alloc);
     let first = grown(alloc, &mut store, 1, 16_777_150)?;
     let both = grown(alloc, &mut store, 2, 22)?;
     Ok((first, both, grown(alloc, &mut store, 3, 0)?))
@@ -101,7 +102,7 @@ fn unstored(alloc: Global, count: usize) -> Result<Vec<u8>, Fail> {
     for _ in 0..count {
         documents.push(Document::new(alloc))?;
     }
-    inserted(alloc, &mut Store::new(alloc), documents)
+    inserted(alloc, &mut empty::store(alloc), documents)
 }
 
 #[test]

@@ -1,6 +1,7 @@
 //! What a store keeps of its views.
 
 use crate::commands::told;
+use crate::empty;
 use dv_core::Store;
 use dv_testing::spelled::bytes_of;
 use std::alloc::Global;
@@ -39,7 +40,7 @@ fn kept(alloc: Global, store: &Store) -> Result<Vec<u8>, Fail> {
 
 /// The same behind these commands.
 fn kept_behind(alloc: Global, commands: &[&[u8]]) -> Result<Vec<u8>, Fail> {
-    let mut store = Store::new(alloc);
+    let mut store = empty::store(alloc);
     for body in commands {
         told(alloc, &mut store, body, Vec::new(alloc))?;
     }
@@ -55,6 +56,6 @@ fn a_store_keeps_the_rows_of_its_views(rt: HostRuntime) -> Result<(), Fail> {
         kept_behind(alloc, &[CREATE, INSERT, DELETE])?.as_slice(),
         ONE
     );
-    assert!(rt; Store::new(alloc).stored_rows("t.v").is_none());
+    assert!(rt; empty::store(alloc).stored_rows("t.v").is_none());
     Ok(())
 }
