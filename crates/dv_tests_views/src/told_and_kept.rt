@@ -6,13 +6,14 @@ use dv_pipe::{Pipeline, Sources};
 use dv_testing::spelled::{array_in, document};
 use dv_views::{Registry, ViewState};
 use std::alloc::Global;
+use std::mem::ManuallyDrop;
 use std::test::Fail;
 
-/// The view `t.v` of the stages over `t.c`, which has no document yet.
-fn registry(alloc: Global, stages: &[u8]) -> Result<Registry, Fail> {
+/// The view `t.v` of the stages over `t.c`, which has no document yet. Nothing drops it: so a test's proof is short.
+fn registry(alloc: Global, stages: &[u8]) -> Result<ManuallyDrop<Registry>, Fail> {
     let stages = document(alloc, stages)?;
     let pipeline = Pipeline::parse(alloc, array_in(&stages)?.as_slice())?;
-    let mut views = Registry::new(alloc);
+    let mut views = ManuallyDrop::new(Registry::new(alloc));
     views.create("t.v", "t.c", pipeline, &Sources::new(alloc))?;
     Ok(views)
 }
