@@ -12,7 +12,7 @@ fn main(rt: HostRuntime) -> ExitCode {
     match docd(&rt, &rt.stderr()) {
         Ok(()) => ExitCode::SUCCESS,
         Err(fault) => {
-            // Where standard error fails too, the status alone tells of the fault.
+            // If standard error fails too, only the exit status shows the fault.
             let _ = eprintln!(rt; "docd: {fault}");
             ExitCode::from(status(&fault))
         }

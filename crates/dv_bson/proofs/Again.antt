@@ -1,4 +1,4 @@
--- What is spelled so is read.
+-- The encoding of a document is read as this document.
 use Rattle.std.proofs.Common.{◌≡◌, ℕ, zero, suc, ◌+◌, ◌-◌, ◌<◌, ◌≤◌, Bool, true, false, List, [], ◌∷◌, ◌++◌, length, map, Ok, refl, sym, ap, subst, ◌∙◌, append_assoc, append-nil, le_refl, arith}
 use Rattle.std.specs.Int.{w32, w64, to_le_bytes, from_le_bytes}
 use Rattle.std.proofs.lemmas.List.{length-append, length_push}
@@ -27,7 +27,7 @@ module _ (k : ℕ) (inside : Inside) (complete : Complete k inside) (at : ℕ) (
   abbrev IsAgain : Tree → Type 0
   IsAgain v = IsValue v → levels v ≤ k → length (payload v) < 2147483648 → value_at inside (kind_of v) at (payload v ++ rest) ≡ Ok (v, rest)
 
-  -- what a frame has in it is read, and is the value
+  -- the elements in a frame are read again, and make the value
   framed_again : (in_array : Bool) (d : List Field) (v : List Field → Tree) → AreRead in_array [] d → fields_levels (fields_of d) < k → length (framed (fields_spelling (fields_of d))) < 2147483648 → framed_value inside in_array at v (framed (fields_spelling (fields_of d)) ++ rest) ≡ Ok (v d, rest)
   framed_again in_array d v read deep short =
       let elements = fields_spelling (fields_of d) in
@@ -71,7 +71,7 @@ module _ (k : ℕ) (inside : Inside) (complete : Complete k inside) (at : ℕ) (
   value_again min_key = λ valid deep short. refl
   value_again max_key = λ valid deep short. refl
 
--- a field and those behind it
+-- a field and those after it
 field_again : (inside : Inside) (steps : ℕ) (in_array : Bool) (at : ℕ) (seen : List Field) (kind : Kind) (name text rest : List ℕ) (v : Tree) (last : ℕ) (all : List Field) →
     name_at in_array seen (name ++ 0 ∷ (text ++ rest)) ≡ Ok (name, text ++ rest) →
     ((at : ℕ) → value_at inside kind at (text ++ rest) ≡ Ok (v, rest)) →

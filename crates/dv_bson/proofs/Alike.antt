@@ -46,7 +46,7 @@ with_values-push [] vs f v e = absurd cc
 with_values-push (g ∷ fs) [] f v e = ap (λ (h : Field). (h.0, v) ∷ []) (some_is g f e)
 with_values-push (g ∷ fs) (w ∷ vs) f v e = ap (λ (gs : List Field). (g.0, w) ∷ gs) (with_values-push fs vs f v e)
 
--- the same of values in memory
+-- the same for values in memory
 pub next_field : (fs : List Field) (values : List Value) (f : Field) → AreNamed fs → slice_get fs (length values) ≡ Some f → MayBeAdded (with_values fs (map tree values)) f.0
 next_field fs values f named there = next_may_be_added fs (map tree values) f named (ap (slice_get fs) (length-map values tree) ∙ there)
 

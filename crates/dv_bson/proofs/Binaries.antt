@@ -1,4 +1,4 @@
--- Binaries: what is read is spelled so, and what is spelled so is read.
+-- Binaries: the bytes that are read are the encoding of the result, and an encoding is read again.
 use Rattle.std.proofs.Common.{◌≡◌, ℕ, ◌+◌, ◌<◌, ◌≤◌, false, ltb, ◌||◌, List, [], ◌∷◌, ◌++◌, length, take, drop, Ok, refl, sym, ap, subst, ◌∙◌, append_assoc, arith}
 use Rattle.std.specs.Int.{w32, to_le_bytes, from_le_bytes}
 use Rattle.std.proofs.lemmas.Bool.{ltb-false, le-ltb, or_parts}
@@ -19,7 +19,7 @@ pub record TakesBinary (bytes : List ℕ) (x : Tree × List ℕ) : Type 0 where
   pub fits : IsBytes own
   pub takes : Takes bytes (tagged subtype own) x.1
 
--- the subtype and the bytes, behind the bytes of a count
+-- the subtype and the bytes, after the bytes of a count
 tagged_takes : (count behind : List ℕ) (n : ℕ) (x : Tree × List ℕ) → IsBytes behind → count ≡ to_le_bytes w32 n → tagged_at n behind ≡ Ok x → TakesBinary (count ++ behind) x
 unfolding tagged
 tagged_takes count [] n x fits is e = absurd cc

@@ -1,4 +1,4 @@
--- A whole document: what is read is spelled so, and what is spelled so is read.
+-- A whole document: the bytes that are read are the encoding of the result, and an encoding is read again.
 use Rattle.std.proofs.Common.{◌≡◌, ℕ, suc, ◌+◌, ◌-◌, ◌<◌, ◌≤◌, ◌↔◌, max, false, ltb, List, [], ◌++◌, length, take, drop, Some, None, Result, Ok, Err, refl, sym, ap, ap₂, subst, ◌∙◌, arith}
 use Rattle.std.proofs.lemmas.Bool.{ltb-false, le-ltb}
 use Rattle.std.proofs.lemmas.List.{take_at, length-append, length-take, length-drop, take-append-drop}
@@ -16,9 +16,9 @@ use Rattle.dv_bson.proofs.Fields.{AreFields-from_read, AreRead-fields}
 use Rattle.dv_bson.proofs.Taken.{TakesInside, body_sound}
 use Rattle.dv_bson.proofs.Again.{body_complete}
 
--- ---- what is read is spelled so
+-- ---- the bytes that are read are the encoding of the document
 
--- the first n bytes spell the document
+-- the first n bytes are the encoding of the document
 abbrev TakesDocument : List ℕ → List Field × ℕ → Type 0
 TakesDocument bytes x = (x.1 ≤ length bytes) × Spells x.0 (take x.1 bytes) × Fits x.0
 
@@ -53,7 +53,7 @@ document_takes bytes d n fits e =
     subst (λ (x : List Field × ℕ). TakesDocument bytes x) (ok_is (b.0, m) (d, n) b.2)
     (framed_document bytes elements (frame_of m bytes).rest last b.0 m within small taken len inside)
 
--- ---- what is spelled so is read
+-- ---- an encoding is read again
 
 outermost_again : (d : List Field) (elements rest : List ℕ) → length elements + 5 ≤ 16777216 → body_at 100 false 4 elements 0 ≡ Ok d → document_at (framed elements ++ rest) ≡ Ok (d, length elements + 5)
 unfolding document_at
@@ -84,7 +84,7 @@ framed_once a b x y small_a small_b same =
     let n : length a + 5 ≡ length b + 5 = cc in
     ap (λ (f : Frame). f.elements) (sym (frame_of_again a x) ∙ ap₂ frame_of n same ∙ frame_of_again b y)
 
--- how much stands in a spelling
+-- how long the fields in an encoding are
 elements_small : (d : List Field) (a : List ℕ) → Spells d a → length (fields_spelling (fields_of d)) + 5 < 2147483648
 unfolding payload fields_spelling elements_spelling
 elements_small d a spells = omega (arith, spells.within, ap length spells.whole, length-framed (fields_spelling (fields_of d)))

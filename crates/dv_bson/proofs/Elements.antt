@@ -1,4 +1,4 @@
--- An element that was read, as a part of what it was read into.
+-- An element that was read, as a part of its document or array.
 use Rattle.std.proofs.Common.{◌≡◌, ℕ, suc, ◌+◌, ◌-◌, true, false, List, [], ◌∷◌, ◌++◌, length, map, decimal, Ok, refl, ap, subst, ◌∙◌, arith}
 use Rattle.dv_value.specs.declared.kind.Kind.TheVariants as kinds
 use Rattle.dv_value.specs.declared.value.Value.{Value}

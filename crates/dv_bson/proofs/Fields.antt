@@ -1,4 +1,4 @@
--- The fields that are read one behind another: how they are named, and that they are what a document or an array spells.
+-- The fields that are read one after another: how they are named, and that they are those of a document or an array.
 use Rattle.std.proofs.Common.{◌≡◌, ℕ, suc, ◌+◌, ◌-◌, ◌%◌, ◌^◌, ◌<◌, ◌≤◌, max, Bool, true, false, eqb, List, [], ◌∷◌, ◌++◌, length, take, drop, slice_index_or, map, decimal, Ok, refl, sym, ap, ap₂, subst, ◌∙◌, arith}
 use Rattle.std.specs.Prelude.{⊤}
 use Rattle.std.specs.Str.{IsUtf8, is_utf8, bytes_eq}
@@ -17,7 +17,7 @@ use Rattle.dv_bson.specs.Inner.Parts.{numbered}
 use Rattle.dv_bson.proofs.Steps.{passed, refused_not, given, ok_is}
 use Rattle.dv_bson.proofs.Names.{cut_takes, cut_again}
 
--- ---- a name behind the fields that were seen
+-- ---- a name after the fields that were seen
 
 abbrev pub IsNamed : Bool → List Field → List ℕ → Type 0
 IsNamed false seen name = IsUtf8 name × (has_zero name ≡ false) × (has_name name seen ≡ false)
@@ -84,7 +84,7 @@ digit_shown place (digit ∷ end ∷ rest) few long first second seen here =
     let behind : take (length rest) rest ≡ rest = take_all (length rest) rest (omega arith) in
     rw (count, closes, behind) (digit_again place digit seen rest few shown here)
 
--- ---- fields behind those that were seen
+-- ---- fields after those that were seen
 
 abbrev pub AreRead : Bool → List Field → List Field → Type 0
 AreRead in_array seen [] = ⊤

@@ -1,4 +1,4 @@
--- Texts and the frames of documents: what is read is spelled so, and what is spelled so is read.
+-- Texts and the frames of documents: the bytes that are read are the encoding of the result, and an encoding is read again.
 use Rattle.std.proofs.Common.{◌≡◌, ℕ, suc, ◌+◌, ◌-◌, ◌<◌, ◌≤◌, Bool, false, ltb, eqb, ◌||◌, List, [], ◌∷◌, ◌++◌, length, get_or, take, drop, Some, Result, Ok, refl, sym, ap, subst, ◌∙◌, append_assoc, arith}
 use Rattle.std.specs.Int.{w32, to_le_bytes}
 use Rattle.std.specs.Str.{IsUtf8, is_utf8}
@@ -15,7 +15,7 @@ use Rattle.dv_value.specs.Inner.ByteLaws.{IsBytes-drop, IsBytes-take}
 use Rattle.dv_bson.proofs.Steps.{Takes, refused_not, passed, given, ok_is, parted_at_zero}
 use Rattle.dv_bson.proofs.Numbers.{count_takes, count_again, wide32}
 
--- a count in front of a text, and a zero behind it
+-- a count before a text, and a zero after it
 abbrev enclosed : ℕ → List ℕ → List ℕ
 enclosed n text = to_le_bytes w32 n ++ (text ++ 0 ∷ [])
 
@@ -56,7 +56,7 @@ text_takes bytes x fits e =
     let n = given (count_at bytes) (λ o. counted_at o (drop 4 bytes)) BadLength x refl e in
     counted_takes bytes n.0 x fits n.1 n.2
 
--- the bytes behind a count of four bytes, the text in them, the byte that closes it, and what is behind that
+-- a count of four bytes, the text after it, the byte that closes the text, and what follows
 record IsEnclosed (n : ℕ) (text rest bytes : List ℕ) : Type 0 where
   count : n < 2147483648 → count_at bytes ≡ Some n
   long : length (drop 4 bytes) ≡ length text + suc (length rest)
@@ -149,7 +149,7 @@ frame_takes bytes frame fits e =
 
 -- ---- a value in a frame
 
--- the value that the fields inside a frame make, and the bytes behind the frame
+-- the value that the fields inside a frame make, and the bytes after the frame
 abbrev pub framed_value : Inside → Bool → ℕ → (List Field → Tree) → List ℕ → Result (Tree × List ℕ) BsonFault
 framed_value inside in_array at made bytes = do
   frame ← frame_at bytes

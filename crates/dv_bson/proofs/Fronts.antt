@@ -1,4 +1,4 @@
--- What stands at the front of bytes.
+-- What is at the start of bytes.
 use Rattle.std.proofs.Common.{◌≡◌, ℕ, suc, ◌+◌, ◌-◌, ◌<◌, ◌++◌, get_or, ◌||◌, if◌then◌else◌, Bool, true, false, not, List, [], ◌∷◌, length, take, drop, map, Some, None, Result, Ok, Err, refl, sym, ap, ◌∙◌, decimal, add-one, arith}
 use Rattle.std.specs.Str.{bytes_eq, IsUtf8, is_utf8}
 use Rattle.std.proofs.lemmas.List.{take_all, length-drop}
@@ -16,7 +16,7 @@ use Rattle.dv_bson.proofs.Names.{cut_again}
 use Rattle.dv_bson.proofs.Steps.{parted_at_zero}
 use Rattle.dv_bson.specs.Inner.Parts.{utf8_name, any_name_at, numbered}
 
--- what is wrong with a name beside those of the fields before it
+-- a name or its fault, compared with the names of the fields before it
 abbrev pub name_beside : Bool → List Field → List ℕ × List ℕ → Result (List ℕ × List ℕ) BsonFault
 name_beside false seen name = if has_name name.0 seen then Err RepeatedName else Ok name
 name_beside true seen name = if bytes_eq name.0 (decimal (length seen)) then Ok name else Err BadArrayName

@@ -60,7 +60,7 @@ enough inside in_array last (suc m) (suc n) at seen (b ∷ bytes) le le' =
     enough inside in_array last m n (at + (suc (length bytes) - length made.1)) (seen ++ made.0 ∷ []) made.1 (omega arith) (omega arith))
     ∙ sym (fields_turn inside n in_array at seen b bytes last)
 
--- ---- the loop: what is still to be read gives what the whole gives
+-- ---- the loop: reading the rest gives the same as reading the whole
 
 pub shorter : (inside : Inside) (in_array : Bool) (at : ℕ) (seen : List Field) (bytes : List ℕ) (made : Made) → field_at inside in_array at seen bytes ≡ Ok made → length made.1 < length bytes
 unfolding field_at front_kind_at

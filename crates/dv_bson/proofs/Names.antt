@@ -1,4 +1,4 @@
--- The byte for a type and a name: what is read is spelled so, and what is spelled so is read.
+-- The byte for a type and a name: the bytes that are read are the encoding of the result, and an encoding is read again.
 use Rattle.std.proofs.Common.{◌≡◌, ℕ, ◌⊎◌, Bool, true, false, cond, eqb, List, [], ◌∷◌, ◌++◌, Option, Some, None, Ok, refl, ap, subst, ◌∙◌, inl, inr}
 use Rattle.std.proofs.lemmas.Bool.{eqb-true, or_from, or_parts}
 use Rattle.dv_value.specs.declared.kind.Kind.{Kind}

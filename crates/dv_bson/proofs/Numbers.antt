@@ -1,4 +1,4 @@
--- Counts and signed numbers: what is read is spelled so, and what is spelled so is read.
+-- Counts and signed numbers: the bytes that are read are the encoding of the result, and an encoding is read again.
 use Rattle.std.proofs.Common.{◌≡◌, ℕ, ◌^◌, ◌<◌, ◌≤◌, ℤ, Bool, true, false, cond, ltb, List, ◌++◌, length, take, drop, Option, Some, None, Ok, FitsSigned, Fits, refl, sym, ap, subst, ◌∙◌, arith}
 use Rattle.std.specs.Int.{Width, w32, w64, byte_len, from_le_bytes, to_le_bytes, cast_signed, cast_unsigned}
 use mir.Val.{bits}
@@ -65,7 +65,7 @@ count_front front rest n len value lt =
 pub count_again : (n : ℕ) (rest : List ℕ) → n < 2147483648 → count_at (to_le_bytes w32 n ++ rest) ≡ Some n
 count_again n rest lt = count_front (to_le_bytes w32 n) rest n (wide32.len n) (wide32.again n (omega arith)) lt
 
--- ---- so many bytes
+-- ---- a number of bytes
 
 pub record TakesFirst (n : ℕ) (made : List ℕ → Tree) (bytes : List ℕ) (x : Tree × List ℕ) : Type 0 where
   pub front : List ℕ

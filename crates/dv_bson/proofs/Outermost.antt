@@ -1,4 +1,4 @@
--- The outermost document, whose frame is looked at first.
+-- The outermost document, whose frame is checked first.
 use Rattle.std.proofs.Common.{◌≡◌, ℕ, ◌++◌, ◌⊎◌, inl, inr, Bool, true, false, List, length, Option, None, Some, Result, Ok, Err, refl, ap, subst, ◌∙◌}
 use Rattle.std.specs.Prelude.{if◌then◌else◌, nat_lt}
 use Rattle.dv_value.specs.declared.fault.BsonFault.{BsonFault}
@@ -45,7 +45,7 @@ pub gives_document : (bytes : List ℕ) (whole : Frame × ℕ) (fields : List Fi
 gives_document bytes whole fields first inside =
     frame_first bytes ∙ ap (λ r. r >>= in_frame) first ∙ ap (λ (r : Result (List Field) BsonFault). r >>= λ fields. Ok (fields, whole.1)) inside
 
--- ---- what is told of it
+-- ---- what is returned
 
 pub is_read : (bytes : List ℕ) (d : List Field) (spelled rest : List ℕ) → Spells d spelled → Fits d → bytes ≡ spelled ++ rest → document_at bytes ≡ Ok (d, length spelled)
 is_read bytes d spelled rest valid fits e = ap document_at e ∙ document_again d spelled rest valid fits

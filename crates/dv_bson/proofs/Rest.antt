@@ -1,4 +1,4 @@
--- The spelling of the fields of a document, or of the elements of a list, that a loop has still to come to.
+-- The encoding of the fields of a document, or of the elements of a list, that a loop has not reached yet.
 use Rattle.std.proofs.Common.{◌≡◌, ℕ, zero, suc, ◌+◌, ◌≤◌, List, [], ◌∷◌, ◌++◌, length, drop, Some, decimal, length-append, add-one, sym, ap, ◌∙◌, arith}
 use Rattle.std.specs.List.{slice_get}
 use Rattle.dv_value.specs.Tree.{Tree, Field, fields_of, elements_of}

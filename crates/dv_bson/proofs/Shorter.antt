@@ -1,4 +1,4 @@
--- What is left behind a part that was read is no longer than the bytes were.
+-- The bytes after a part that was read are no longer than all bytes.
 use Rattle.std.proofs.Common.{◌≡◌, ℕ, suc, ◌+◌, ◌-◌, ◌≤◌, ◌==◌, if◌then◌else◌, Bool, true, false, List, [], ◌∷◌, length, take, drop, map, Option, Some, None, Result, Ok, Err, refl, ap, subst, arith}
 use Rattle.std.specs.Prelude.{◌||◌, nat_lt, slice_index}
 use Rattle.std.specs.Int.{w32, w64, from_le_bytes, cast_signed}
@@ -16,7 +16,7 @@ use Rattle.dv_bson.specs.Inner.Parts.{with_rest, front_kind_at, field_at}
 use Rattle.dv_bson.proofs.Steps.{refused_not, given, ok_is}
 use Rattle.dv_bson.proofs.Fields.{name_takes}
 
--- the bytes behind what was read, if it was read, are no more than n
+-- the bytes after what was read, if it was read, are no more than n
 pub record Leaves (A : Type 0) (n : ℕ) (r : Result (A × List ℕ) BsonFault) : Type 0 where
   pub within : (x : A × List ℕ) → r ≡ Ok x → length x.1 ≤ n
 
@@ -30,7 +30,7 @@ Leaves-if : (A : Type 0) (n : ℕ) (b : Bool) (r s : Result (A × List ℕ) Bson
 Leaves-if A n true r s h k = h
 Leaves-if A n false r s h k = k
 
--- a part, and what is made of it
+-- a part, and what is read after it
 Leaves-then : (A B : Type 0) (n m : ℕ) (r : Result (A × List ℕ) BsonFault) (f : A × List ℕ → Result (B × List ℕ) BsonFault) → Leaves A n r → ((x : A × List ℕ) → length x.1 ≤ n → Leaves B m (f x)) → Leaves B m (r >>= f)
 Leaves-then A B n m (Ok x) f h k = k x (h.within x refl)
 Leaves-then A B n m (Err e) f h k = Leaves-Err B m e

@@ -1,4 +1,4 @@
--- What follows from a step of reading that did not fail, and how lists of bytes come apart.
+-- What follows from a step of reading that did not fail, and how lists of bytes are split.
 use Rattle.std.proofs.Common.{◌≡◌, ℕ, suc, ◌+◌, ◌<◌, ◌⊎◌, Bool, true, false, cond, List, ◌∷◌, ◌++◌, length, get_or, take, drop, Option, Some, None, Result, Ok, Err, refl, sym, ap, subst, ◌∙◌, inl, inr}
 use Rattle.std.proofs.lemmas.List.{get_or-append-add, take-append-drop}
 use Rattle.std.proofs.Math.Seq.{drop-cons}
@@ -29,7 +29,7 @@ pub branched : {A : Type 0} (b : Bool) (x y z : A) → cond b x y ≡ z → ((b 
 branched true x y z e = inl (refl, e)
 branched false x y z e = inr (refl, e)
 
--- an option that had a value, where none is a fault
+-- an option that had a value, if `None` is a fault
 pub given : {X A : Type 0} (o : Option X) (f : Option X → Result A BsonFault) (d : BsonFault) (x : A) → f None ≡ Err d → f o ≡ Ok x → (n : X) × (o ≡ Some n) × (f (Some n) ≡ Ok x)
 given None f d x none e = absurd cc
 given (Some n) f d x none e = (n, refl, e)
@@ -50,7 +50,7 @@ IsBytes-behind bytes xs ys e h i =
     let here : get_or (xs ++ ys) (length xs + i) 0 < 256 = subst (λ (b : List ℕ). get_or b (length xs + i) 0 < 256) e (h (length xs + i)) in
     rw (get_or-append-add xs ys i 0) at here
 
--- where a zero stands, it parts the list in two
+-- a zero splits the list in two
 pub parted_at_zero : (bytes : List ℕ) (k : ℕ) → k < length bytes → get_or bytes k 0 ≡ 0 → bytes ≡ take k bytes ++ 0 ∷ drop (suc k) bytes
 parted_at_zero bytes k lt z =
     let tail : drop k bytes ≡ 0 ∷ drop (suc k) bytes = drop-cons bytes k 0 lt ∙ ap (λ (b : ℕ). b ∷ drop (suc k) bytes) z in

@@ -1,4 +1,4 @@
--- What is read is spelled so.
+-- The bytes that are read are the encoding of the result.
 use Rattle.std.proofs.Common.{◌≡◌, ℕ, zero, suc, ◌+◌, ◌-◌, ◌<◌, ◌≤◌, Bool, true, false, eqb, List, [], ◌∷◌, ◌++◌, length, map, Ok, Err, refl, sym, ap, subst, ◌∙◌, append_assoc, append-nil, inl, inr, arith}
 use Rattle.std.specs.Int.{w32, w64, from_le_bytes, from_bool}
 use Rattle.std.proofs.lemmas.Bool.{eqb-true}
@@ -16,7 +16,7 @@ use Rattle.dv_bson.proofs.Names.{kind_takes}
 use Rattle.dv_bson.proofs.Frames.{text_takes, frame_takes, framed_value}
 use Rattle.dv_bson.proofs.Fields.{name_takes, IsNamed, AreRead, AreFields-from_read, AreElements-from_read, elements_spelling-from_read, elements_levels-values}
 
--- what the elements of a document or an array are, where they are read with fewer than k levels in them
+-- what the elements of a document or an array are, if they are read with fewer than k levels in them
 pub record TakesInside (k : ℕ) (in_array : Bool) (bytes : List ℕ) (last : ℕ) (d : List Field) : Type 0 where
   pub whole : bytes ≡ fields_spelling (fields_of d)
   pub closed : last ≡ 0
@@ -116,7 +116,7 @@ module _ (k : ℕ) (inside : Inside) (sound : Sound k inside) (at : ℕ) (bytes 
       let t = signed_takes w64 wide64 int64 bytes x fits e in
       subst (λ (v : Tree). TakesValue k kinds.Int64 bytes (v, x.1)) t.is (record { kind_is = refl; taken = t.takes; valid = t.fits; depth = omega arith })
 
--- ---- the fields behind those that were seen
+-- ---- the fields after those that were seen
 
 record TakesFields (k : ℕ) (in_array : Bool) (seen : List Field) (bytes : List ℕ) (last : ℕ) (all : List Field) : Type 0 where
   more : List Field
@@ -133,7 +133,7 @@ closed_takes last at seen all e =
       | inr h ↦ let b = bind_ok (kind_at last at) (λ kind. Err BadLength) all h.1 in absurd (cc b.2)
     ]
 
--- one field in front of those behind it
+-- one field before those that follow it
 field_then : (k : ℕ) (in_array : Bool) (seen : List Field) (b : ℕ) (bytes : List ℕ) (last : ℕ) (all : List Field) (kind : Kind) (name : List ℕ × List ℕ) (value : Tree × List ℕ) →
     b ≡ type_byte kind → bytes ≡ name.0 ++ 0 ∷ name.1 → IsNamed in_array seen name.0 → TakesValue k kind name.1 value → TakesFields k in_array (seen ++ (name.0, value.0) ∷ []) value.1 last all →
     TakesFields k in_array seen (b ∷ bytes) last all

@@ -1,4 +1,4 @@
--- An element that is read part by part: what is read of each part, or the first part's fault.
+-- An element that is read part by part: what is read of each part, or the fault of the first part that has one.
 use Rattle.std.proofs.Common.{◌≡◌, ℕ, ◌+◌, ◌-◌, Bool, List, length, Result, Ok, Err, refl}
 use Rattle.dv_value.specs.declared.kind.Kind.{Kind}
 use Rattle.dv_value.specs.declared.fault.BsonFault.{BsonFault}

@@ -1,4 +1,4 @@
--- Elements that are gone over, and not made.
+-- Elements that are checked, and not made.
 use Rattle.std.proofs.Common.{◌≡◌, ℕ, zero, suc, ◌+◌, ◌-◌, ◌<◌, Bool, true, false, List, [], ◌∷◌, ◌++◌, length, map, Result, Ok, Err, refl, sym, ap, subst, ◌∙◌, arith}
 use Rattle.std.proofs.lemmas.List.{map-append}
 use Rattle.dv_value.specs.declared.fault.BsonFault.{BsonFault}
@@ -42,7 +42,7 @@ pub closes : {X : Type 0} (r : Result X ReadError) (seen : List Field) (read tot
 closes (Ok x) seen read total given same = (seen, sym same ∙ given)
 closes (Err e) seen read total given same = subst (λ (t : Result (List Field) BsonFault). Fails e t) same given
 
--- ---- fields with these names, or so many of them
+-- ---- fields with these names, or with this number of them
 
 pub names-bare : (names : List (List ℕ)) → map (λ (f : Field). f.0) (map bare names) ≡ names
 names-bare [] = refl
@@ -54,7 +54,7 @@ so_many (suc n) = let less = so_many n in (bare [] ∷ less.0, ap suc less.1)
 
 -- ---- a value
 
--- what reading a value leaves behind it
+-- the bytes that reading a value leaves
 abbrev Leaves : Result (Tree × List ℕ) BsonFault → List ℕ → Type 0
 Leaves read rest = (value : Tree × List ℕ) × (read ≡ Ok value) × (value.1 ≡ rest)
 

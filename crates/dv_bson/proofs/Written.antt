@@ -1,4 +1,4 @@
--- Bytes that are put over others, part by part, and a length that is put in front of them.
+-- Bytes that are put over others, part by part, and a length that is put before them.
 use Rattle.std.proofs.Common.{◌≡◌, ℕ, ◌+◌, ◌-◌, ◌≤◌, List, [], ◌∷◌, ◌++◌, length, take, drop, replicate, refl, sym, ap, subst, ◌∙◌, append_assoc, length-append, length-drop, arith}
 use Rattle.std.proofs.Math.Seq.{take-append-add, drop-append-add, take-append_seam}
 use Rattle.std.specs.Int.{w32, to_le_bytes}
@@ -19,7 +19,7 @@ unfolding with_bytes_at
 length-with_bytes_at at bytes out le =
     omega (arith, length-append (take at out) (bytes ++ drop (at + length bytes) out), length-append bytes (drop (at + length bytes) out), length-take-le at out (omega arith), length-drop (at + length bytes) out)
 
--- a part, and another one behind it
+-- a part, and another one after it
 part_behind : (at : ℕ) (a b out : List ℕ) → at ≤ length out → with_bytes_at (at + length a) b (with_bytes_at at a out) ≡ with_bytes_at at (a ++ b) out
 unfolding with_bytes_at
 part_behind at a b out le =
@@ -30,7 +30,7 @@ part_behind at a b out le =
     let end : at + length a + length b ≡ at + length (a ++ b) = omega (arith, length-append a b) in
     rw (front, back, end) (append_assoc (take at out) a (b ++ drop (at + length (a ++ b)) out) ∙ ap (λ (bytes : List ℕ). take at out ++ bytes) (sym (append_assoc a b (drop (at + length (a ++ b)) out))))
 
--- where the part behind was put first
+-- the same if the second part was put first
 part_before : (at middle : ℕ) (a b out : List ℕ) → middle ≡ at + length a → middle ≤ length out → with_bytes_at at a (with_bytes_at middle b out) ≡ with_bytes_at at (a ++ b) out
 unfolding with_bytes_at
 part_before at middle a b out e le =
@@ -84,7 +84,7 @@ put_both at a b old new newer middle end p q =
 
 -- ---- parts that are put in a loop
 
--- putting the rest is what is left of putting the whole
+-- putting the rest completes putting the whole
 pub record IsLeft (at : ℕ) (left out : List ℕ) (start : ℕ) (whole first : List ℕ) : Type 0 where
   pub within : start + length whole ≤ length first
   pub same : length out ≡ length first
@@ -121,13 +121,13 @@ module _ (at : ℕ) (left out : List ℕ) (start : ℕ) (whole first : List ℕ)
         ends = omega (arith, so_far.ends, no_length);
       }
 
--- ---- the spelling's parts
+-- ---- the parts of the encoding
 
 framed-is : (count elements : List ℕ) → count ≡ to_le_bytes w32 (length elements + 5) → count ++ (elements ++ 0 ∷ []) ≡ framed elements
 unfolding framed
 framed-is count elements e = ap (λ (bytes : List ℕ). bytes ++ (elements ++ 0 ∷ [])) e
 
--- elements, the closing zero behind them, and then the length in front
+-- elements, the closing zero after them, and then the length before them
 pub framed_put : (start at end last : ℕ) (count elements first out closed new : List ℕ) → IsPut (start + 4) elements first out at → IsPut at (0 ∷ []) out closed end → IsPut start count closed new last → count ≡ to_le_bytes w32 (end - start)
     → IsPut start (framed elements) first new end
 framed_put start at end last count elements first out closed new p q r e =
@@ -181,7 +181,7 @@ at_end start size n old bytes at long whole =
     let back : drop (start + length bytes) (old ++ replicate (n - start) 0) ≡ [] = drop_all (start + length bytes) (old ++ replicate (n - start) 0) (omega (arith, length-append old (replicate (n - start) 0), length-replicate {A = ℕ} (n - start) 0)) in
     rw (kept, front, back, append-nil) refl
 
--- bytes that were put behind the old ones, where room was made for them
+-- bytes that were put after the old ones, where room was made for them
 pub appended : (start size n len whole end : ℕ) (old bytes seen items new : List ℕ) → start ≡ length old → len ≡ length old → n ≡ start + size → size ≡ length bytes → items ≡ take n old ++ replicate (n - len) 0 → seen ≡ items → whole ≡ length items
     → IsPut start bytes seen new end → take whole (new ++ drop (length new) items) ≡ old ++ bytes
 appended start size n len whole end old bytes seen items new at is_len long is_size is_items is_seen is_whole p =

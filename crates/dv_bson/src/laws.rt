@@ -10,7 +10,8 @@ pub use dv_value::laws::{
     where_a_field_stands_is_no_matter,
 };
 
-/// No encoding begins another one, and an encoding has one document: so what was written is read again, whatever follows it.
+/// No encoding is a prefix of another one, and each belongs to one document: so what was written is read again, whatever follows
+/// it.
 pub fn no_spelling_begins_another()
     ensures { (d e : List Field) (a b x y : List ℕ) → Spells d a → Spells e b → a ++ x ≡ b ++ y → (a ≡ b) × (d ≡ e) }
 {}

@@ -1,8 +1,8 @@
-//! What parts of a document that was read before are like parts of the one that is read: only names are taken over from there.
+//! The parts of an earlier document that correspond to parts of the one that is read: only their names are reused.
 
 use dv_value::{Document, Value};
 
-/// The value where it is a document.
+/// The value, if it is a document.
 pub(crate) fn document_like(value: Option<&Value>) -> Option<&Document> {
     match value {
         Some(Value::Doc(document)) => Some(document),
@@ -10,7 +10,7 @@ pub(crate) fn document_like(value: Option<&Value>) -> Option<&Document> {
     }
 }
 
-/// The first element, where the value is an array that has one.
+/// The first element, if the value is an array that has one.
 pub(crate) fn element_like(value: Option<&Value>) -> Option<&Value> {
     match value {
         Some(Value::Array(list)) => list.as_slice().first(),

@@ -18,9 +18,8 @@ use crate::reading::{
 use dv_value::{BsonFault, Document, FRAME, Fields, Kind, List, MAX_LEVELS, NoMemory, Value};
 use std::alloc::Global;
 
-/// A value of this type, which stands at `at` in the outermost document, with so many levels left inside
-/// it, and the bytes behind it. A value that is `like` it, if there is one, has the names that are to be expected: what
-/// is read is the same whatever that is.
+/// A value of this type, which is at `at` in the outermost document, with `levels` levels left inside it, and the bytes after it.
+/// `like`, if there is one, is a value that has the names that are expected: what is read is the same whatever it is.
 #[cycle(reader)]
 #[tactic(auto, unfolding(crate::specs::Reading::value_at))]
 fn value_of<'a>(
@@ -77,7 +76,7 @@ fn value_of<'a>(
     }
 }
 
-/// The name and the value of the field at the front, behind those of `before`, and the bytes behind it.
+/// The name and the value of the field at the front, which follows those of `before`, and the bytes after it.
 #[cycle(reader)]
 #[tactic(auto, unfolding(crate::specs::Inner::Parts::field_at))]
 fn field_of<'a>(
@@ -100,7 +99,7 @@ fn field_of<'a>(
     Ok((name, value, after))
 }
 
-/// The element at the front of an array's rest, behind those of `before`, and the bytes behind it.
+/// The element at the front of the rest of an array, which follows those of `before`, and the bytes after it.
 #[cycle(reader)]
 #[tactic(auto, unfolding(crate::specs::Inner::Parts::field_at))]
 fn element_of<'a>(
@@ -123,8 +122,8 @@ fn element_of<'a>(
     value_of(alloc, levels, kind, like, at, rest)
 }
 
-/// Whether a document is closed where its elements end: by a zero as its last byte. Another last byte is
-/// looked at as the type byte of an element that lacks its name.
+/// Checks that a document is closed where its elements end, by a zero as its last byte. Another last byte is treated as the type
+/// byte of an element that lacks its name.
 pub(crate) fn closed(last: u8, at: usize) -> Result<(), ReadError>
     ensures { (seen : Entries Field) → Gives (λ _. seen) result (closed_by last at seen) }
 {
@@ -135,16 +134,16 @@ pub(crate) fn closed(last: u8, at: usize) -> Result<(), ReadError>
     Err(ReadError::Fault(BsonFault::BadLength))
 }
 
-/// For how many fields room is made before the first is read, where so many bytes of elements are there: for as many
-/// as a document of that length often has, so that fields are seldom moved, and never for many.
+/// For how many fields room is made before the first is read, if the elements have `len` bytes: for as many as a document of that
+/// length often has, so that fields are seldom moved, and for at most 12.
 pub(crate) fn first_room(len: usize) -> usize
     ensures { result ≤ 12 }
 {
     if len == 0 { 0 } else { (len / 20).clamp(4, 12) }
 }
 
-/// The value of the field at the front, behind those of `before`, and the bytes behind it, where the field has the name that `like`
-/// has at its place.
+/// The value of the field at the front, which follows those of `before`, and the bytes after it, if the field has the name that
+/// `like` has at its place.
 #[cycle(reader)]
 fn value_like_next<'a>(
     alloc: Global,
@@ -177,7 +176,7 @@ struct Begun<'a> {
     fields: Fields,
     /// Where the next element is.
     at: usize,
-    /// The bytes of the elements behind these fields.
+    /// The bytes of the elements after these fields.
     rest: &'a [u8],
 }
 
@@ -210,7 +209,7 @@ fn begin_like<'a>(
     Ok(Begun { fields, at, rest })
 }
 
-/// The same, or none where there is no `like`.
+/// The same, or no fields if there is no `like`.
 #[cycle(reader)]
 fn begin<'a>(
     alloc: Global,
@@ -235,8 +234,8 @@ fn begin<'a>(
     })
 }
 
-/// The document whose elements these are, the first of them at `at` in the outermost document, with so many
-/// levels left, itself among them.
+/// The document with these elements, the first of them at `at` in the outermost document, with `levels` levels left, its own
+/// included.
 #[cycle(reader)]
 fn document_of(
     alloc: Global,
@@ -268,7 +267,7 @@ fn document_of(
     Ok(Document::of(alloc, fields, (elements.len() + FRAME) as u32)?)
 }
 
-/// Puts an element behind the others, which so many bytes begin, and so many follow.
+/// Adds an element after the others. `left` bytes were left before it was read, and `behind` bytes follow it.
 fn add_element(
     values: &mut Vec<Value>,
     value: Value,
@@ -285,8 +284,8 @@ fn add_element(
     Ok(())
 }
 
-/// For how many elements room is made with the first one, which so many bytes begin, and so many follow: for as many as there are
-/// if all are as long as that, so that elements are seldom moved, and never for many.
+/// For how many elements room is made with the first one: for as many as there are if all are as long as this, so that elements are
+/// seldom moved, and for at most 12. `left` bytes were left before it was read, and `behind` bytes follow it.
 fn room_behind(left: usize, behind: usize) -> usize
     requires { behind < left }
     ensures { result ≤ 12 }
@@ -294,8 +293,7 @@ fn room_behind(left: usize, behind: usize) -> usize
     (left / (left - behind)).min(12)
 }
 
-/// The array whose elements these are, the first of them at `at` in the outermost document, with so many
-/// levels left, itself among them.
+/// The array with these elements, the first of them at `at` in the outermost document, with `levels` levels left, its own included.
 #[cycle(reader)]
 fn list_of(
     alloc: Global,
@@ -325,8 +323,7 @@ fn list_of(
     Ok(List::of(values))
 }
 
-/// The document at the front, and its length. A document that it is `like`, if there is one, has the names that are to be
-/// expected.
+/// The document at the front, and its length. `like`, if there is one, is a document that has the names that are expected.
 fn outermost_of(
     alloc: Global,
     like: Option<&Document>,
@@ -358,9 +355,9 @@ fn outermost_of(
 ///   index;
 /// - `NoMemory`: memory ran out, at any time.
 pub fn read_document(alloc: Global, bytes: &[u8]) -> Result<(Document, usize), BsonFault>
-    // What is read is spelled so, and fits.
+    // The bytes begin with the encoding of what is read, which fits.
     ensures found { IfOk result (λ read. (read.1 ≤ length bytes.now) × Spells read.0 (take read.1 bytes.now) × Fits read.0) }
-    // What is spelled at the front and fits is read, unless memory runs out.
+    // If the bytes begin with the encoding of a document that fits, it is read, unless memory runs out.
     ensures only { EachSpelled bytes.now (λ d spelled. MatchResult result (λ read. (read.0 ≡ d) × (read.1 ≡ length spelled)) (λ e. e ≡ BsonFault.NoMemory)) }
     // Which document, or which fault it is.
     ensures exact { IfOk result (λ read. document_at bytes.now ≡ Ok (read.0, read.1)) }
@@ -377,9 +374,9 @@ pub fn read_document_like(
     bytes: &[u8],
     like: &Document,
 ) -> Result<(Document, usize), BsonFault>
-    // What is read is spelled so, and fits.
+    // The bytes begin with the encoding of what is read, which fits.
     ensures found { IfOk result (λ read. (read.1 ≤ length bytes.now) × Spells read.0 (take read.1 bytes.now) × Fits read.0) }
-    // What is spelled at the front and fits is read, unless memory runs out.
+    // If the bytes begin with the encoding of a document that fits, it is read, unless memory runs out.
     ensures only { EachSpelled bytes.now (λ d spelled. MatchResult result (λ read. (read.0 ≡ d) × (read.1 ≡ length spelled)) (λ e. e ≡ BsonFault.NoMemory)) }
     // Which document, or which fault it is.
     ensures exact { IfOk result (λ read. document_at bytes.now ≡ Ok (read.0, read.1)) }

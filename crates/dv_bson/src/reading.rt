@@ -1,4 +1,4 @@
-//! What stands at the front of bytes: a count, a type, a name, a text, a number, or the frame of a document.
+//! What is at the start of bytes: a count, a type, a name, a text, a number, or the frame of a document.
 
 ghost use Rattle.std.specs.Prelude.{◌≡◌, ◌≤◌, ◌<◌, ◌+◌, ◌==◌, ◌||◌, Ok, List as Entries, nat_lt, true, false, length, drop, map, decimal, position, MatchResult, IfSome, IfOk};
 ghost use Rattle.std.specs.Option.{option_map};
@@ -25,12 +25,12 @@ pub(crate) struct Frame<'a> {
     pub(crate) elements: &'a [u8],
     /// Its last byte.
     pub(crate) last: u8,
-    /// The bytes behind it.
+    /// The bytes after it.
     pub(crate) rest: &'a [u8],
 }
 
-/// The count that a little-endian int32 gives, and the bytes behind it; nothing where fewer than four bytes
-/// are left. A negative count is given as 0, since either is too small wherever a count stands.
+/// The count that a little-endian int32 gives, and the bytes after it; `None` if fewer than four bytes are left. A negative count
+/// is returned as 0, since both are too small wherever such a count is read.
 #[tactic(auto, unfolding(crate::specs::Reading::count_at))]
 pub(crate) fn count_of(bytes: &[u8]) -> Option<(usize, &[u8])>
     ensures count { option_map (λ x. x.0) result ≡ count_at bytes.now }
@@ -45,7 +45,7 @@ pub(crate) fn count_of(bytes: &[u8]) -> Option<(usize, &[u8])>
     }
 }
 
-/// The type that a byte in front of a name stands for (BSON 1.1, "element"), if it is one that is supported.
+/// The type that the byte before a name stands for (BSON 1.1, "element"), if it is supported.
 #[tactic(auto, unfolding(crate::specs::Reading::kind_of_byte))]
 fn kind_of_byte(byte: u8) -> Option<Kind>
     ensures { result ≡ kind_of_byte byte }
@@ -68,7 +68,7 @@ fn kind_of_byte(byte: u8) -> Option<Kind>
     }
 }
 
-/// The type that a type byte stands for, which stands at `at` in the outermost document.
+/// The type that a type byte stands for. The byte is at `at` in the outermost document.
 #[tactic(auto, unfolding(crate::specs::Reading::kind_at))]
 pub(crate) fn kind_of(byte: u8, at: usize) -> Result<Kind, ReadError>
     ensures { Gives (λ kind. kind) result (kind_at byte at) }
@@ -82,8 +82,7 @@ pub(crate) fn kind_of(byte: u8, at: usize) -> Result<Kind, ReadError>
     }
 }
 
-/// The type of the element at the front, which stands at `at` in the outermost document, and the bytes
-/// behind its type byte.
+/// The type of the element at the front, which is at `at` in the outermost document, and the bytes after its type byte.
 #[tactic(auto, unfolding(crate::specs::Inner::Parts::front_kind_at))]
 pub(crate) fn front_kind_of(bytes: &[u8], at: usize) -> Result<(Kind, &[u8]), ReadError>
     ensures { Gives (λ x. (x.0, x.1.now)) result (front_kind_at at bytes.now) }
@@ -112,7 +111,7 @@ fn first_zero_in(bytes: &[u8]) -> Option<usize>
     bytes.iter().position(|byte| *byte == 0)
 }
 
-/// The bytes before the first zero, and those behind it.
+/// The bytes before the first zero, and those after it.
 fn cut_of(bytes: &[u8]) -> Option<(&[u8], &[u8])>
     ensures { option_map (λ cut. (cut.0.now, cut.1.now)) result ≡ cut_at_zero bytes.now }
 {
@@ -127,8 +126,8 @@ fn ascii_end_in(bytes: &[u8]) -> Option<usize>
     bytes.iter().position(|byte| *byte == 0 || 127 < *byte)
 }
 
-/// A name, and the bytes behind its closing zero, where the name is ASCII, as most are: then one look at each byte
-/// finds its end and that it is UTF-8.
+/// A name, and the bytes after its closing zero, if the name is ASCII, as most are: then each byte is read only once to find its
+/// end and that it is UTF-8.
 fn ascii_name_of(bytes: &[u8]) -> Option<(&str, &[u8])>
     ensures { IfSome result (λ x. any_name_at bytes.now ≡ Ok (x.0.now, x.1.now)) }
 {
@@ -140,7 +139,7 @@ fn ascii_name_of(bytes: &[u8]) -> Option<(&str, &[u8])>
     Some((name, &bytes[end + 1..]))
 }
 
-/// A name, and the bytes behind its closing zero.
+/// A name, and the bytes after its closing zero.
 #[tactic(auto, unfolding(crate::specs::Inner::Parts::any_name_at))]
 fn name_of(bytes: &[u8]) -> Result<(&str, &[u8]), ReadError>
     ensures { Gives (λ x. (x.0.now, x.1.now)) result (any_name_at bytes.now) }
@@ -154,8 +153,8 @@ fn name_of(bytes: &[u8]) -> Result<(&str, &[u8]), ReadError>
     Ok((utf8_of(name)?, rest))
 }
 
-/// The bytes behind this name and its closing zero, where these stand at the front: the name is known to be a text without a
-/// zero, which no field before it has.
+/// The bytes after this name and its closing zero, if these are at the front. The name is known to be a text without a zero, and no
+/// field before it has this name.
 #[inline]
 pub(crate) fn behind_name<'a>(name: &str, bytes: &'a [u8]) -> Option<&'a [u8]>
     ensures { IfSome result (λ rest. (seen : Entries Field) → has_name name.now seen ≡ false → has_zero name.now ≡ false → name_at false seen bytes.now ≡ Ok (name.now, rest.now)) }
@@ -167,7 +166,7 @@ pub(crate) fn behind_name<'a>(name: &str, bytes: &'a [u8]) -> Option<&'a [u8]>
     Some(&bytes[end + 1..])
 }
 
-/// The name of a field that stands behind those of `before`, and the bytes behind its closing zero.
+/// The name of a field that follows those of `before`, and the bytes after its closing zero.
 #[tactic(auto, using(crate::proofs::Fronts::no_name))]
 pub(crate) fn field_name_of<'a>(
     before: &Fields,
@@ -182,7 +181,7 @@ pub(crate) fn field_name_of<'a>(
     Ok((name, rest))
 }
 
-/// The name of a field that stands behind those with these names, and the bytes behind its closing zero.
+/// The name of a field that follows those with these names, and the bytes after its closing zero.
 #[tactic(auto, using(crate::proofs::Fronts::no_name))]
 pub(crate) fn new_name_of<'a>(
     names: &Names,
@@ -197,7 +196,7 @@ pub(crate) fn new_name_of<'a>(
     Ok((name, rest))
 }
 
-/// The bytes behind the name of an array's element at this place, which has to be the place as a decimal number.
+/// The bytes after the name of an array's element at this place. The name has to be the place as a decimal number.
 #[tactic(auto, using(crate::proofs::Fronts::no_name))]
 pub(crate) fn behind_index(place: usize, bytes: &[u8]) -> Result<&[u8], ReadError>
     ensures { (seen : Entries Field) → length seen ≡ place → Gives (λ rest. (decimal place, rest.now)) result (name_at true seen bytes.now) }
@@ -214,7 +213,7 @@ pub(crate) fn behind_index(place: usize, bytes: &[u8]) -> Result<&[u8], ReadErro
     }
 }
 
-/// The same where the place has one digit, and that stands there.
+/// The same if the place has one digit and the name is that digit.
 fn behind_digit(place: usize, bytes: &[u8]) -> Option<&[u8]>
     ensures { IfSome result (λ rest. (seen : Entries Field) → length seen ≡ place → name_at true seen bytes.now ≡ Ok (decimal place, rest.now)) }
 {
@@ -228,7 +227,7 @@ fn behind_digit(place: usize, bytes: &[u8]) -> Option<&[u8]>
     }
 }
 
-/// A text as it lies in the bytes, and those behind it: a count of its bytes and the closing zero, the bytes, the zero.
+/// A text without a copy, and the bytes after it. It is encoded as a count of its bytes and the closing zero, its bytes, the zero.
 #[tactic(auto, unfolding(crate::specs::Reading::text_at))]
 pub(crate) fn counted_text_of(bytes: &[u8]) -> Result<(&str, &[u8]), ReadError>
     ensures { Gives (λ x. (x.0.now, x.1.now)) result (text_at bytes.now) }
@@ -243,7 +242,7 @@ pub(crate) fn counted_text_of(bytes: &[u8]) -> Result<(&str, &[u8]), ReadError>
     Ok((text, &counted[count..]))
 }
 
-/// A text of its own, and the bytes behind it.
+/// A copy of a text, and the bytes after it.
 pub(crate) fn text_of(alloc: Global, bytes: &[u8]) -> Result<(Str, &[u8]), ReadError>
     ensures { Gives (λ x. (x.0, x.1.now)) result (text_at bytes.now) }
 {
@@ -297,7 +296,7 @@ pub(crate) fn outermost_frame_of(bytes: &[u8]) -> Result<(Frame<'_>, usize), Rea
     Ok((framed(len, bytes), len))
 }
 
-/// A boolean, and the bytes behind it.
+/// A boolean, and the bytes after it.
 pub(crate) fn boolean_of(bytes: &[u8]) -> Result<(Value, &[u8]), ReadError>
     ensures { Gives (λ x. (tree x.0, x.1.now)) result (boolean_at bytes.now) }
 {
@@ -309,7 +308,7 @@ pub(crate) fn boolean_of(bytes: &[u8]) -> Result<(Value, &[u8]), ReadError>
     }
 }
 
-/// A little-endian int32, and the bytes behind it.
+/// A little-endian int32, and the bytes after it.
 pub(crate) fn int32_of(bytes: &[u8]) -> Result<(Value, &[u8]), ReadError>
     ensures { Gives (λ x. (tree x.0, x.1.now)) result (signed_at w32 int32 bytes.now) }
 {
@@ -319,7 +318,7 @@ pub(crate) fn int32_of(bytes: &[u8]) -> Result<(Value, &[u8]), ReadError>
     Ok((Value::Int32(i32::from_le_bytes(*front)), rest))
 }
 
-/// A little-endian int64, and the bytes behind it.
+/// A little-endian int64, and the bytes after it.
 pub(crate) fn int64_of(bytes: &[u8]) -> Result<(Value, &[u8]), ReadError>
     ensures { Gives (λ x. (tree x.0, x.1.now)) result (signed_at w64 int64 bytes.now) }
 {
@@ -329,7 +328,7 @@ pub(crate) fn int64_of(bytes: &[u8]) -> Result<(Value, &[u8]), ReadError>
     Ok((Value::Int64(i64::from_le_bytes(*front)), rest))
 }
 
-/// A little-endian int64 as a time, and the bytes behind it.
+/// A little-endian int64 as a time, and the bytes after it.
 pub(crate) fn date_of(bytes: &[u8]) -> Result<(Value, &[u8]), ReadError>
     ensures { Gives (λ x. (tree x.0, x.1.now)) result (signed_at w64 date bytes.now) }
 {
@@ -339,7 +338,7 @@ pub(crate) fn date_of(bytes: &[u8]) -> Result<(Value, &[u8]), ReadError>
     Ok((Value::Date(i64::from_le_bytes(*front)), rest))
 }
 
-/// A little-endian timestamp, and the bytes behind it.
+/// A little-endian timestamp, and the bytes after it.
 pub(crate) fn timestamp_of(bytes: &[u8]) -> Result<(Value, &[u8]), ReadError>
     ensures { Gives (λ x. (tree x.0, x.1.now)) result (first_bytes 8 (λ front. timestamp (from_le_bytes w64 front)) bytes.now) }
 {
@@ -349,7 +348,7 @@ pub(crate) fn timestamp_of(bytes: &[u8]) -> Result<(Value, &[u8]), ReadError>
     Ok((Value::Timestamp(u64::from_le_bytes(*front)), rest))
 }
 
-/// An ObjectId, and the bytes behind it.
+/// An ObjectId, and the bytes after it.
 pub(crate) fn object_id_of(bytes: &[u8]) -> Result<(Value, &[u8]), ReadError>
     ensures { Gives (λ x. (tree x.0, x.1.now)) result (first_bytes 12 object_id bytes.now) }
 {
@@ -359,7 +358,8 @@ pub(crate) fn object_id_of(bytes: &[u8]) -> Result<(Value, &[u8]), ReadError>
     Ok((Value::ObjectId(*front), rest))
 }
 
-/// A binary's subtype, its bytes as they lie there, and those behind it: a count of its bytes, the subtype, the bytes.
+/// A binary's subtype, its own bytes without a copy, and the bytes after it. It is encoded as a count of its bytes, the subtype,
+/// its bytes.
 #[tactic(auto, unfolding(crate::specs::Reading::binary_at))]
 pub(crate) fn counted_binary_of(bytes: &[u8]) -> Result<(u8, &[u8], &[u8]), ReadError>
     ensures { Gives (λ x. (binary x.0 x.1.now, x.2.now)) result (binary_at bytes.now) }
@@ -378,7 +378,7 @@ pub(crate) fn counted_binary_of(bytes: &[u8]) -> Result<(u8, &[u8], &[u8]), Read
     Ok((*subtype, own, rest))
 }
 
-/// A binary, and the bytes behind it.
+/// A binary, and the bytes after it.
 pub(crate) fn binary_of(alloc: Global, bytes: &[u8]) -> Result<(Value, &[u8]), ReadError>
     ensures { Gives (λ x. (tree x.0, x.1.now)) result (binary_at bytes.now) }
 {

@@ -16,7 +16,7 @@ use crate::reading::{
 use dv_value::{BsonFault, Kind, MAX_LEVELS, Names, Value};
 use std::alloc::Global;
 
-/// The bytes behind a value that takes no memory.
+/// The bytes after a value that takes no memory.
 fn behind<'a>(value: Result<(Value, &'a [u8]), ReadError>) -> Result<&'a [u8], ReadError>
     ensures { EndsAs (λ x. (tree x.0, x.1.now)) value.entry (λ rest. rest.now) result }
 {
@@ -24,8 +24,7 @@ fn behind<'a>(value: Result<(Value, &'a [u8]), ReadError>) -> Result<&'a [u8], R
     Ok(rest)
 }
 
-/// The bytes behind a value of this type, which stands at `at` in the outermost document, with so many levels left inside
-/// it.
+/// The bytes after a value of this type, which is at `at` in the outermost document, with `levels` levels left inside it.
 #[cycle(walk)]
 #[tactic(auto, unfolding(crate::specs::Reading::value_at))]
 fn behind_value(
@@ -69,7 +68,7 @@ fn behind_value(
     }
 }
 
-/// The name of the field at the front, behind those with these names, and the bytes behind the field.
+/// The name of the field at the front, which follows those with these names, and the bytes after the field.
 #[cycle(walk)]
 fn behind_field<'a>(
     alloc: Global,
@@ -89,7 +88,7 @@ fn behind_field<'a>(
     Ok((name, after))
 }
 
-/// The bytes behind the element at the front of an array's rest, at this place of the array.
+/// The bytes after the element at the front of the rest of an array, at this place of the array.
 #[cycle(walk)]
 fn behind_element(
     alloc: Global,
@@ -108,8 +107,8 @@ fn behind_element(
     behind_value(alloc, levels, kind, at, rest)
 }
 
-/// Goes over the elements of a document, the first of them at `at` in the outermost document, with so many levels left,
-/// itself among them.
+/// Checks the elements of a document, the first of them at `at` in the outermost document, with `levels` levels left, its own
+/// included.
 #[cycle(walk)]
 fn walk_document(
     alloc: Global,
@@ -135,7 +134,7 @@ fn walk_document(
     closed(last, at)
 }
 
-/// As `walk_document`, over the elements of an array.
+/// As `walk_document`, for the elements of an array.
 #[cycle(walk)]
 fn walk_list(
     alloc: Global,
@@ -173,11 +172,11 @@ fn outermost_len(alloc: Global, bytes: &[u8]) -> Result<usize, ReadError>
 /// Checks the document that the bytes begin with, and returns its length in bytes: as `read_document`, with the same limits and the
 /// same faults, but no document is made. Memory is taken only for the names of the fields.
 pub fn check_document(alloc: Global, bytes: &[u8]) -> Result<usize, BsonFault>
-    // What passes is the spelling of a document, which fits.
+    // What passes is the encoding of a document that fits.
     ensures found { IfOk result (λ len. (d : Entries Field) × (len ≤ length bytes.now) × Spells d (take len bytes.now) × Fits d) }
-    // What is spelled at the front and fits passes, unless memory runs out.
+    // If the bytes begin with the encoding of a document that fits, it passes, unless memory runs out.
     ensures only { EachSpelled bytes.now (λ d spelled. MatchResult result (λ len. len ≡ length spelled) (λ e. e ≡ BsonFault.NoMemory)) }
-    // How long the document is that would be read, or which fault it is.
+    // The length of the document that would be read, or which fault it is.
     ensures exact { IfOk result (λ len. (d : Entries Field) × (document_at bytes.now ≡ Ok (d, len))) }
     ensures refused { IfErr result (λ e. (e ≡ BsonFault.NoMemory) ⊎ (first_fault bytes.now ≡ Some e)) }
 {

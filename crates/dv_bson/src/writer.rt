@@ -29,7 +29,7 @@ pub fn write_document(document: &Document, out: &mut Vec<u8>) -> Result<(), Bson
     Ok(())
 }
 
-/// Puts the bytes over those that stand at `at`. Returns where they end, as all that follow here do for what they put.
+/// Puts the bytes over those at `at`. Returns where they end, as all functions below do for what they put.
 #[inline]
 fn put(bytes: &[u8], out: &mut [u8], at: usize) -> usize
     requires { at + length bytes.now ≤ length out.old }
@@ -96,7 +96,7 @@ fn put_value(value: &Value, out: &mut [u8], at: usize) -> usize
     }
 }
 
-/// A value behind its type byte and its name.
+/// A value, after its type byte and its name.
 #[cycle(writer)]
 fn put_element(name: &str, value: &Value, out: &mut [u8], at: usize) -> usize
     requires within { at + length (element_spelling (kind_of (tree value.now)) name.now (payload (tree value.now))) ≤ length out.old }

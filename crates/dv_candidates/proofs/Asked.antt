@@ -1,4 +1,4 @@
--- What a fold says that stops where a test passes, and lists of candidates built one by one.
+-- What a fold returns that stops where a test passes, and lists of candidates built one by one.
 use Rattle.std.proofs.Common.{◌≡◌, Bool, true, false, List, [], ◌∷◌, ◌++◌, map, Some, None, slice_get, Result, Ok, Err, ℕ, zero, suc, ◌+◌, ◌<◌, ◌≤◌, length, take, drop, drop_of_length-le, get_or, refl, ap, sym, ◌∙◌, arith, add-one, append_assoc, append-nil}
 use Rattle.std.specs.Result.{is_err}
 use Rattle.std.specs.List.{list_any, flat_map, FoldsTo}
@@ -32,7 +32,7 @@ module _ {T X E : Type 0} {seen : X → Candidate} (call : T → X → Result T 
       let failed : test c ≡ false = ap test (sym h.1.is) ∙ fails t h.1.at h.0 h.1.gives in
       rw (failed, none_passed fails h.0 u cs h.2) refl
 
-  -- a fold that stops where the test passes tells whether it does somewhere
+  -- a fold that stops where the test passes returns an error exactly if it passes somewhere
   pub stopped-where : (fails : (t : T) (x : X) (u : T) → call t x (Ok u) → test (seen x) ≡ false) (passes : (t : T) (x : X) (e : E) → call t x (Err e) → test (seen x) ≡ true) (cs : List Candidate) (t : T) (r : Result T E) → Folded seen call (PassesOne cs) t r → is_err r ≡ list_any test cs
   stopped-where fails passes cs t (Ok u) h =
       let all = h.outcome in
@@ -42,12 +42,12 @@ module _ {T X E : Type 0} {seen : X → Candidate} (call : T → X → Result T 
       let last : test some.last ≡ true = ap test (sym some.stops.is) ∙ passes some.reached some.stops.at e some.stops.gives in
       sym (some.only test (any-right test some.taken (some.last ∷ []) (or_left (test some.last) false last))).passes
 
--- one more item of a list that is gone through
+-- one more item of a list that is read
 pub flat_more : {X Y Z : Type 0} (f : Y → List Z) (view : X → Y) (xs : List X) (i : ℕ) (x : X) → i < length xs → x ≡ get_or xs i x → flat_map f (map view (take (i + 1) xs)) ≡ flat_map f (map view (take i xs)) ++ f (view x)
 flat_more f view xs i x within is =
     ap (λ ys. flat_map f (map view ys)) (take-read xs i x within is) ∙ ap (flat_map f) (map-append view (take i xs) (x ∷ [])) ∙ flat_map-append f (map view (take i xs)) (view x ∷ []) ∙ ap (λ zs. flat_map f (map view (take i xs)) ++ zs) (append-nil (f (view x)))
 
--- what is added behind what there was
+-- what is added after what there was
 pub grown : {X : Type 0} (now before start far added : List X) → now ≡ before ++ added → before ≡ start ++ far → now ≡ start ++ (far ++ added)
 grown now before start far added p q = p ∙ ap (λ l. l ++ added) q ∙ append_assoc start far added
 

@@ -7,7 +7,7 @@ use Rattle.dv_value.specs.Inner.TreeLaws.{fields_again}
 use Rattle.dv_candidates.specs.Candidates.{Candidate}
 use Rattle.dv_candidates.specs.Ways.{HasNoArray}
 
--- behind a value that is missing nothing stands
+-- after a missing value there is no array
 pub nothing-stands : (names : List (List ℕ)) → HasNoArray names None
 nothing-stands [] = tt
 nothing-stands (name ∷ names) = tt

@@ -1,4 +1,4 @@
--- Items that a loop or a call reads, as what is seen of them.
+-- Items that a loop or a call reads, and what they represent.
 use Rattle.std.proofs.Common.{◌≡◌, ℕ, zero, suc, ◌≤◌, ◌<◌, List, [], ◌∷◌, length, map, get_or, Option, Some, refl, ap, arith, Bool, true, false, if◌then◌else◌}
 use Rattle.std.specs.Str.{bytes_eq}
 use Rattle.dv_value.specs.declared.value.Value.{Value}

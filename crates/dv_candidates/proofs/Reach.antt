@@ -1,4 +1,4 @@
--- What the candidates of a path's rest are, one component on.
+-- The candidates of the rest of a path, one component further.
 use Rattle.std.proofs.Common.{◌≡◌, ℕ, zero, suc, ◌<◌, ◌⊎◌, inl, inr, ◌||◌, Bool, true, false, List, [], ◌∷◌, ◌++◌, length, drop, get_or, Option, Some, None, slice_get, refl, ap, sym, ◌∙◌, arith, append-nil}
 use Rattle.std.specs.List.{flat_map, list_any}
 use Rattle.std.proofs.Math.Seq.{drop-cons}

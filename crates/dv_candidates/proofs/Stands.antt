@@ -1,4 +1,4 @@
--- Where one way leads on.
+-- Where only one way leads on.
 use Rattle.std.proofs.Common.{◌≡◌, ℕ, suc, ◌+◌, ◌<◌, ◌≤◌, ◌==◌, nat_lt, min, inl, inr, Bool, true, false, List, [], ◌∷◌, length, drop, map, get_or, Option, Some, None, refl, ap, sym, ◌∙◌, arith, tests}
 use Rattle.std.specs.Int.{bit_at}
 use Rattle.std.specs.Option.{MatchOption, IfSome, option_map}
@@ -18,7 +18,7 @@ use Rattle.dv_candidates.proofs.Reach.{name_at, hits, hits-document}
 use Rattle.dv_candidates.proofs.Walks.{drop_behind, one_less, one_more}
 use Rattle.dv_candidates.proofs.WalkedArrays.{element-whole, whole-below, below-none, below-more}
 
--- going on from where a walk stands
+-- going on from where a walk is
 pub StandsFor-more : {W : (Candidate → Bool) → Type 0} {stand further : Stand} → StandsFor W stand → StandsFor (Reaches stand.components.now stand.places (Some (tree stand.value.now))) further → StandsFor W further
 StandsFor-more a b = record {
   within = b.within;
@@ -34,7 +34,7 @@ StandsFor-same to from a = record {
   reached = λ p h. a.reached p (from p h);
 }
 
--- a document, where all places have one name
+-- a document, if all places have one name
 module _ {names : List (List ℕ)} {s : Places} (before : IsBefore names s) where
   pub within-behind : IsWithin (drop 1 names) s
   within-behind = record { within = λ place h. one_less names place (before.before place h) }
@@ -90,7 +90,7 @@ near s place h =
     let within = (and_parts (nat_lt place 64) (bit_at s.mask place == 1) h).0 in
     grind (arith, tests)
 
--- the names before a place are one, if there are any
+-- the names at all places before an end are the same, if there are any
 pub record HaveNameBelow (names : List (List ℕ)) (s : Places) (end : ℕ) (name : Option (List ℕ)) : Type 0 where
   pub named : (place : ℕ) → has s place ≡ true → place < end → name ≡ Some (name_at names place)
 

@@ -91,7 +91,7 @@ module _ {names : List (List ℕ)} {s picking : Places} (index : ℕ) (v : Tree)
     passes = ap (λ ns. hits p ns (Some v)) (drop_behind names place) ∙ passes;
   }
 
-  -- an element that is no document is picked alone
+  -- an element that is no document is only picked
   pub element-only-picked : IsBefore names s → (IsDocument v → ⊥) → (p : Candidate → Bool) → ReachesElement names s index v p → Reaches (drop 1 names) picking (Some v) p
   element-only-picked before none p r = elim r.way [
     | inl w ↦ element-picked before p r.place r.inside w.0 w.1

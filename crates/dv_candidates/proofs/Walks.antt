@@ -26,7 +26,7 @@ picks-to k (Some j) h = let same : j ≡ k = grind (arith, tests) in ap Some sam
 pub picks-from : (k : ℕ) (o : Option ℕ) → o ≡ Some k → picks k o ≡ true
 picks-from k o e = rw e (let same : (k == k) ≡ true = grind (arith, tests) in same)
 
--- places one component on are no further than behind the last
+-- places one component further are not beyond the end
 pub one_less : (names : List (List ℕ)) (place : ℕ) → place < length names → place ≤ length (drop 1 names)
 one_less [] place h = absurd (omega arith)
 one_less (name ∷ names) place h = omega arith
@@ -154,7 +154,7 @@ module _ (names : List (List ℕ)) (s : Places) (fs : List Field) where
   abbrev pub Whole : (Candidate → Bool) → Type 0
   Whole = Reaches names s (Some (document (fields_of fs)))
 
-  -- what the places reach that are passed or done, where something is there
+  -- what the places reach that are passed or done and lead to something
   pub record ReachesThere (passed : ℕ) (done : Places) (p : Candidate → Bool) : Type 0 where
     pub place : ℕ
     pub inside : has s place ≡ true
@@ -256,7 +256,7 @@ module _ {names : List (List ℕ)} {s : Places} (fs : List Field) where
       passes = r.passes;
     }
 
-    -- a place where nothing is
+    -- a place that leads to nothing
     pub IsSorted-missing : has s passed ≡ true → value_at names s fs passed ≡ None → IsSorted names s fs passed done missing → IsSorted names s fs (passed + 1) done true
     IsSorted-missing inside none sorted = record {
       lacks = λ h. (passed, inside, none);
@@ -280,7 +280,7 @@ module _ {names : List (List ℕ)} {s : Places} (fs : List Field) where
       passes = r.passes;
     }
 
-    -- a place where a value is: all places of that name are walked together
+    -- a place that leads to a value: all places of that name are walked together
     module _ (same done' : Places) (name : List ℕ) (v : Tree) (is_name : name ≡ name_at names passed) (part : IsPart names s same (bytes_eq name)) (joined : (place : ℕ) → has done' place ≡ (has done place || has same place)) (value : value_at names s fs passed ≡ Some v) where
       value-same : (place : ℕ) → has same place ≡ true → value_at names s fs place ≡ Some v
       value-same place h = ap (λ n. value_under n fs) (sym (bytes_eq_same name (name_at names place) (part-test part place h)) ∙ is_name) ∙ value

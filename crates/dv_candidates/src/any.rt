@@ -1,4 +1,4 @@
-//! Asking the candidates of a path.
+//! Tests of the candidates of a path.
 
 ghost use Rattle.std.specs.Prelude.{◌≡◌, Bool, Some, map};
 ghost use Rattle.std.specs.List.{list_any};
@@ -12,8 +12,8 @@ use crate::path::Path;
 use crate::walk::fold_ways;
 use dv_value::{Document, List, Value};
 
-/// Whether one of the path's candidates passes. Takes no memory, and asks of each value of the document at most once
-/// for each of the path's components.
+/// Whether one of the path's candidates passes. Takes no memory, and tests each value of the document at most once for each of the
+/// path's components.
 pub fn any_whole<F: Fn(Candidate<'_>) -> bool>(document: &Document, path: &Path, passes: F) -> bool
     requires { F.IsAlwaysCallable passes }
     ensures { (test : candidates.Candidate → Bool) → Answers seen (λ x b. F.post passes x b) test → result ≡ list_any test (whole document.now path.now) }
@@ -24,8 +24,8 @@ pub fn any_whole<F: Fn(Candidate<'_>) -> bool>(document: &Document, path: &Path,
     stopped.is_err()
 }
 
-/// Whether one of the path's leaves passes: a candidate, or an element of one that is an array. Takes no memory, and
-/// asks of each value of the document at most once for each of the path's components.
+/// Whether one of the path's leaves passes: a candidate, or an element of one that is an array. Takes no memory, and tests each
+/// value of the document at most once for each of the path's components.
 pub fn any_leaf<F: Fn(Candidate<'_>) -> bool>(document: &Document, path: &Path, passes: F) -> bool
     requires { F.IsAlwaysCallable passes }
     ensures { (test : candidates.Candidate → Bool) → Answers seen (λ x b. F.post passes x b) test → result ≡ list_any test (leaves document.now path.now) }

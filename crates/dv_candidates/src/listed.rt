@@ -19,9 +19,9 @@ use std::alloc::Global;
 /// The candidates of the path, in order: the places to which it leads in the document.
 ///
 /// In a document, a component leads to the field of that name, and to Missing if there is none. In an array a whole number picks an
-/// element, and each element that is a document is entered, the one that is picked first; an array in which nothing is found adds
+/// element, and each element that is a document is entered; the picked element comes first. An array in which nothing is found adds
 /// no candidate. In any other value a component leads to Missing. There can be as many candidates as 2 to the power of half the
-/// path's length; `fold_whole` and `any_whole` look at each value once. Fails with `NoMemory` when memory runs out.
+/// path's length; `fold_whole` and `any_whole` do not walk to each of them separately. Fails with `NoMemory` when memory runs out.
 pub fn whole<'a>(
     alloc: Global,
     document: &'a Document,
@@ -54,7 +54,7 @@ pub fn leaves<'a>(
     Ok(leaves)
 }
 
-/// Adds a candidate, and behind an array its elements.
+/// Adds a candidate, and after an array its elements.
 fn push_with_elements<'a>(
     candidate: Candidate<'a>,
     leaves: &mut Vec<Candidate<'a>>,
@@ -80,7 +80,7 @@ fn push_elements<'a>(list: &'a List, leaves: &mut Vec<Candidate<'a>>) -> Result<
     Ok(())
 }
 
-/// What the field under the component's name is.
+/// What is under the component's name.
 fn enter<'a>(document: &'a Document, component: &Component) -> Candidate<'a>
     ensures { seen result ≡ value_under component.now document.now }
 {
@@ -90,7 +90,7 @@ fn enter<'a>(document: &'a Document, component: &Component) -> Candidate<'a>
     }
 }
 
-/// The candidates one component on.
+/// The candidates one component further.
 fn step_all<'a>(
     alloc: Global,
     component: &Component,
@@ -145,7 +145,7 @@ fn pick<'a>(
     Ok(())
 }
 
-/// Adds what each element that is a document gives.
+/// Adds what is under the component's name in each element that is a document.
 fn enter_each<'a>(
     component: &Component,
     list: &'a List,

@@ -1,4 +1,4 @@
-//! Going on where one way leads on: in a loop, since values may stand in one another thousands of levels deep.
+//! Going on while only one way leads on: in a loop, since values may be nested thousands of levels deep.
 
 ghost use Rattle.std.specs.Prelude.{◌≡◌, ◌≤◌, ◌<◌, Some, IfSome, MatchOption};
 ghost use Rattle.dv_value.specs.Tree.{fields_of, elements_of};
@@ -13,7 +13,7 @@ use crate::places::Places;
 use crate::walk::behind;
 use dv_value::{Document, List, Value};
 
-/// Where a walk stands: at a value, behind each of the places in what is left of a path.
+/// Where a walk is: at a value, from which what is left of a path goes on at each of the places.
 #[derive(Clone, Copy)]
 pub(crate) struct Stand<'p, 'v> {
     /// What is left of the path.
@@ -24,7 +24,7 @@ pub(crate) struct Stand<'p, 'v> {
     pub(crate) value: &'v Value,
 }
 
-/// Where the walk stands when it has gone on from a value for as long as one way leads on.
+/// Where the walk is when it has gone on from a value for as long as only one way leads on.
 pub(crate) fn along_one_way<'p, 'v>(
     components: &'p [Component],
     places: Places,
@@ -45,7 +45,7 @@ pub(crate) fn along_one_way<'p, 'v>(
     stand
 }
 
-/// Where the walk stands next, if one way leads on from the value, and the value itself is no candidate.
+/// Where the walk is next, if only one way leads on from the value, and the value itself is no candidate.
 fn next<'p, 'v>(stand: Stand<'p, 'v>) -> Option<Stand<'p, 'v>>
     requires { IsWithin stand.components.now stand.places }
     ensures stand { IfSome result (λ further. StandsFor (Reaches stand.entry.components.now stand.entry.places (Some (tree stand.entry.value.now))) further) }
@@ -61,7 +61,7 @@ fn next<'p, 'v>(stand: Stand<'p, 'v>) -> Option<Stand<'p, 'v>>
     }
 }
 
-/// The same, for a document: where all places have one name, and something is under it.
+/// The same, for a document: if all places have one name, and there is a value under it.
 fn in_document<'p, 'v>(
     components: &'p [Component],
     places: Places,
@@ -80,7 +80,7 @@ fn in_document<'p, 'v>(
     })
 }
 
-/// The same, for an array: where it has one element.
+/// The same, for an array: if it has one element.
 fn in_list<'p, 'v>(
     components: &'p [Component],
     places: Places,
@@ -96,8 +96,8 @@ fn in_list<'p, 'v>(
     }
 }
 
-/// Where the walk stands at an element of an array that stands at the places: behind those that pick it, and a document
-/// at the places too. `None` where a place of a document would get too far.
+/// Where the walk is at an element of an array that it has reached at the places: after those that pick the element and, if this is
+/// a document, at the places too. `None` if it is a document and a place would be beyond 63.
 pub(crate) fn at_element<'p, 'v>(
     components: &'p [Component],
     places: Places,

@@ -11,12 +11,12 @@ use std::alloc::Global;
 use std::marker::Model;
 use std::slice;
 
-/// Where the components of a path lie.
+/// Where the components of a path are stored.
 #[derive(Debug, Drop)]
 pub(crate) enum Components {
     /// In the path itself: one, as most paths have.
     One(Component),
-    /// In memory of their own: any.
+    /// In memory of their own: any number.
     Several(Vec<Component>),
 }
 
@@ -38,8 +38,8 @@ impl Model for Path {
 }
 
 impl Path {
-    /// The path that the text is, cut at its dots. Refused with `EmptyComponent` if a component is empty or holds a zero byte, and
-    /// with `NoMemory`. A name of at most 16 bytes takes no memory.
+    /// The text as a path, cut at its dots. Refused with `EmptyComponent` if a component is empty or holds a zero byte, and with
+    /// `NoMemory` when memory runs out. A name of at most 16 bytes takes no memory.
     #[tactic(auto, using(crate::proofs::Parsing::undotted, crate::proofs::Parsing::undotted_refused))]
     pub fn parse(alloc: Global, text: &str) -> Result<Path, PathFault>
         ensures { MatchResult result (λ path. path_of text.now ≡ Some path) (λ e. (e ≡ PathFault.NoMemory) ⊎ ((e ≡ PathFault.EmptyComponent) × (path_of text.now ≡ None))) }
@@ -79,14 +79,14 @@ impl Path {
     }
 }
 
-/// Whether a dot stands in the text.
+/// Whether there is a dot in the text.
 fn has_dot(text: &str) -> bool
     ensures { result ≡ list_any (λ b. b == 46) text.now }
 {
     text.as_bytes().contains(&b'.')
 }
 
-/// As `Path::parse`, wherever there are dots.
+/// As `Path::parse`, whether or not there are dots.
 fn cut(alloc: Global, text: &str) -> Result<Path, PathFault>
     ensures { MatchResult result (λ path. path_of text.now ≡ Some path) (λ e. (e ≡ PathFault.NoMemory) ⊎ ((e ≡ PathFault.EmptyComponent) × (path_of text.now ≡ None))) }
 {

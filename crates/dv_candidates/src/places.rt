@@ -10,8 +10,8 @@ ghost use Rattle.dv_candidates.specs.Inner.Places.{AreThose, HaveName, IsBefore,
 
 use crate::component::Component;
 
-/// Places in what is left of a path, from 0, the next component, to 63 at most; one of them may be the end, behind the
-/// last component.
+/// Places in what is left of a path, from 0, the next component, to 63 at most; one of them may be the end, after the last
+/// component.
 #[derive(Clone, Copy)]
 pub(crate) struct Places {
     /// Whether each place is in the set, from the lowest bit on.
@@ -105,7 +105,7 @@ impl Places {
         }
     }
 
-    /// These places and those one component behind some others, where no place gets beyond 63.
+    /// These places and those one component after some others; `None` if a place would be beyond 63.
     pub(crate) fn with_behind(self, others: Places) -> Option<Self>
         ensures { IfSome result (λ both. (place : ℕ) → has both place ≡ (has self place || follows (has others) place)) }
     {

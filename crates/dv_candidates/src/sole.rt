@@ -1,4 +1,4 @@
-//! The one candidate of a path on whose way no array stands.
+//! The one candidate of a path that leads through no array.
 
 ghost use Rattle.std.specs.Prelude.{◌≡◌, ◌∷◌, [], ℕ, List, Some, IfSome, IsSome};
 ghost use Rattle.dv_value.specs.Names.{value_under};
@@ -27,7 +27,7 @@ pub fn sole_candidate<'a>(document: &'a Document, path: &Path) -> Option<Candida
     Some(candidate)
 }
 
-/// What stands one component on; `None` for an array.
+/// The candidate one component further; `None` for an array.
 fn next<'a>(candidate: Candidate<'a>, component: &Component) -> Option<Candidate<'a>>
     ensures sole { IfSome result (λ next. step_from component.now (seen candidate.entry) ≡ seen next ∷ []) }
     ensures some { (names : List (List ℕ)) → HasNoArray (component.now ∷ names) (seen candidate.entry) → IsSome result }
@@ -43,7 +43,7 @@ fn next<'a>(candidate: Candidate<'a>, component: &Component) -> Option<Candidate
     }
 }
 
-/// What stands under the component's name.
+/// What is under the component's name.
 fn field<'a>(document: &'a Document, component: &Component) -> Candidate<'a>
     ensures { seen result ≡ value_under component.now document.now }
 {

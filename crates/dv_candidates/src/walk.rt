@@ -18,7 +18,7 @@ use crate::sole::sole_candidate;
 use dv_value::{Document, List, Value};
 
 /// Folds the candidates of the path as a set: `f` takes the value so far and a candidate, and returns the next value. The order of
-/// the candidates is not said, and one may be taken more or less often than it is listed. Stops at the first error of `f`, and
+/// the candidates is not specified, and one may be taken more or less often than it is listed. Stops at the first error of `f`, and
 /// returns it.
 pub fn fold_whole<T, E, F>(document: &Document, path: &Path, seed: T, f: F) -> Result<T, E>
 where
@@ -43,7 +43,7 @@ where
     fold_document(path.components(), Places::FIRST, document, seed, &f)
 }
 
-/// Folds the candidates of a value behind each of the places.
+/// Folds the candidates that the rest of the path, from each of the places on, has from a value.
 #[cycle(walk)]
 fn fold_value<T, E, F>(
     components: &[Component],
@@ -71,7 +71,7 @@ where
     fold_inside(components, inside, value, so_far, f)
 }
 
-/// The same, where each place has a component.
+/// The same, if each place has a component.
 #[cycle(walk)]
 fn fold_inside<T, E, F>(
     components: &[Component],
@@ -155,7 +155,7 @@ where
     Ok(folded)
 }
 
-/// Folds the candidates of an element of an array that stands at the places.
+/// Folds the candidates of an element of an array that the walk has reached at the places.
 #[cycle(walk)]
 fn fold_element<T, E, F>(
     components: &[Component],

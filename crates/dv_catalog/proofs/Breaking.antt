@@ -14,12 +14,12 @@ use Rattle.dv_catalog.specs.Effects.{put_new}
 use Rattle.dv_catalog.specs.State.{Collection}
 use Rattle.dv_catalog.proofs.Stopping.{put_replaced}
 
--- documents that go have no keys
+-- removed documents add no keys
 pub gone_breaks_nothing : (indexes : List IndexForm) (keys : List KeyTree) (documents : List (List Field)) → breaks indexes (map gone keys) documents ≡ false
 gone_breaks_nothing indexes [] documents = refl
 gone_breaks_nothing indexes (k ∷ ks) documents = gone_breaks_nothing indexes ks (removed k documents)
 
--- documents that are put in the places of others
+-- documents that are put in place of others
 pub puts_break : (indexes : List IndexForm) (documents others : List (List Field)) → ArePlaced documents (map put others) → breaks indexes (map put others) documents ≡ replacing_clashes indexes others documents
 puts_break indexes documents [] placed = refl
 puts_break indexes documents (d ∷ ds) placed =

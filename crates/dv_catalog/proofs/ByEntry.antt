@@ -22,13 +22,13 @@ pub any_seen : {X : Type 0} (test : IndexForm → Bool) (form : X → IndexForm)
 any_seen test form [] = refl
 any_seen test form (x ∷ xs) = ap (λ (b : Bool). test (form x) || b) (any_seen test form xs)
 
--- some of those that are there, or of the others
+-- whether one of the existing indexes passes a test, or one of the others
 pub any_parts : {X : Type 0} (test : IndexForm → Bool) (form : X → IndexForm) (there : List X) (others : List IndexForm) → list_any test (map form there ++ others) ≡ list_any (λ x. test (form x)) there || list_any test others
 any_parts test form there others = list_any-append test (map form there) others ∙ (λ i. any_seen test form there i || list_any test others)
 
 -- ---- all entries
 
--- where these come behind those that are there
+-- if these are added after the existing ones
 module _ (entries more : List IndexForm) (c : Collection) (come : with_entries entries c.indexes ≡ Ok (c.indexes ++ more)) where
   limited_by : (b : Bool) → nat_lt index_limit (length (c.indexes ++ more)) ≡ b → with_all entries c ≡ ((if b then Err LimitReached else Ok (c.indexes ++ more)) >>= unless_broken c)
   limited_by b is = ap (λ (r : Result (List IndexForm) Refusal). r >>= within_limit >>= unless_broken c) come ∙ ap (λ (x : Bool). (if x then Err LimitReached else Ok (c.indexes ++ more)) >>= unless_broken c) is
@@ -46,7 +46,7 @@ module _ (entries more : List IndexForm) (c : Collection) (come : with_entries e
   pub all_made : nat_lt index_limit (length (c.indexes ++ more)) ≡ false → are_broken more c.documents ≡ false → with_all entries c ≡ Ok (c.indexes ++ more)
   all_made within whole = limited_by false within ∙ broken_by false whole
 
-  -- where the collection doesn't make them
+  -- if the collection doesn't make them
   pub not_made : {B : Type 0} → nat_lt index_limit (length (c.indexes ++ more)) ≡ false → (fault : InsertFault) (result : Result B Refusal) (refusal : Refusal) (new : Collection) → result ≡ Err refusal → refusal ≡ insert_refusal fault
       → (IsErrOf {T = Unit {0}} (Err fault) Duplicate → are_broken more c.documents ≡ true) → new ≡ c → Leaves (collection_so c (with_all entries c)) c result new
   not_made within fault result refusal new is from broken same = rw is (by_fault fault from broken, same)
@@ -61,7 +61,7 @@ pub none_dropped : (name : List ℕ) (indexes : List IndexForm) → bytes_eq nam
 none_dropped name indexes star id there =
     λ i. if star i then Ok (id_form ∷ []) else if id i then Err BadValue else if there i then Ok (without_index name indexes) else Err IndexNotFound
 
--- where none goes, all stay
+-- if none is dropped, all stay
 pub all_stay : (name : List ℕ) (indexes : List IndexForm) → list_any (is_dropped name) indexes ≡ false → without_index name indexes ≡ indexes
 all_stay name [] none = refl
 all_stay name (x ∷ xs) none = by_first (is_dropped name x) none (all_stay name xs)

@@ -1,4 +1,4 @@
--- A sort by `_id` leaves documents in their order, or turns it round.
+-- A sort by `_id` leaves documents in their order, or reverses it.
 use Rattle.std.proofs.Common.{◌≡◌, ◌∙◌, ◌≤◌, ℕ, arith, length, List, [], ◌∷◌, ◌++◌, take, reverse, refl, ap, sym, append-nil, append_assoc, Bool, true, false, cond, ◌&&◌, Option, None, Some, filter, fold, codes, take_all}
 use Rattle.std.specs.Prelude.{⊤}
 use Rattle.std.specs.List.{AllByRecursion, flat_map}
@@ -38,7 +38,7 @@ sort-key-id direction [] h = absurd h
 sort-key-id direction (f ∷ fs) h =
     ap (λ b. earliest direction (flat_map sort_keys_of (flat_map (candidates []) (cond b (Some f.1) (value_under (codes "_id") (list_of_fields (fields_of fs))) ∷ [])))) ((bytes_eq-Decides (codes "_id") f.0).1 (sym h.0)) ∙ only-key direction f.1 h.1
 
--- ---- the first path tells any two documents apart
+-- ---- the first path distinguishes any two documents
 abbrev Comes : List Field → List Field → Type 0
 Comes d e = key_order (id_key d) (id_key e) ≡ Less
 
@@ -136,7 +136,7 @@ front-of : (most : Option ℕ) (all : ℕ) (rows : Rows) → length rows ≤ all
 front-of None all rows enough = take_all all rows enough
 front-of (Some n) all rows enough = refl
 
--- rows that ascend stand in the order of a sort by `_id`
+-- ascending rows are in the order of a sort by `_id`
 pub in-order : (sort : List Part) (direction : Direction) → (parts : List Part) × (sort ≡ by_id direction parts) → (rows : Rows) → AllByRecursion HasId rows → IsAscending rows → (most : Option ℕ) → front most (in_direction direction rows) ≡ front most (stable sort rows)
 in-order sort direction is rows identified ascending most = ap (front most) (sym (stable-by-id is.0 direction rows identified ascending) ∙ sym (ap (λ parts. stable parts rows) is.1))
 

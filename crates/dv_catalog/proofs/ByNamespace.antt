@@ -1,4 +1,4 @@
--- What stands under namespaces, in a map under texts.
+-- What is under namespaces, in a map by texts.
 use Rattle.std.proofs.Common.{◌≡◌, ◌⊎◌, inl, inr, ℕ, Bool, true, false, List, [], ◌∷◌, Option, Some, None, Result, Ok, Err, map, cond, refl, ap, sym, ◌∙◌, arith}
 use Rattle.std.proofs.lemmas.Map.Text.{btree_map_updates_text}
 use Rattle.std.proofs.lemmas.Slice.Eq.{bytes_eq-Decides}
@@ -45,7 +45,7 @@ module _ {Y : Type 0} where
   pub get-standing : (m : BTreeMap (String Y) Collection) (name : List ℕ) → finite.get (standing_by_namespace m) name ≡ option_map standing_seen (get_by_text m name)
   get-standing m name = finite.get-from_entries nat_list_cmp_total _ name ∙ find-lookup name m.entries
 
-  -- the collection that stands there
+  -- the collection that is there
   pub collection-there : (m : BTreeMap (String Y) Collection) (name : List ℕ) (c : Collection) → Some c ≡ get_by_text m name → collection_of name (standing_by_namespace m) ≡ c
   collection-there m name c there = ap collection_at (get-standing m name ∙ ap (option_map standing_seen) (sym there))
 
@@ -83,15 +83,15 @@ module _ {Y : Type 0} where
       let here : finite.get (standing_by_namespace m) name ≡ Some (standing_seen c) = get-standing m name ∙ ap (option_map standing_seen) (sym there) in
       same_namespaces _ _ (λ q. get-insert (standing_by_namespace m) name (standing_seen c) q ∙ grind (arith, here, (bytes_eq-Decides name q).0))
 
--- what is made of the collection that stands there
+-- the result for the collection that is there
 pub made-there : (old : Namespaces) (name : List ℕ) (c : Collection) (make : Collection → Collection) → collection_of name old ≡ c → with_collection name (make c) old ≡ with_collection name (make (collection_of name old)) old
 made-there old name c make are = ap (λ (there : Collection). with_collection name (make there) old) (sym are)
 
--- a collection without documents, where none is
+-- a collection without documents, in a namespace that has none
 pub with_empty : (old : Namespaces) (name : List ℕ) → finite.get old name ≡ None → with_collection name empty_indexed old ≡ with_documents name [] old
 with_empty old name none = ap (λ (there : Option Standing). with_collection name (record (collection_at there) { documents = [] }) old) (sym none)
 
--- ---- a document more among those of a namespace
+-- ---- one more document in a namespace
 
 module _ (old : Namespaces) (namespace : List ℕ) (d : List Field) (c : Collection) (are : collection_of namespace old ≡ c) where
   abbrev does : Result Effect Refusal
@@ -104,7 +104,7 @@ module _ (old : Namespaces) (namespace : List ℕ) (d : List Field) (c : Collect
       → Makes {B = Unit {0}} (λ _. one_changed) namespace (put_new d) old (Ok tt) new
   makes_new new done more = (put d ∷ [], there ∙ done, refl, more ∙ made-there old namespace c (λ x. record x { documents = with_put d x.documents }) are)
 
-  -- where the collection refuses the document, it is refused so
+  -- if the collection refuses the document, the insert has the same refusal
   pub not_made : (new : Namespaces) (refusal : Refusal) (result : Result (Unit {0}) Stopped) (stopped : Stopped) → result ≡ Err stopped → stopped ≡ record { refusal = refusal; done = 0 }
       → (done_to c (put_new d) ≡ Err refusal) ⊎ (refusal ≡ WantOfMemory) → new ≡ old → Makes (λ _. one_changed) namespace (put_new d) old result new
   not_made new refusal result stopped is from why same = rw is (stops_before namespace does old new same {B = Unit {0}} (λ _. one_changed) refusal stopped from (by_cause why))

@@ -26,7 +26,7 @@ module _ (namespace : List ℕ) (does : Result Effect Refusal) (stopped : Stoppe
     namespaces_left (inl refused) = refused.kept
     namespaces_left (inr cut) = cut.made ∙ none_applied old.state.namespaces
 
-    -- all is left as it was
+    -- everything is unchanged
     pub unbegun : IsRefused does old.state.namespaces stopped new.state.namespaces ⊎ IsCut namespace does old.state.namespaces stopped new.state.namespaces
         → new.state.views ≡ old.state.views → StandBy {B = Counted} namespace does old (Err stopped) new.marks → new ≡ old
     unbegun ends forms stand =
@@ -48,13 +48,13 @@ module _ (namespace : List ℕ) (statement : Statement) (old : Marked) where
   pub still_uncut : (stopped : Stopped) (new : Marked) → stopped.done ≡ 0 → Cuts namespace statement old stopped new → new ≡ old
   still_uncut stopped new none cuts = unbegun namespace does stopped none old new (inr cuts.cut) cuts.views cuts.marks
 
-  -- behind another one that was stopped there
+  -- after another statement that stopped before its first change
   pub cuts_after : (first : Stopped) (mid : Marked) (stopped : Stopped) (new : Marked) → first.done ≡ 0
       → IsRefused does old.state.namespaces first mid.state.namespaces ⊎ IsCut namespace does old.state.namespaces first mid.state.namespaces → mid.state.views ≡ old.state.views
       → StandBy {B = Counted} namespace does old (Err first) mid.marks → Cuts namespace statement mid stopped new → Cuts namespace statement old stopped new
   cuts_after first mid stopped new none ends forms stand cuts = subst (λ (before : Marked). Cuts namespace statement before stopped new) (unbegun namespace does first none old mid ends forms stand) cuts
 
-  -- ---- behind some of its changes, which are its first ones
+  -- ---- after some of its changes, which are its first ones
 
   pub cuts_first : (some : List Change) (done : ℕ) (new : Marked) → AreFirst some (changes_of does) → done ≤ length some → new.state.namespaces ≡ apply namespace (take done some) old.state.namespaces → new.state.views ≡ old.state.views
       → AreMarkedBy namespace (take done some) (lists_of old.state.namespaces) old.state.views old.marks new.marks → Cuts namespace statement old (record { refusal = WantOfMemory; done = done }) new

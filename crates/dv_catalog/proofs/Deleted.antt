@@ -23,7 +23,7 @@ all_gone : (ds : List (List Field)) → map gone (map id_key ds) ≡ map (λ d. 
 all_gone [] = refl
 all_gone (d ∷ ds) = ap (λ (rest : List Change). gone (id_key d) ∷ rest) (all_gone ds)
 
--- ---- those that go are there, each when its turn comes
+-- ---- the removed documents are there, each when its turn comes
 
 abbrev pub NoLongerFound : Type 0
 NoLongerFound = (k l : KeyTree) (ds : List (List Field)) → found l (removed k ds) ≡ cond (is_eq (key_order k l)) None (found l ds)
@@ -69,7 +69,7 @@ module _ (deletion : Deletion) (old ds : List (List Field)) (finds : ds ≡ all_
         (chosen_good (λ d. is_some (found (id_key d) old) ≡ true) first rows (matching_good (λ d. is_some (found (id_key d) old) ≡ true) deletion.filter old (all_there old))) in
         subst (λ (ks : List KeyTree). ArePlaced old (map gone ks)) (sym keyed) (gone_placed law old ds before_chosen there)
 
--- ---- the first of a deletion
+-- ---- the first documents of a deletion
 
 first_identified : (n : ℕ) (ds : List (List Field)) → AllByRecursion HasId ds → AllByRecursion HasId (take n ds)
 first_identified zero [] all = tt
@@ -96,7 +96,7 @@ module _ (deletion : Deletion) (c : Collection) where
       ap changes_of
       (done_unbroken c (delete_chosen deletion) (record { matched = length chosen; changes = changes }) (deletes deletion c.documents chosen refl (map id_key chosen) refl (length chosen) refl) (gone_breaks_nothing c.indexes (map id_key chosen) c.documents))
 
-  -- of these documents, which are found first, the first are taken
+  -- of these documents, which are the first that match, the first ones are removed
   module _ (many : deletion.only_first ≡ false) (most count : ℕ) (ds : List (List Field)) (found : ds ≡ take most (matching deletion.filter c.documents)) (within : count ≤ length ds) where
     are_chosen : ds ≡ take most chosen
     are_chosen = found ∙ ap (λ (first : Bool). take most (all_or_first first (matching deletion.filter c.documents))) (sym many)
@@ -123,7 +123,7 @@ module _ (deletion : Deletion) (c : Collection) where
       pub some_placed : NoLongerFound → AreBefore c.documents → ArePlaced c.documents (map gone keys)
       some_placed law before = subst (ArePlaced c.documents) (sym front) (first_placed c.documents changes count (deletes_placed deletion c.documents chosen refl (map id_key chosen) refl law before))
 
--- ---- all go
+-- ---- all are removed
 
 kept : (b : Bool) (d : List Field) (ds : List (List Field)) → b ≡ false → cond b (d ∷ ds) ds ≡ ds
 kept true d ds is = absurd cc

@@ -1,4 +1,4 @@
--- How finds are answered.
+-- How the rows of finds are found.
 use Rattle.std.proofs.Common.{◌≡◌, ◌||◌, ℕ, Bool, true, false, if◌then◌else◌, List, [], ◌∷◌, map, length, Option, Some, None, refl, sym, ap, ◌∙◌}
 use Rattle.std.specs.FinMap as finite
 use Rattle.dv_value.specs.Tree.{Field}

@@ -1,4 +1,5 @@
--- Rows that a sort's first path sorts ahead of a bar come first, so the first rows are found among some rows that have the same ones ahead of it.
+-- Rows that a sort's first path sorts before a bar come first, so the first rows are found among any rows that have the same rows
+-- before it.
 use Rattle.std.proofs.Common.{Bor, ◌≡◌, ◌∙◌, ◌+◌, ◌<◌, ◌≤◌, ◌&&◌, ◌||◌, ℕ, zero, suc, arith, Bool, true, false, cond, List, [], ◌∷◌, ◌++◌, Option, None, Some, ap, sym, subst, refl, filter, fold, length, map, slice_get, take}
 use Rattle.std.proofs.lemmas.Cmp.{alike_right}
 use Rattle.std.proofs.lemmas.List.{take-append-le}
@@ -28,7 +29,7 @@ use Rattle.dv_catalog.proofs.Keys.{AreBefore, before_ascending}
 abbrev Rows : Type 0
 Rows = List (List Field)
 
--- ---- what stands before a bar stands before all that doesn't
+-- ---- a key before a bar is before all keys that aren't
 
 turned-back : (k l : KeyTree) → key_order k l ≡ Greater → key_order l k ≡ Less
 turned-back k l e = key_order_total.antisymm l k ∙ ap ordering_reverse e
@@ -63,7 +64,7 @@ stands-first : (direction : Direction) (k bar l : KeyTree) → stands_first dire
 stands-first Ascending k bar l before behind = let less = through-bar k bar l before behind in (ap is_lt less, not-back k l less)
 stands-first Descending k bar l before behind = let less = through-bar-back k bar l before behind in (ap is_lt less, not-back l k less)
 
--- what is equal to another key stands to others as this does
+-- equal keys have the same order relative to other keys
 equal-before : (direction : Direction) (k bar l : KeyTree) → key_order k bar ≡ Equal → stands_first direction l k ≡ stands_first direction l bar
 equal-before Ascending k bar l e = ap is_lt (alike_right key_order_total k bar l e)
 equal-before Descending k bar l e = ap is_lt (key_order_total.congr k bar l e)
@@ -72,7 +73,7 @@ equal-behind : (direction : Direction) (k bar l : KeyTree) → key_order k bar �
 equal-behind Ascending k bar l e = ap is_lt (key_order_total.congr k bar l e)
 equal-behind Descending k bar l e = ap is_lt (alike_right key_order_total k bar l e)
 
--- keys of which neither stands first are equal
+-- two keys are equal if neither is before the other
 neither-less : (k l : KeyTree) → is_lt (key_order k l) ≡ false → is_lt (key_order l k) ≡ false → key_order k l ≡ Equal
 neither-less k l here there = by (key_order k l) refl
   where
@@ -85,7 +86,7 @@ neither-first : (direction : Direction) (k l : KeyTree) → stands_first directi
 neither-first Ascending k l here there = neither-less k l here there
 neither-first Descending k l here there = neither-less k l there here
 
--- an `_id` before one that comes before an end comes before this
+-- if an `_id` is before an end, so is any `_id` before it
 earlier-until : (i j : KeyTree) (until : Option (Bor KeyTree)) → key_order j i ≡ Less → is_until i until ≡ true → is_until j until ≡ true
 earlier-until i j None less e = absurd cc
 earlier-until i j (Some end) less e = ap is_lt (key_order_total.trans j i end.now less (is-less (key_order i end.now) e))
@@ -111,7 +112,7 @@ module _ (p : Part) (parts : List Part) (bar : Bar) (tied : IfSome bar.until (λ
   abbrev is-first : KeyTree → KeyTree → Bool
   is-first = stands_first p.1
 
-  -- a row that is ahead is sorted before the bar's key, or by it, and its `_id` comes before the end
+  -- a row before the bar is sorted before the bar's key, or by this key, and then its `_id` is before the end
   abbrev IsTied : List Field → Type 0
   IsTied d = (key_order (key d) bar.key.now ≡ Equal) × (is_until (id_key d) bar.until ≡ true)
 
@@ -126,7 +127,7 @@ module _ (p : Part) (parts : List Part) (bar : Bar) (tied : IfSome bar.until (λ
   is-behind : (e : List Field) → ahead e ≡ false → IsBehind e
   is-behind e g = or_parts (is-first (key e) bar.key.now) (is_eq (key_order (key e) bar.key.now) && is_until (id_key e) bar.until) g
 
-  -- of two rows in the order of their `_id`s, the later one is sorted first where it is ahead and the other one isn't
+  -- of two rows in the order of their `_id`s, the later one is sorted first if it is before the bar and the other one isn't
   tied-first : (d e : List Field) → IsTied d → IsBehind e → key_order (id_key e) (id_key d) ≡ Less → is-first (key d) (key e) ≡ true
   tied-first d e same behind less = equal-behind p.1 (key d) bar.key.now (key e) same.0 ∙ by (is-first bar.key.now (key e)) refl
     where
@@ -171,7 +172,7 @@ module _ (p : Part) (parts : List Part) (bar : Bar) (tied : IfSome bar.until (λ
   abbrev AreBehind : Rows → Type 0
   AreBehind rows = AllByRecursion (λ d. ahead d ≡ false) rows
 
-  -- each of some rows comes before each of others by its `_id`
+  -- each of some rows comes before another row, or before each of other rows, by its `_id`
   abbrev AreEarlierThan : List Field → Rows → Type 0
   AreEarlierThan d rows = AllByRecursion (λ e. key_order (id_key e) (id_key d) ≡ Less) rows
 
@@ -186,7 +187,7 @@ module _ (p : Part) (parts : List Part) (bar : Bar) (tied : IfSome bar.until (λ
   one-earlier x rows [] h all = tt
   one-earlier x rows (d ∷ others) h all = (all_placed (λ e. key_order (id_key e) (id_key d) ≡ Less) before x rows h.0 all.0, one-earlier x rows others h.1 all.1)
 
-  -- ---- rows that are ahead, and then others: a row more comes among the ones or among the others
+  -- ---- rows before the bar, and then others: one more row comes among the former or among the latter
   put-ahead : (d : List Field) (xs ys : Rows) → ahead d ≡ true → AreBehind ys → AreEarlierThan d ys → placed before d (xs ++ ys) ≡ placed before d xs ++ ys
   put-ahead d [] [] h all earlier = refl
   put-ahead d [] (y ∷ ys) h all earlier = ap (λ b. cond b (d ∷ y ∷ ys) (y ∷ placed before d ys)) (comes-first d y h all.0 earlier.0)
@@ -204,7 +205,7 @@ module _ (p : Part) (parts : List Part) (bar : Bar) (tied : IfSome bar.until (λ
   abbrev put : Rows → Rows → Rows
   put so_far xs = fold (λ ys x. placed before x ys) so_far xs
 
-  -- in order, the rows that are ahead, and then others
+  -- in order, the rows before the bar, and then others
   abbrev IsParted : Rows → Rows → Rows → Type 0
   IsParted left right xs = (rest : Rows) × AreBehind rest × (put (left ++ right) xs ≡ put left (filter ahead xs) ++ rest)
 
@@ -220,7 +221,7 @@ module _ (p : Part) (parts : List Part) (bar : Bar) (tied : IfSome bar.until (λ
           let then = later left (placed before x right) h (all_placed (λ d. ahead d ≡ false) before x right e g) (one-earlier x right xs ordered.0 earlier.1) in
           (then.0, then.1, ap (λ ys. put ys xs) (put-behind x left right e h) ∙ then.2)
 
-  -- ---- a row that is ahead stands among those that are
+  -- ---- a row before the bar is among the rows that are
   there-behind : (ys : Rows) (i : ℕ) (d : List Field) → AreBehind ys → slice_get ys i ≡ Some d → ahead d ≡ false
   there-behind [] i d all e = absurd cc
   there-behind (y ∷ ys) zero d all e = let same : y ≡ d = cc in ap ahead (sym same) ∙ all.0
@@ -238,7 +239,7 @@ module _ (p : Part) (parts : List Part) (bar : Bar) (tied : IfSome bar.until (λ
   still-there (suc n) (x ∷ xs) zero d e = e
   still-there (suc n) (x ∷ xs) (suc i) d e = still-there n xs i d e
 
-  -- the last of so many rows is ahead, so they are those of any rows that have the same ones ahead
+  -- the last of the first rows is before the bar, so they are the first of any rows that have the same rows before it
   pub first_alike : (some all : Rows) → IsAscending some → IsAscending all → (most i : ℕ) (d : List Field) → filter ahead some ≡ filter ahead all → slice_get (take most (stable (p ∷ parts) some)) i ≡ Some d → most ≤ i + 1 → ahead d ≡ true → take most (stable (p ∷ parts) some) ≡ take most (stable (p ∷ parts) all)
   unfolding stable
   first_alike some all some-ascend all-ascend most i d same last enough h =
@@ -253,7 +254,7 @@ module _ (p : Part) (parts : List Part) (bar : Bar) (tied : IfSome bar.until (λ
       ∙ sym (take-append-le most sorted others.0 within)
       ∙ sym (ap (take most) (others.2 ∙ ap (λ rows. rows ++ others.0) again))
 
--- ---- a row among some of which something holds
+-- ---- what holds of all rows holds of each
 pub holds-at : (P : List Field → Type 0) (rows : Rows) (i : ℕ) (d : List Field) → AllByRecursion P rows → slice_get rows i ≡ Some d → P d
 holds-at P [] i d all e = absurd cc
 holds-at P (y ∷ ys) zero d all e = let same : y ≡ d = cc in subst P same all.0
@@ -270,7 +271,7 @@ all-identified law ds those identified standing = each those standing.0
     each [] all = tt
     each (d ∷ rows) all = (law (id_key d) d ds identified all.0, each rows all.1)
 
--- ---- what is said of a value where there is one
+-- ---- what is said of a value if there is one
 pub if-some-weaker : {X : Type 0} (P Q : Type 0) → (P → Q) → (o : Option X) → IfSome o (λ x. P) → IfSome o (λ x. Q)
 if-some-weaker P Q h None there = there
 if-some-weaker P Q h (Some x) there = h there

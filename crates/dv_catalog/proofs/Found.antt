@@ -20,7 +20,7 @@ or_true : (b c : Bool) → c ≡ true → b || c ≡ true
 or_true true c h = refl
 or_true false c h = h
 
--- where one test passes, another one does
+-- if one test passes, another one does
 any_weaker : {X : Type 0} (p q : X → Bool) → ((x : X) → p x ≡ true → q x ≡ true) → (xs : List X) → list_any p xs ≡ true → list_any q xs ≡ true
 any_weaker p q weaker [] h = h
 any_weaker p q weaker (x ∷ xs) h = by_test (any_weaker p q weaker xs) (p x) refl h

@@ -1,4 +1,4 @@
--- Stages in front of a pipeline that are a find, and stages that look into nothing.
+-- First stages of a pipeline that are a find, and stages that look up nothing.
 use Rattle.std.proofs.Common.{◌≡◌, ◌∙◌, ap, sym, refl, ℕ, Bool, true, false, not, ◌&&◌, List, [], ◌∷◌, ◌++◌, Option, Some, None, take, map, is_some, arith, take-take}
 use Rattle.std.proofs.lemmas.List.{take-map}
 use Rattle.std.specs.List.{list_all}
@@ -31,7 +31,7 @@ module _ (stages later : List Stage) (source : List ℕ) (lists : Lists) (rows :
   unfolding through stage
   limit_first count is = ap (λ ss. through ss source lists rows) (sym is)
 
--- all rows match a filter that asks nothing
+-- all rows match a filter without members
 pub matching_all : (rows : List Row) → matching no_members rows ≡ rows
 unfolding matches
 matching_all [] = refl
@@ -50,7 +50,7 @@ module _ (source : List ℕ) (lists others : Lists) where
   foreign-same None none = refl
   foreign-same (Some name) none = absurd (let never : false ≡ true = none in cc)
 
-  -- stages that look into nothing, a look-up, and the stages behind it
+  -- stages that look up nothing, a look-up, and the stages after it
   pub by_lookup : (before later : List Stage) (l : Lookup) (rows : List Row) → list_all looks_nowhere before ≡ true
       → through later source lists (looked_up l (through before source others rows) (lists (beside source l.from))) ≡ through (before ++ stages.Lookup l ∷ later) source lists rows
   unfolding through stage
@@ -63,7 +63,7 @@ front-map : (f : Row → Row) (most : Option ℕ) (rows : List Row) → map f (f
 front-map f None rows = refl
 front-map f (Some n) rows = sym (take-map f n rows)
 
--- the rows that stages want are all that they take
+-- the rows that stages need are enough for their result
 pub wanted_enough : (ss : List Stage) (source : List ℕ) (lists : Lists) (rows : List Row) → through ss source lists (front (wanted ss) rows) ≡ through ss source lists rows
 unfolding through stage looked_up
 wanted_enough [] source lists rows = refl

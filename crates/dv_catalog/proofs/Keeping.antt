@@ -72,7 +72,7 @@ pub collections_after : (old : Namespaces) (namespace : List ℕ) (changes : Lis
 collections_after old namespace [] name e = inr e
 collections_after old namespace (change ∷ changes) name e = put_there old namespace (record (collection_of namespace old) { documents = with_changes (documents_of namespace old) (change ∷ changes) }) name e
 
--- ---- what is placed can be told
+-- ---- changes that are placed can be made
 
 able_placed : (documents : List (List Field)) (change : Change) → IsPlaced documents change → IsAble documents change
 able_placed documents change placed = by_kind change placed
@@ -154,7 +154,7 @@ module _ (made : MadeAsTold) (unread : UnreadIsNoMatter) (old new : Namespaces) 
     apart = λ name view. apart_after no_view collections name (subst (λ (fs : List ViewForm). is_view name fs ≡ true) forms view);
   }
 
--- ---- a collection put under a namespace with the documents that stand there
+-- ---- a collection put under a namespace with the documents that are there
 
 module _ (unread : UnreadIsNoMatter) (old : Namespaces) (namespace : List ℕ) (c : Collection) (vs : Views) (same : c.documents ≡ documents_of namespace old) where
   same_lists : (name : List ℕ) → documents_of name old ≡ documents_of name (finite.insert old namespace (collection c))
@@ -179,7 +179,7 @@ module _ (unread : UnreadIsNoMatter) (old : Namespaces) (namespace : List ℕ) (
               cc
           by_side (inr there) = let none = kept.apart name view in cc
 
--- ---- what a statement is told as
+-- ---- the changes of a statement
 
 placed_begins : (documents : List (List Field)) (change : Change) → IsPlaced documents change → BeginsWithId change
 placed_begins documents (put d) placed = placed.0
@@ -189,7 +189,7 @@ pub all_begin : (documents : List (List Field)) (changes : List Change) → AreP
 all_begin documents [] placed = tt
 all_begin documents (change ∷ changes) placed = (placed_begins documents change placed.0, all_begin (with_change documents change) changes placed.1)
 
--- a new document is one put
+-- the insertion of a new document is one put
 pub new_put : (d : List Field) (documents : List (List Field)) (changes : List Change) → put_new d documents ≡ Ok (record { matched = 1; changes = changes }) → changes ≡ put d ∷ []
 new_put d documents changes is = by_found (is_some (found (id_key d) documents)) is
   where
@@ -197,7 +197,7 @@ new_put d documents changes is = by_found (is_some (found (id_key d) documents))
     by_found true is = absurd cc
     by_found false is = sym (ap changes_of is)
 
--- whose `_id` no document has
+-- no document has the `_id` of a new document
 pub new_fresh : (d : List Field) (documents : List (List Field)) (changes : List Change) → put_new d documents ≡ Ok (record { matched = 1; changes = changes }) → is_some (found (id_key d) documents) ≡ false
 new_fresh d documents changes is = by_found (is_some (found (id_key d) documents)) is
   where

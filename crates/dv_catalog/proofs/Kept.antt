@@ -1,4 +1,4 @@
--- Views and collections stay right where one is made or taken out.
+-- Views and collections stay right if one is made or removed.
 use Rattle.std.proofs.Common.{◌≡◌, ◌⊎◌, inl, inr, ◌||◌, if◌then◌else◌, ℕ, Bool, true, false, cond, List, [], ◌∷◌, map, Option, Some, None, is_some, Ok, Err, refl, sym, ap, ◌∙◌}
 use Rattle.std.specs.FinMap as finite
 use Rattle.std.specs.Str.{bytes_eq}
@@ -29,7 +29,7 @@ use Rattle.dv_catalog.proofs.Keeping.{MadeAsTold, UnreadIsNoMatter, all_able, ke
 use Rattle.dv_catalog.proofs.Keys.{before_ascending}
 use Rattle.dv_catalog.proofs.Making.{less_state}
 
--- ---- a view less
+-- ---- one view less
 
 third : {X : Type 0} (a b : Bool) (x y z : X) → a ≡ false → b ≡ false → (if a then x else if b then y else z) ≡ z
 third true b x y z e f = absurd cc
@@ -56,7 +56,7 @@ module _ (name : List ℕ) (namespaces : Namespaces) (vs : Views) (none : is_col
   pub nothing_dropped : has_view name vs ≡ false → dropped name (state_of namespaces vs) ≡ Err NamespaceNotFound
   nothing_dropped no_view = third (is_collection name namespaces) (is_view name (map view_form vs)) _ _ _ none (view_forms vs name ∙ no_view)
 
--- ---- a collection less
+-- ---- one collection less
 
 gone_documents : (b : Bool) (there : Option Standing) → (collection_at (cond b None there)).documents ≡ cond b [] (collection_at there).documents
 gone_documents true there = refl
@@ -96,7 +96,7 @@ module _ (made : MadeAsTold) (unread : UnreadIsNoMatter) (law : NoLongerFound) (
       kept_after made unread old (finite.remove old name) before after name (all_gone (documents_of name old)) tell all kept ordered (all_can_go law old name ordered) (documents_gone ordered) tells are right forms (not_a_view old before name kept there)
       (λ n e. inr (still_there (bytes_eq name n) (finite.get old n) (ap is_some (sym (get-remove old name n)) ∙ e)))
 
--- ---- a collection or a view more
+-- ---- one more collection or view
 
 there_or : (a b : Bool) → (a ≡ true) ⊎ (b ≡ true) → a || b ≡ true
 there_or true b e = refl
@@ -133,7 +133,7 @@ pub not_there : (there : Option Standing) → is_some there ≡ false → there 
 not_there None none = refl
 not_there (Some s) none = absurd cc
 
--- a collection without documents, where none is
+-- a collection without documents, in a namespace that has none
 pub kept_empty : UnreadIsNoMatter → (name : List ℕ) (namespaces : Namespaces) (vs : Views) → finite.get namespaces name ≡ None → has_view name vs ≡ false → IsKept namespaces vs → IsKept (with_documents name [] namespaces) vs
 kept_empty unread name namespaces vs none no_view kept =
     let nothing : [] ≡ documents_of name namespaces = sym (ap (λ (there : Option Standing). (collection_at there).documents) none) in

@@ -19,7 +19,7 @@ use Rattle.dv_catalog.specs.State.{AreOrdered, Standing, collection_at}
 abbrev pub AreThere : List (List Field) → List (List Field) → Type 0
 AreThere documents others = AllByRecursion (λ d. is_some (found (id_key d) documents) ≡ true) others
 
--- a key stands beside itself
+-- a key is equal to itself
 beside_itself : (o : Ordering) → o ≡ ordering_reverse o → is_eq o ≡ true
 beside_itself Less same = absurd cc
 beside_itself Equal same = refl
@@ -40,7 +40,7 @@ all_behind : (d : List Field) (documents others : List (List Field)) → AreTher
 all_behind d documents [] all = tt
 all_behind d documents (e ∷ es) all = (found_behind (has_key (id_key e) d) d (found (id_key e) documents) all.0, all_behind d documents es all.1)
 
--- documents are there in themselves
+-- documents are among themselves
 pub all_there : (documents : List (List Field)) → AreThere documents documents
 all_there [] = tt
 all_there (d ∷ ds) = (found_first (has_key (id_key d) d) d (found (id_key d) ds) (own_key d), all_behind d ds ds (all_there ds))
@@ -59,7 +59,7 @@ unfolding IsStrictlySortedBy
 before_ascending [] ascending = tt
 before_ascending (d ∷ ds) ascending = (all_before (id_key d) ds ascending.0, before_ascending ds ascending.1)
 
--- so are those that match
+-- each matching document is before all later ones that match
 kept_behind : (k : KeyTree) (b : Bool) (d : List Field) (ds : List (List Field)) → key_order k (id_key d) ≡ Less → AllByRecursion (λ e. key_order k (id_key e) ≡ Less) ds
     → AllByRecursion (λ e. key_order k (id_key e) ≡ Less) (cond b (d ∷ ds) ds)
 kept_behind k true d ds here all = (here, all)
@@ -81,6 +81,6 @@ pub none_ordered : AreOrdered []
 unfolding IsStrictlySortedBy
 none_ordered = (tt, tt)
 
--- those of a namespace where nothing stands
+-- the documents of a namespace that doesn't exist
 pub ordered_none : (there : Option Standing) → there ≡ None → AreOrdered (collection_at there).documents
 ordered_none there none = subst (λ (s : Option Standing). AreOrdered (collection_at s).documents) (sym none) none_ordered

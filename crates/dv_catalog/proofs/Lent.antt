@@ -1,4 +1,4 @@
--- Rows that are lent, and rows key by key.
+-- References to rows, and rows key by key.
 use Rattle.std.proofs.Common.{Bor, ◌≡◌, ◌∙◌, ◌+◌, ◌<◌, ℕ, zero, suc, Bool, true, false, cond, List, [], ◌∷◌, ◌++◌, map, filter, take, get_or, length, add-one, append-nil, append_assoc, reverse, refl, ap, sym, arith}
 use Rattle.std.proofs.lemmas.List.{map-append, reverse-append}
 use Rattle.std.specs.List.{flat_map}
@@ -40,7 +40,7 @@ referred_reverse (d ∷ ds) =
     ∙ ap (λ (es : List (List Field)). es ++ d.now ∷ []) (referred_reverse ds)
     ∙ sym (reverse-append (d.now ∷ []) (rows_referred ds))
 
--- what was appended stands behind, where there was room
+-- what was appended is at the end, if there was room
 pub appended : {X E A : Type 0} (r : Result A E) (xs ys zs : List X) → xs ≡ (if is_ok r then ys else zs) → OnOk r (xs ≡ ys)
 appended (Ok a) xs ys zs is = is
 appended (Err e) xs ys zs is = tt

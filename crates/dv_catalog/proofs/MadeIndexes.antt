@@ -1,4 +1,4 @@
--- Indexes that are made of a collection, of the collection of a namespace, and of a state.
+-- Indexes that are made in a collection, in the collection of a namespace, and in a state.
 use Rattle.std.proofs.Common.{◌≡◌, ◌⊎◌, inl, inr, ℕ, Bool, true, false, if◌then◌else◌, List, length, map, Option, Some, Result, Ok, Err, refl, sym, ap, subst, ◌∙◌}
 use Rattle.std.proofs.lemmas.Slice.Eq.{bytes_eq-Decides}
 use Rattle.std.specs.FinMap as finite
@@ -17,7 +17,7 @@ use Rattle.dv_catalog.specs.Inner.StateLaws.{get-insert}
 use Rattle.dv_catalog.proofs.ByNamespace.{made-there, with_collection}
 use Rattle.dv_catalog.proofs.Keeping.{UnreadIsNoMatter, kept_same_documents}
 
--- ---- of a collection, and of the collection of a namespace
+-- ---- in a collection, and in the collection of a namespace
 
 module _ (old : Namespaces) (name : List ℕ) (c : Collection) (are : collection_of name old ≡ c) where
   so_there : (written : Collection) (made : Result (List IndexForm) Refusal) → collection_so c made ≡ Ok written → namespaces_so name made old ≡ Ok (with_collection name written old)
@@ -50,7 +50,7 @@ put_itself : (b : Bool) (c : Collection) (there : Option Standing) → b ≡ tru
 put_itself true c there is = refl
 put_itself false c there is = absurd cc
 
--- what is put under a namespace stands there
+-- what is put under a namespace is there
 pub stands_there : (old : Namespaces) (name : List ℕ) (c : Collection) (new : Namespaces) → new ≡ with_collection name c old → collection_of name new ≡ c
 stands_there old name c new now =
     ap (collection_of name) now
@@ -61,7 +61,7 @@ pub counts_there : (old new : Namespaces) (name : List ℕ) (c written : Collect
     → counts ≡ record { before = length (indexes_of name old); after = length (indexes_of name new) }
 counts_there old new name c written counts a b is = is ∙ (λ i. record { before = length (sym a i).indexes; after = length (sym b i).indexes })
 
--- ---- of a state
+-- ---- in a state
 
 module _ (unread : UnreadIsNoMatter) (name : List ℕ) (old : Namespaces) (vs : Views) (none : is_view name (map view_form vs) ≡ false) where
   kept_so : (made : Result (List IndexForm) Refusal) (new : Namespaces) → namespaces_so name made old ≡ Ok new → IsKept old vs → IsKept new vs
@@ -112,7 +112,7 @@ module _ (name : List ℕ) (state : State) where
   pub not_dropped_on_view : (dropped : List ℕ) → is_view name state.views ≡ true → indexes_dropped name dropped state ≡ Err OnView
   not_dropped_on_view dropped is = view_drops dropped true _ is refl
 
--- what a drop makes of the namespaces
+-- the namespaces after a drop
 abbrev pub drops_by : Bool → List ℕ → List ℕ → Namespaces → Result Namespaces Refusal
 drops_by there name dropped old = if there then namespaces_so name (without_named dropped (indexes_of name old)) old else Err NamespaceNotFound
 

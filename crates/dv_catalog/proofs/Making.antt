@@ -1,4 +1,4 @@
--- Views and collections that are made, and taken out.
+-- Views and collections that are made, and removed.
 use Rattle.std.proofs.Common.{◌≡◌, ◌⊎◌, inl, inr, ◌||◌, not, ℕ, Bool, true, false, if◌then◌else◌, List, [], ◌∷◌, ◌++◌, map, Option, Some, None, Result, Ok, Err, refl, sym, ap, subst, ◌∙◌}
 use Rattle.std.proofs.lemmas.Slice.Eq.{bytes_eq-Decides}
 use Rattle.std.specs.List.{list_any}
@@ -20,7 +20,7 @@ use Rattle.dv_catalog.specs.State.{Namespaces, State, has_name, is_collection, i
 use Rattle.dv_catalog.specs.Views.{view_refusal, with_view, with_view_by, with_views}
 use Rattle.dv_catalog.proofs.Refreshed.{fresh_mark, partly_marks, refreshed_marks}
 
--- ---- kept, where the views' forms stay
+-- ---- kept, if the views' forms stay
 
 pub kept_forms : (namespaces : Namespaces) (before after : Views) → map view_form after ≡ map view_form before → AreRight (lists_of namespaces) after → IsKept namespaces before → IsKept namespaces after
 kept_forms namespaces before after forms right kept = record {
@@ -51,7 +51,7 @@ no_fault : (fault : Option ViewFault) → IsRefusedFor {T = Unit {0}} fault (Ok 
 no_fault None told = refl
 no_fault (Some f) told = absurd cc
 
--- for this fault, or for want of memory
+-- refused for this fault, or because memory ran out
 which_fault : (fault : Option ViewFault) (e : ViewFault) → IsRefusedFor {T = Unit {0}} fault (Err e) → (fault ≡ Some e) ⊎ (view_refusal e ≡ WantOfMemory)
 which_fault None e told = inr (ap view_refusal told)
 which_fault (Some f) e told = let same : e ≡ f = cc in inl (ap Some (sym same))
@@ -92,7 +92,7 @@ module _ (name source : List ℕ) (stages : List Stage) (namespaces : Namespaces
         ∙ marks_more created.refreshed created.added.view
         ∙ (λ i. refreshed_marks (needed forms (names_read stages source)) before created.refreshed created.read.0 created.read.1 i ++ fresh_mark created.added.view.mark created.added.fresh i ∷ [])
 
-  -- where there can be none
+  -- if the view is refused
   module _ (e : ViewFault) (told : IsRefusedFor {T = Unit {0}} (fault_of_new forms name source stages) (Err e)) where
     pub view_refused : (with_views (state_of namespaces before) (with_view form forms) ≡ Err (view_refusal e)) ⊎ (view_refusal e ≡ WantOfMemory)
     view_refused = by_fault (which_fault (fault_of_new forms name source stages) e told)
@@ -110,7 +110,7 @@ module _ (name source : List ℕ) (stages : List Stage) (namespaces : Namespaces
         by_fault (inl is) = inr (ap marks_of (kept (λ none. cc)))
         by_fault (inr want) = inl (want, partly_marks (needed forms (names_read stages source)) before after partly)
 
--- ---- a view less
+-- ---- one view less
 
 kept_form : (b : Bool) (v : View) (vs : Views) → map view_form (if b then v ∷ vs else vs) ≡ (if b then view_form v ∷ map view_form vs else map view_form vs)
 kept_form true v vs = refl

@@ -1,4 +1,4 @@
--- How views stand behind changes.
+-- The marks of views after changes.
 use Rattle.std.proofs.Common.{◌≡◌, ◌⊎◌, ◌<◌, inl, inr, is_some, take, arith, ℕ, Bool, true, false, if◌then◌else◌, List, [], ◌∷◌, not, map, length, Result, Ok, Err, refl, sym, ap, subst, ◌∙◌}
 use Rattle.dv_change.specs.declared.change.Change as flow
 use Rattle.dv_change.specs.declared.taking.Taken as taking
@@ -35,7 +35,7 @@ use Rattle.dv_catalog.proofs.Keeping.{MadeAsTold, reads_forms}
 use Rattle.dv_catalog.proofs.Stopping.{take_none}
 use Rattle.dv_catalog.specs.Inner.MarkLaws.{nothing_counted, one_unmarked}
 
--- ---- behind changes
+-- ---- after changes
 
 shown_mark : (m : views.ViewMark) → mark_of m ≡ (if is_stale m then stale else live (mark_ticks m))
 shown_mark (views.live kept) = refl
@@ -77,7 +77,7 @@ abbrev pub UnreadIsNotCounted : Type 0
 UnreadIsNotCounted = (namespace : List ℕ) (changes : List flow.Change) (lists : Lists) (forms : List ViewForm) → is_read_by forms namespace ≡ false → shares namespace changes lists forms ≡ map (λ v. nothing) forms
 
 module _ (made : MadeAsTold) (unread : UnreadIsNotCounted) (lists : Lists) (namespace : List ℕ) (changes : List Change) (tell : List flow.Change) (told_all : List taking.Taken) (tells : changes_told told_all ≡ tell) (vs ws : Views) (ordered : AreOrdered (lists namespace)) where
-  -- how views stand behind changes of which they were told
+  -- the marks of views after changes that were passed to them
   pub are_marked : AreAble (lists namespace) changes → AreTold namespace vs (lists namespace) changes told_all → AreRight lists vs → CountsWork namespace tell told_all vs ws → AreMarkedBy namespace changes lists (map view_form vs) (marks_of vs) (marks_of ws)
   are_marked able (inl so) right counts =
       let is : tell ≡ map told changes = sym tells ∙ so.changes_are in
@@ -91,7 +91,7 @@ module _ (made : MadeAsTold) (unread : UnreadIsNotCounted) (lists : Lists) (name
       let same = unread namespace tell lists (map view_form vs) none ∙ sym (unread namespace (map told changes) lists (map view_form vs) none) in
       marked_each (shares namespace (map told changes) lists (map view_form vs)) vs ws (subst (λ (ss : List Share). AreCounted ss vs ws) same (counts lists all olds right))
 
--- without changes they stand as they stood
+-- without changes the marks may stay as they were
 no_shares : (namespace : List ℕ) (lists : Lists) (forms : List ViewForm) → shares namespace [] lists forms ≡ map (λ v. nothing) forms
 unfolding shares
 no_shares namespace lists forms = refl
@@ -105,7 +105,7 @@ unmarked : (namespace : List ℕ) (changes : List Change) (lists : Lists) (forms
 unmarked namespace changes lists forms marks none =
     subst (λ (all : List Share). AreMarkedSo all marks marks) (sym (ap (λ (cs : List Change). shares namespace (map told cs) lists forms) none ∙ no_shares namespace lists forms)) (unmarked_by forms marks)
 
--- and where they were told of no changes they stand as before
+-- and without changes no other marks are possible
 unmarked_after : (forms : List ViewForm) (before after : Marks) → AreMarkedSo (map (λ v. nothing) forms) before after → after ≡ before
 unmarked_after [] before after are = are
 unmarked_after (v ∷ forms) [] after are = are
@@ -117,7 +117,7 @@ still_marked namespace changes lists forms before after none are =
     unmarked_after forms before after
     (subst (λ (all : List Share). AreMarkedSo all before after) (ap (λ (cs : List Change). shares namespace (map told cs) lists forms) none ∙ no_shares namespace lists forms) are)
 
--- ---- with a view less
+-- ---- with one view less
 
 less_one : (b : Bool) (v : View) (vs : Views) (rest : List Mark) → marks_of vs ≡ rest → marks_of (if not b then v ∷ vs else vs) ≡ (if b then rest else mark_of v.mark ∷ rest)
 less_one true v vs rest is = is
@@ -130,7 +130,7 @@ marks_less name (v ∷ vs) = less_one (is_view_named name v) v (views_without na
 pub marked_dropped : (name : List ℕ) (state : State) (before after : Marks) → is_collection name state.namespaces ≡ false → after ≡ marks_without name state.views before → AreMarkedByDrop name state before after
 marked_dropped name state before after none is = subst (λ (b : Bool). AreMarkedWhere b name state before after) (sym none) is
 
--- ---- behind a statement
+-- ---- after a statement
 
 module _ {B : Type 0} (namespace : List ℕ) (does : Result Effect Refusal) (old : Marked) where
   -- that stops before its first change
@@ -162,13 +162,13 @@ no_more n d c (inr fewer) = by_changes (done_changes c (put_new d))
     by_changes (inl same) = one_more n d c.documents (subst (λ (changes : List Change). n < length changes) same fewer)
     by_changes (inr none) = let nothing : n < length {A = Change} [] = subst (λ (changes : List Change). n < length changes) none fewer in absurd (omega (arith, nothing))
 
--- a document that isn't put changes nothing, as there is no first part of one change
+-- a document that isn't put changes nothing, as a single change isn't made in part
 pub put_stops : (d : List Field) (c : Collection) (namespace : List ℕ) (old new : Namespaces) (stopped : Stopped)
     → IsRefused (done_to c (put_new d)) old stopped new ⊎ IsCut namespace (done_to c (put_new d)) old stopped new → stopped.done ≡ 0
 put_stops d c namespace old new stopped (inl refused) = refused.none
 put_stops d c namespace old new stopped (inr cut) = no_more stopped.done d c cut.fewer
 
--- ---- where there is no document, nothing is done
+-- ---- if there is no document, nothing is done
 
 abbrev none_done : Result Effect Refusal
 none_done = Ok (record { matched = 0; changes = [] })

@@ -45,13 +45,13 @@ id_in_all law form [] h e = absurd h
 id_in_all law form (f ∷ fs) h e =
     law form (codes "_id" ∷ []) (f ∷ fs) f.1 (λ l leaf. sym (or-false (is_key_of l f.1)) ∙ sym (ap (λ cs. is_some_key l (map or_null cs)) (leaves-id f fs h)) ∙ leaf) e
 
--- ---- what the index on `_id` is asked for
+-- ---- what is requested of the index on `_id`
 
 only-path : (p q : List (List ℕ)) (n : ℕ) → slice_get (p ∷ []) n ≡ Some q → q ≡ p
 only-path p q zero e = cc
 only-path p q (suc n) e = absurd cc
 
--- a key that the bounds cover is the key of one of the values, where they hold it equal to some
+-- a key that the bounds cover is the key of one of the values, if the bounds are equalities
 covered-value : (c : Condition) (vs : List Tree) (k : KeyTree) → equals_in (Some (zero, c)) ≡ Some vs → covers c k ≡ true → is_some_key k vs ≡ true
 covered-value (equal v) vs k e h = let same : v ∷ [] ≡ vs = cc in ap (is_some_key k) (sym same) ∙ or-false (is_key_of k v) ∙ h
 covered-value (among ws) vs k e h = let same : ws ≡ vs = cc in ap (is_some_key k) (sym same) ∙ h
@@ -74,12 +74,12 @@ equal_asked within keys form xs vs are asked d h e = by (chosen form paths) refl
         let path : bounds.0 ≡ codes "_id" ∷ [] = only-path (codes "_id" ∷ []) bounds.0 n (ap (λ ps. slice_get ps n) (sym one) ∙ bounds.1) in
         covered-value c vs (id_key d) some (sym (id-covered keys c d h) ∙ ap (λ p. has_within c p d) (sym path) ∙ bounds.2 d e)
 
--- to be among the keys of values is to be the key of one of them
+-- a key is among the keys of values exactly if it is the key of one of them
 pub among_values : (k : KeyTree) (vs : List Value) → has_key k (map (λ v. value (canon (tree v))) vs) ≡ is_some_key k (map tree vs)
 among_values k [] = refl
 among_values k (v ∷ vs) = ap (λ b. is_key_of k (tree v) || b) (among_values k vs)
 
--- a key stands between two ends that are one key exactly where it is equal to this
+-- a key is between two ends that are one key exactly if it is equal to this key
 pub at_key : (k l : KeyTree) → range_contains key_order (Included l) (Included l) k ≡ is_eq (key_order k l)
 at_key k l = between (key_order l k) ∙ ap is_eq (key_order_total.antisymm l k) ∙ turned (key_order k l)
   where

@@ -19,7 +19,7 @@ use Rattle.dv_catalog.proofs.StatsTold.{mark_shown}
 abbrev IsNew : List ℕ → Views → Type 0
 IsNew name vs = AllByRecursion (λ v. bytes_eq name v.name ≡ false) vs
 
--- what a view reads is none of the views that are no older
+-- a name that a view reads is not the name of a view that it doesn't read
 new_where_read : (w : View) (name : List ℕ) → reads w name ≡ true → (vs : Views) → AllByRecursion (λ (other : ViewForm). is_read w.stages w.source other.name ≡ false) (map view_form vs) → IsNew name vs
 new_where_read w name read [] unread = tt
 new_where_read w name read (v ∷ vs) unread = (by (bytes_eq name v.name) refl, new_where_read w name read vs unread.1)
@@ -42,7 +42,7 @@ module _ (all : Views) where
   abbrev marks : Marks
   marks = marks_of all
 
-  -- what is stale under a name that none of the views has is far from being live
+  -- what is stale under a name that none of the views has is at distance 1
   abbrev AreFar : (List ℕ → ℕ) → Views → Type 0
   AreFar distances vs = (name : List ℕ) → IsNew name vs → mark_named name forms marks ≡ Some stale → distances name ≡ 1
 

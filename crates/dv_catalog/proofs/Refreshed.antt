@@ -1,4 +1,4 @@
--- Views that are made anew, and what they show.
+-- Views that are recomputed, and what they show.
 use Rattle.std.proofs.Common.{◌≡◌, inl, inr, ◌||◌, ℕ, Bool, true, false, if◌then◌else◌, List, [], ◌∷◌, map, Option, Some, None, Result, Ok, Err, OnOk, OnErr, refl, sym, ap, subst, ◌∙◌}
 use Rattle.std.proofs.lemmas.Slice.Eq.{bytes_eq-Decides}
 use Rattle.std.specs.List.{list_any}
@@ -68,13 +68,13 @@ module _ (names : List (List ℕ)) where
   partly_marks (v ∷ vs) [] all = absurd all
   partly_marks (v ∷ vs) (w ∷ ws) all = (partly_one v w all.0, partly_marks vs ws all.1)
 
-  -- where none is made anew
+  -- if none is recomputed
   pub unread_marks : (forms : List ViewForm) (marks : Marks) → ArePartlyNamed names forms marks marks
   unread_marks [] marks = refl
   unread_marks (v ∷ forms) [] = refl
   unread_marks (v ∷ forms) (mark ∷ marks) = (inl refl, unread_marks forms marks)
 
-  -- where all are
+  -- if all are
   read_marks : (forms : List ViewForm) (marks : Marks) → ArePartlyNamed names forms marks (marks_named names forms marks)
   read_marks [] marks = refl
   read_marks (v ∷ forms) [] = refl
@@ -84,7 +84,7 @@ module _ (names : List (List ℕ)) where
       by_name true = inr (refl, refl)
       by_name false = inl refl
 
-  -- where none is stale
+  -- if none is stale
   live_marks : (vs : Views) → AreLive names vs → marks_named names (map view_form vs) (marks_of vs) ≡ marks_of vs
   live_marks [] all = refl
   live_marks (v ∷ vs) all = λ i. stands_one v (is_name_among v.name names) all.0 i ∷ live_marks vs all.1 i
@@ -97,25 +97,25 @@ module _ (names : List (List ℕ)) where
   fewer_live others among [] all = tt
   fewer_live others among (v ∷ vs) all = ((λ named. all.0 (among v.name named)), fewer_live others among vs all.1)
 
--- ---- a reading
+-- ---- a read
 
 abbrev pub AskedIsNeeded : Type 0
 AskedIsNeeded = (forms : List ViewForm) (names : List (List ℕ)) (name : List ℕ) → is_name_among name names ≡ true → is_name_among name (needed forms names) ≡ true
 
 module _ (names : List (List ℕ)) where
   module _ (namespaces : Namespaces) (vs : Views) where
-    -- where none that is needed is stale
+    -- if no view that is needed is stale
     pub read_live : AreLive (needed (map view_form vs) names) vs → marked_of namespaces vs ≡ record (marked_of namespaces vs) { marks = marks_read names (map view_form vs) (marks_of vs) }
     read_live all = λ i. record { state = state_of namespaces vs; marks = sym (live_marks (needed (map view_form vs) names) vs all) i }
 
-    -- where none is
+    -- if no view is stale
     pub read_none_stale : list_any (λ v. is_stale v.mark) vs ≡ false → marked_of namespaces vs ≡ record (marked_of namespaces vs) { marks = marks_read names (map view_form vs) (marks_of vs) }
     read_none_stale none = read_live (none_stale (needed (map view_form vs) names) vs none)
 
     pub live_needed : AskedIsNeeded → AreLive (needed (map view_form vs) names) vs → AreLive names vs
     live_needed law all = fewer_live names (needed (map view_form vs) names) (law (map view_form vs) names) vs all
 
-    -- when memory runs out before
+    -- if memory runs out before any view is recomputed
     pub reads_nothing : {B E : Type 0} (result : Result B E) → IsErr result → Reads names (marked_of namespaces vs) result (marked_of namespaces vs)
     reads_nothing (Ok x) is = absurd cc
     reads_nothing (Err e) is = (refl, unread_marks (needed (map view_form vs) names) (map view_form vs) (marks_of vs))
@@ -132,13 +132,13 @@ module _ (names : List (List ℕ)) where
       live_refreshed law (Ok x) ok = fewer_live names those (λ name among. subst (λ (ns : List (List ℕ)). is_name_among name ns ≡ true) (sym are) (law (map view_form vs) names name among)) ws ok.1
       live_refreshed law (Err e) ok = tt
 
-  -- what goes on behind it changes nothing
+  -- what follows the read changes nothing
   pub reads_on : {A B E : Type 0} (old new : Marked) (x : A) → Reads {E = E} names old (Ok x) new → (result : Result B E) → Reads names old result new
   reads_on old new x is (Ok y) = is
   reads_on old new x is (Err e) =
       (ap (λ (m : Marked). m.state) is, subst (λ (marks : Marks). ArePartlyRead names old.state.views old.marks marks) (sym (ap (λ (m : Marked). m.marks) is)) (read_marks (needed old.state.views names) old.state.views old.marks))
 
--- ---- what stands under a name
+-- ---- the rows under a name
 
 abbrev pub ShownIsRight : Type 0
 ShownIsRight = (name : List ℕ) (lists : Lists) (vs : Views) (rows : List (List Field)) → AreNamedApart vs → AreRight lists vs → rows_shown name vs ≡ Some rows → rows ≡ rows_over (map view_form vs) lists name
@@ -167,7 +167,7 @@ kept_is_right shown unnamed name namespaces vs apart right all = by_rows (rows_s
     by_rows None is = sym (unnamed name (lists_of namespaces) (map view_form vs) (view_forms vs name ∙ none_shown name vs all is))
     by_rows (Some rows) is = shown name (lists_of namespaces) vs rows apart right is
 
--- what is kept under names whose views have their rows
+-- the rows that are kept under names whose views are live
 pub kept_alike : (names : List (List ℕ)) (lists : Lists) (namespaces : Namespaces) (vs : Views) (state : State) → ((name : List ℕ) → AreLive (name ∷ []) vs → rows_kept name namespaces vs ≡ rows_of name (state_of namespaces vs))
     → state_of namespaces vs ≡ state → AreLive names vs → AreAlike names lists (λ name. rows_kept name namespaces vs) → AreAlike names lists (λ name. rows_of name state)
 kept_alike names lists namespaces vs state right is all alike = λ name among. alike name among ∙ right name (fewer_live (name ∷ []) names (λ n e. by_name n name e among) vs all) ∙ ap (rows_of name) is

@@ -1,4 +1,4 @@
--- The rows of a find, sorted, behind some and not more than some.
+-- The rows of a find: sorted, without the first ones, and up to a limit.
 use Rattle.std.proofs.Common.{false, ◌≡◌, ◌++◌, ◌≤◌, ℕ, zero, suc, List, [], ◌∷◌, Option, Some, None, drop, take, refl, ap, sym, ◌∙◌, arith}
 use Rattle.std.proofs.lemmas.List.{drop-take}
 use Rattle.std.specs.Prelude.{⊤}
@@ -14,7 +14,7 @@ abbrev pub IsWithin : ℕ → Option ℕ → Type 0
 IsWithin n None = ⊤
 IsWithin n (Some most) = n ≤ most
 
--- a sorter to which these rows came so far, and all rows
+-- a sorter that has received some rows so far, the rows that are left, and all rows
 pub record IsSorting (parts : List Part) (most : Option ℕ) (sorter : Front) (left all : List (List Field)) : Type 0 where
   pub came : List (List Field)
   pub holds : sorter ≡ front_of parts most came

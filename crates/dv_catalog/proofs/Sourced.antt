@@ -20,7 +20,7 @@ abbrev pub is_listed : List ℕ → List Source → Bool
 is_listed name sources = list_any (λ s. bytes_eq name s.0) sources
 
 module _ (name m : List ℕ) (rows : List (List Field)) where
-  -- rows that come under a name, where the name is listed already, and where it isn't
+  -- rows that are added under a name, if the name is listed already, and if it isn't
   rows_more : (sources : List Source) → rows_under name (sources ++ (m, rows) ∷ []) ≡ (if is_listed name sources then rows_under name sources else if bytes_eq name m then rows else [])
   rows_more [] = refl
   rows_more (s ∷ ss) = by_name (bytes_eq name s.0) (rows_more ss)
@@ -85,7 +85,7 @@ module _ (names : List (List ℕ)) (lists : Lists) where
         by_side name (inl is) = inl (listed_more name m rows sources ∙ is)
         by_side name (inr is) = inr is
 
-    -- rows are there
+    -- the name has rows already
     there_all : (row : List Field) (others : List (List Field)) → rows_under m sources ≡ row ∷ others → AreListed sources rest
     there_all row others there = record {
       right = listed.right;

@@ -22,7 +22,7 @@ none_named_stale vs (other ∷ names) none name among =
     by_name true same first rest among = subst (λ (n : List ℕ). is_stale_view (view_under n vs) ≡ false) (sym ((bytes_eq-Decides name other).0 same)) first
     by_name false same first rest among = rest among
 
--- a view is the one of its name
+-- each view is the one that is found under its name
 abbrev pub AreFound : Views → Views → Type 0
 AreFound all vs = AllByRecursion (λ v. view_under v.name all ≡ Some v) vs
 
@@ -33,7 +33,7 @@ found_behind w all (v ∷ vs) apart found = (
   found_behind w all vs apart.1 found.1,
 )
 
--- each view is the one of its name, where no two have one
+-- each view is the one that is found under its name, if no two have the same
 pub found_each : (vs : Views) → AreNamedApart vs → AreFound vs vs
 unfolding IsDistinct
 found_each [] apart = tt

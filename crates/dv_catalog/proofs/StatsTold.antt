@@ -1,4 +1,4 @@
--- What is told of how a view stands.
+-- What is returned for the state of a view.
 use Rattle.std.proofs.Common.{◌≡◌, ℕ, Bool, true, false, if◌then◌else◌, List, [], ◌∷◌, map, length, Option, Some, None, refl, sym, ap, ◌∙◌}
 use Rattle.std.specs.Option.{option_and_then, option_map}
 use Rattle.dv_value.specs.Tree.{Field}
@@ -44,7 +44,7 @@ module _ (name : List ℕ) (namespaces : Namespaces) (vs : Views) where
   pub no_stats : option_map (λ v. views_inner.state_of_mark v.mark) (view_under name vs) ≡ None → stats_of name (marked_of namespaces vs) ≡ None
   no_stats none = ap (option_map (stats_by those)) (mark_shown name vs ∙ no_mark (view_under name vs) none)
 
-  -- where the rows that are shown are right
+  -- if the rows that are shown are right
   pub stats_are : ((rows : List (List Field)) → rows_shown name vs ≡ Some rows → rows ≡ those) → (there : Option View) → view_under name vs ≡ there → (how : ViewState) (count ticks : ℕ)
       → Some how ≡ option_map (λ v. views_inner.state_of_mark v.mark) there → Some count ≡ option_map (λ v. views_inner.mark_rows v.mark) there → Some ticks ≡ option_map (λ v. views_inner.mark_ticks v.mark) there
       → Some (record { is_live = live_shown how; rows = count; ticks = ticks }) ≡ stats_of name (marked_of namespaces vs)
@@ -57,7 +57,7 @@ module _ (name : List ℕ) (namespaces : Namespaces) (vs : Views) where
       ∙ ap Some (stats_shown v.mark those (λ rows is. right rows (ap (option_and_then (λ (w : View). kept_rows w.mark)) named ∙ is)))
       ∙ sym (ap (option_map (stats_by those)) (mark_shown name vs ∙ ap (option_map (λ (w : View). mark_of w.mark)) named))
 
-  -- where the rows that are shown are right
+  -- if the rows that are shown are right
   pub stored_are : ((rows : List (List Field)) → rows_shown name vs ≡ Some rows → rows ≡ those) → (there : Option View) → view_under name vs ≡ there → rows_shown name vs ≡ stored_of name (marked_of namespaces vs)
   stored_are right None named =
       ap (option_and_then (λ (w : View). kept_rows w.mark)) named

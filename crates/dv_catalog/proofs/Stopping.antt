@@ -38,7 +38,7 @@ module _ (namespace : List ℕ) (does : Result Effect Refusal) (old new : Namesp
   pub stops_before : {B : Type 0} (counted : B → Counted) (refusal : Refusal) (stopped : Stopped) → stopped ≡ record { refusal = refusal; done = 0 } → (does ≡ Err refusal) ⊎ (refusal ≡ WantOfMemory) → MakesSo counted namespace does old (Err stopped) new
   stops_before counted refusal stopped is why = subst (λ (s : Stopped). IsRefused does old s new ⊎ IsCut namespace does old s new) (sym is) (unchanged refusal why)
 
--- ---- the first so many changes
+-- ---- the first changes
 
 placed_first : (documents : List (List Field)) (changes : List Change) (n : ℕ) → ArePlaced documents changes → ArePlaced documents (take n changes)
 placed_first documents [] zero placed = tt
@@ -49,7 +49,7 @@ placed_first documents (change ∷ changes) (suc n) placed = (placed.0, placed_f
 pub first_placed : (documents : List (List Field)) (changes : List Change) (n : ℕ) → ArePlaced documents changes → ArePlaced documents (take n changes)
 first_placed = placed_first
 
--- where not all of the first ones are made
+-- if not all of the first ones are made
 module _ (some all : List Change) (first : AreFirst some all) (done : ℕ) (within : done ≤ length some) where
   few : done ≤ first.count
   few = omega (arith, within, ap length first.are, (take_shorter first.count all).0)
@@ -93,6 +93,6 @@ module _ {X : Type 0} (change : X → Change) (old : IndexedTree) (all : List X)
   made_next place x now next within is so_far goes =
       made_more place x (drop (place + 1) all) now next (subst (λ (left : List X). AreMadeSoFar change old all place left now) (drop-read all place x within is) so_far) goes
 
--- a document that is put where one is
+-- a document that is put in place of another one
 pub put_replaced : (d : List Field) (ds : List (List Field)) → is_some (found (id_key d) ds) ≡ true → with_put d ds ≡ replaced d ds
 put_replaced d ds is = ap (λ (b : Bool). if b then replaced d ds else inserted d ds) is

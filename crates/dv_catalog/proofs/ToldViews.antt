@@ -1,4 +1,4 @@
--- What views are told of changes stood there.
+-- The old documents that are passed to views with changes were there.
 use Rattle.std.proofs.Common.{◌≡◌, inl, inr, ℕ, zero, suc, Bool, true, false, List, [], ◌∷◌, map, take, Option, None, Some, is_some, if◌then◌else◌, refl, sym, ap, subst, ◌∙◌, arith}
 use Rattle.std.proofs.lemmas.List.{take-map, take_all}
 use Rattle.std.specs.FinMap as finite
@@ -53,7 +53,7 @@ pub record OldLaws : Type 0 where
   pub without : FoundWithout
 
 module _ (laws : OldLaws) where
-  -- documents behind a change stand at their own positions
+  -- documents after a change are at their own positions
   one-behind : (c : Change) (ds : List (List Field)) → AreOrdered ds → IsAble ds c → rows.with_change (positioned ds) (told c) ≡ positioned (with_change ds c)
   one-behind c ds ordered is =
       let both = laws.made ds (c ∷ []) ordered (is, tt) in
@@ -78,7 +78,7 @@ module _ (laws : OldLaws) where
   pub updates_so : (ds : List (List Field)) (name : List ℕ) (each : List Updated) → AreOrdered ds → ArePlaced ds (update_changes name each) → AreUpdatesOf ds name each → AreToldSo ds (update_changes name each) (updates_told name each)
   updates_so ds name each ordered placed are = record { changes_are = updates-changes name each; olds = updates-olds ds name each ordered placed are }
 
-  -- ---- documents that go
+  -- ---- documents that are removed
 
   left-there : (k l : KeyTree) (ds all : List (List Field)) → ((m : KeyTree) → is_some (found m ds) ≡ true → found m ds ≡ found m all) → is_some (found l (removed k ds)) ≡ true → found l (removed k ds) ≡ found l all
   left-there k l ds all same there = by (is_eq (key_order k l)) refl
@@ -102,7 +102,7 @@ module _ (laws : OldLaws) where
   pub gones_so : (ds : List (List Field)) (keys : List KeyTree) → AreOrdered ds → ArePlaced ds (map gone keys) → AreToldSo ds (map gone keys) (gones_told ds keys)
   gones_so ds keys ordered placed = record { changes_are = gones-changes ds keys; olds = gones-olds ds ds keys ordered placed (λ m there. refl) }
 
-  -- all that stand there
+  -- all documents that are there
   each-gone : (ds all : List (List Field)) → AllByRecursion (λ d. found (id_key d) all ≡ Some d) ds → gones_told all (map id_key ds) ≡ gones_of ds
   each-gone [] all stand = refl
   each-gone (d ∷ ds) all stand = let rest = each-gone ds all stand.1 in λ i. record { pos = own_position d; old = stand.0 i; new = None } ∷ rest i
@@ -116,7 +116,7 @@ module _ (laws : OldLaws) where
       let so = gones_so ds (map id_key ds) ordered (subst (ArePlaced ds) (sym (same-gone ds)) placed) in
       subst (λ (cs : List Change). AreToldSo ds cs (gones_of ds)) (same-gone ds) (subst (λ (ts : List taking.Taken). AreToldSo ds (map gone (map id_key ds)) ts) (each-gone ds ds stand.0) so)
 
--- ---- a document that comes where none is
+-- ---- a document that is inserted
 
 not-there : (o : Option (List Field)) → is_some o ≡ false → o ≡ None
 not-there None is = refl
@@ -131,14 +131,14 @@ pub same_documents : {T : Type 0} (f : T → Collection) (namespaces : Namespace
 same_documents f namespaces namespace None is = sym (documents_there namespaces namespace None (sym is))
 same_documents f namespaces namespace (Some c) is = sym (documents_there namespaces namespace (Some (standing_seen (f c))) (sym is))
 
--- ---- the first of them
+-- ---- the first changes
 
 first-olds : (n : ℕ) (r : Positioned) (all : List taking.Taken) → AreToldOf r all → AreToldOf r (take n all)
 first-olds zero r all olds = tt
 first-olds (suc n) r [] olds = tt
 first-olds (suc n) r (t ∷ ts) olds = (olds.0, first-olds n (rows.with_change r (change_told t)) ts olds.1)
 
--- the front of what is told is told of the first changes
+-- the first of what is passed for all changes is what is passed for the first changes
 pub told_first : (n : ℕ) (namespace : List ℕ) (registry : Views) (documents : List (List Field)) (changes : List Change) (all : List taking.Taken) → AreTold namespace registry documents changes all
     → AreTold namespace registry documents (take n changes) (take n all)
 told_first n namespace registry documents changes all (inl so) =

@@ -75,7 +75,7 @@ puts_placed law documents (d ∷ ds) ids there = (
   still_placed (is_some (found (id_key d) documents)) d documents (map put ds) there.0 (puts_placed law (replaced d documents) ds ids.1 (still_there law d documents ds there.1)),
 )
 
--- what becomes of the documents that an updating is for
+-- the results for the documents that an updating selects
 pub updates_placed : StillFound → KeepsId → (updating : Updating) (old ds changed : List (List Field)) → ds ≡ all_or_first (not updating.multi) (matching updating.filter old) → AllByRecursion HasId old
     → changed_by updating.update ds ≡ Ok changed → ArePlaced old (map put changed)
 updates_placed still law updating old ds changed finds all does =
@@ -87,12 +87,12 @@ updates_placed still law updating old ds changed finds all does =
     let both = both_placed old changed (all_changed_good (IsPlaced old) updating.update ds changed does (afters_placed law updating.update old ds ids there)) in
     puts_placed still old changed both.0 both.1
 
--- ---- what is updated stands where it stood
+-- ---- updated documents stay where they were
 
 abbrev pub Others : Type 0
 Others = (d e : List Field) (ds those : List (List Field)) → AreStanding ds (e ∷ those) → id_key d ≡ id_key e → AreStanding (replaced d ds) those
 
--- after one is put, the others stand still
+-- after one is put, the others are still there
 pub next_updates : Others → (documents : List (List Field)) (name : List ℕ) (u : Updated) (left : List Updated) → AreUpdatesOf documents name (u ∷ left) → AreUpdatesOf (replaced (after_of name u) documents) name left
 next_updates law documents name u left are =
     let first : id_key (after_of name u) ≡ id_key u.before = cc (are.same_ids) in
@@ -123,7 +123,7 @@ all_ids_kept law update [] changed ids is = let all : [] ≡ changed = cc in ap 
 all_ids_kept law update (d ∷ ds) changed ids is =
     ids-kept law update d ds (after update d) (changed_by update ds) changed (λ e told. (after_id law update d e ids.0 told).1) (λ es rest. all_ids_kept law update ds es ids.1 rest) is
 
--- of the documents that an updating is for
+-- laws of the documents that an updating selects
 pub record StandingLaws : Type 0 where
   pub all : (ds : List (List Field)) → IsAscending ds → AreStanding ds ds
   pub passing : (p : List Field → Bool) (ds those : List (List Field)) → AreStanding ds those → AreStanding ds (filter p those)

@@ -18,16 +18,16 @@ use dv_path::{SortPart, SortSpec};
 use dv_value::{Document, NoMemory};
 use std::alloc::Global;
 
-/// How often documents are looked at, the last time more than there can be.
+/// How many times documents are read at most; the last time, more are read than there can be.
 const TRIES: usize = 22;
-/// How many times as many as before are looked at, at least.
+/// Each time, at least this many times as many documents are read as the time before.
 const LEAST_GROWTH: usize = 8;
 
-/// The first `most` documents that match the filter, in the order of the sort, where an index on the sort's first path finds
-/// them. Of the documents that the index has first those that match are put in order; they are the first ones if there are
-/// enough, and the last is ahead of all that weren't looked at. Else more are looked at: as many as do if matching ones come at
-/// the same rate, and 8 times as many at least. `None` where the index serves for no more: that few match costs no more than a
-/// constant times going through all documents. Fails when memory runs out.
+/// The first `most` documents that match the filter, in the order of the sort, if an index on the sort's first path finds them. The
+/// first documents of the index are read, and those that match are sorted. They are the result if there are enough of them, and the
+/// last one is before all documents that weren't read. Otherwise more are read: as many as suffice if they match at the same rate,
+/// and at least 8 times as many. `None` if the index doesn't serve, or not for more documents. So if few documents match, this
+/// costs at most a constant times a scan of all documents. Fails when memory runs out.
 pub(crate) fn first_by_index(
     alloc: Global,
     collection: &IndexedCollection,
@@ -59,7 +59,7 @@ pub(crate) fn first_by_index(
     Ok(None)
 }
 
-/// What puts documents in order that the first path of a sort doesn't tell apart: further paths, or else their `_id`s.
+/// What orders documents that the first path of a sort doesn't distinguish: further paths, or else their `_id`s.
 fn ties_of(sort: &SortSpec) -> Ties
     ensures { result ≡ Ties.ById → (by : Part) (parts : List Part) → sort.now ≡ by ∷ parts → parts ≡ [] }
 {
@@ -69,8 +69,9 @@ fn ties_of(sort: &SortSpec) -> Ties
     }
 }
 
-/// The first `most` of the documents in the order of the sort, unless there are fewer or the last one isn't ahead of the bar:
-/// they are those of any rows in the order of their `_id`s that have the same ones ahead of the bar. Fails when memory runs out.
+/// The first `most` of the documents in the order of the sort; `None` if there are fewer, or the last one isn't before the bar.
+/// They are also the first ones of any rows in the order of their `_id`s that have the same rows before the bar. Fails when memory
+/// runs out.
 fn first_of(
     alloc: Global,
     ahead: &Ahead<'_>,

@@ -21,7 +21,7 @@ use std::alloc::Global;
 use std::ops::Bound;
 use std::slice::from_ref;
 
-/// The keys that a filter asks of `_id`s.
+/// The keys that a filter allows for `_id`s.
 #[derive(Drop)]
 pub(crate) enum WantedIds {
     /// Those between two ends.
@@ -30,7 +30,7 @@ pub(crate) enum WantedIds {
     Among(Vec<Key>),
 }
 
-/// What keys the `_id`s of all rows have that match the filter: any where some `_id` is an array. Fails when memory runs out.
+/// Which keys the `_id`s of rows that match the filter can have: any, if some `_id` is an array. Fails when memory runs out.
 pub(crate) fn asked_of_rows(
     alloc: Global,
     rows: &RowsById<'_>,
@@ -39,7 +39,7 @@ pub(crate) fn asked_of_rows(
     ensures { IfOk result (λ asked. AllByRecursion (λ d. matches filter.now d ≡ true → is_asked asked (id_key d) ≡ true) rows.now) }
 {
     if rows.has_array_id()? {
-        // By an element of its array a row may match that stands elsewhere.
+        // A row may match by an element of its array, though the array's key is outside the bounds.
         return Ok(WantedIds::Between(Interval {
             low: Bound::Unbounded,
             high: Bound::Unbounded,
@@ -48,7 +48,7 @@ pub(crate) fn asked_of_rows(
     asked_of_ids(alloc, filter)
 }
 
-/// What keys the `_id`s of all documents have that match the filter.
+/// Which keys the `_id`s of documents that match the filter can have.
 fn asked_of_ids(alloc: Global, filter: &Filter) -> Result<WantedIds, NoMemory>
     ensures { IfOk result (λ asked. (d : List Field) → HasId d → matches filter.now d ≡ true → is_asked asked (id_key d) ≡ true) }
 {
@@ -63,7 +63,7 @@ fn asked_of_ids(alloc: Global, filter: &Filter) -> Result<WantedIds, NoMemory>
     }
 }
 
-/// The values that a plan asks for by an equality or `$in`, where it does.
+/// The values that a plan asks for, if it does so by an equality or `$in`.
 fn values_asked(plan: Plan<'_>) -> Option<&[Value]>
     ensures { option_map (λ values. map tree values.now) result ≡ equals_in (plan_seen plan.entry) }
 {

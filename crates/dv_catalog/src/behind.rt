@@ -1,4 +1,4 @@
-//! Stages behind rows that were found.
+//! The stages that follow a find.
 
 ghost use Rattle.std.specs.Prelude.{◌≡◌, ◌≤◌, length, take, true, IfOk};
 ghost use Rattle.std.specs.List.{list_all};
@@ -19,11 +19,11 @@ use dv_value::{Document, NoMemory};
 use dv_views::{ToldRegistry, beside, lookups_of};
 use std::alloc::Global;
 
-/// Where documents are so many times as many as rows, or more, the rows are looked up among those that some of them are joined
-/// with. To put all documents in order by their values then costs more.
+/// If there are at least this many times as many documents as rows, the rows are looked up only among the documents that one of
+/// them is joined with. Sorting all documents by their values costs more then.
 const MANY_TIMES: usize = 8;
 
-/// The rows that come out of stages of a pipeline over `source` where these rows go in. Fails when memory runs out.
+/// The rows that stages of a pipeline over `source` return for these rows. Fails when memory runs out.
 #[cycle(behind)]
 pub(crate) fn rows_behind(
     alloc: Global,
@@ -56,7 +56,7 @@ pub(crate) fn rows_behind(
     rows_behind(alloc, collections, registry, later, source, &lent)
 }
 
-/// How many rows stand under a namespace; none under a stale view.
+/// How many rows there are under a namespace; a stale view has none.
 fn count_under(collections: &Collections, registry: &ToldRegistry, namespace: &str) -> usize {
     match (registry.row_count(namespace), collections.get(namespace)) {
         (Some(count), _) => count,
@@ -65,7 +65,7 @@ fn count_under(collections: &Collections, registry: &ToldRegistry, namespace: &s
     }
 }
 
-/// The same, where all that the stages look into is at hand.
+/// The same, with all rows that the stages look up collected first.
 fn rows_at_once(
     alloc: Global,
     collections: &Collections,
@@ -82,7 +82,7 @@ fn rows_at_once(
     rows_through(alloc, stages, source, &sources, rows)
 }
 
-/// The place of the first stage that looks into a collection, or how many there are.
+/// The place of the first stage that looks up rows under a name, or how many stages there are.
 fn first_lookup(stages: &[Stage]) -> usize
     ensures within { result ≤ length stages.now }
     ensures nowhere { list_all looks_nowhere (take result stages.now) ≡ true }
@@ -94,8 +94,8 @@ fn first_lookup(stages: &[Stage]) -> usize
     place
 }
 
-/// The rows with the documents that they are joined with, which are looked for among those that some of them are. Fails when
-/// memory runs out.
+/// The rows with the documents that they are joined with. These are searched for only among the documents that one of the rows is
+/// joined with. Fails when memory runs out.
 fn joined(
     alloc: Global,
     within: Searched<'_>,

@@ -1,4 +1,4 @@
-//! Sorts by `_id`, in whose order the documents of a collection stand, and the rows of some views.
+//! Sorts by `_id`: the documents of a collection, and the rows of some views, are already in this order.
 
 ghost use Rattle.std.specs.Prelude.{◌≡◌, ◌∷◌, [], codes, IfOk, IfSome, List};
 ghost use Rattle.dv_path.specs.SortSpec.{Part};
@@ -16,8 +16,8 @@ use dv_value::{Document, NoMemory};
 use dv_views::RowsById;
 use std::alloc::Global;
 
-/// The first documents that match the filter, in the order of a sort whose first path is `_id`: `most` of them, or all. No two
-/// have equal `_id`s, so further paths are no matter. `None` where the first path is another one. Fails when memory runs out.
+/// The first documents that match the filter, in the order of a sort whose first path is `_id`: `most` of them, or all. No two have
+/// equal `_id`s, so further paths don't matter. `None` if the first path is another one. Fails when memory runs out.
 pub(crate) fn first_by_id(
     alloc: Global,
     collection: &IndexedCollection,
@@ -37,8 +37,8 @@ pub(crate) fn first_by_id(
     Ok(Some(copies(alloc, &found)?))
 }
 
-/// The same of the rows of a view that stand by their `_id`s. `None` also where one of these is an array, by whose elements it
-/// is sorted.
+/// The same for the rows of a view that are ordered by their `_id`s. `None` also if one of these is an array, since an array is
+/// sorted by its elements.
 pub(crate) fn first_rows_by_id(
     alloc: Global,
     rows: &RowsById<'_>,
@@ -61,7 +61,7 @@ pub(crate) fn first_rows_by_id(
     Ok(Some(copies(alloc, &found)?))
 }
 
-/// The direction in which a sort puts `_id`s, where its first path is `_id`.
+/// The direction in which a sort orders `_id`s, if its first path is `_id`.
 fn direction_of_ids(sort: &SortSpec) -> Option<Direction>
     ensures { IfSome result (λ direction. (parts : List Part) × (sort.now ≡ (codes "_id" ∷ [], direction) ∷ parts)) }
 {

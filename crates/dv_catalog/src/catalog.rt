@@ -28,8 +28,7 @@ use std::alloc::Global;
 use std::marker::Model;
 
 /// Collections, and views over them and over older views, in the order in which they were made. Each view that isn't stale keeps
-/// the rows of its pipeline over what is under the names that it reads, as it is at this moment, and counts the work that changes
-/// took.
+/// the rows of its pipeline over the current contents of what it reads, and counts the work that changes took.
 #[derive(Debug, Drop)]
 pub struct Catalog {
     alloc: Global,
@@ -71,7 +70,7 @@ impl Catalog {
     ghost use Rattle.dv_views.specs.Forms as forms;
     ghost use Rattle.dv_catalog.specs.Views as making;
 
-    /// Nothing.
+    /// No collections and no views.
     pub fn new(alloc: Global) -> Self
         ensures { result ≡ nothing_marked }
     {
@@ -82,7 +81,7 @@ impl Catalog {
         }
     }
 
-    /// That no live view reads a stale one. Does nothing.
+    /// A law: no live view reads a stale one. Does nothing.
     pub fn law_live_read_no_stale(&self)
         ensures { LiveReadNoStale self.now.state.views self.now.marks }
     {
@@ -96,9 +95,9 @@ impl Catalog {
         self.views.has(namespace)
     }
 
-    /// Puts a document into the collection of a namespace, which is made if it doesn't exist. Refused with `DuplicateKey` if a
-    /// document has an equal `_id`, or one has a key of it in a unique index, and with `WantOfMemory`; then nothing is changed, and
-    /// no collection is made. There is no view there.
+    /// Puts a document into the collection of a namespace, which is made if it doesn't exist. Refused with `DuplicateKey` if
+    /// another document has an equal `_id`, or has a key in common with this one in a unique index, and with `WantOfMemory`; then
+    /// nothing is changed, and no collection is made. The namespace has no view.
     pub fn insert(&mut self, namespace: &str, document: Document) -> Result<(), Stopped>
         requires identified { HasId document }
         requires collection { is_view namespace.now self.old.state.views ≡ false }
@@ -106,7 +105,7 @@ impl Catalog {
         ensures views { self.new.state.views ≡ self.old.state.views }
         ensures marks { StandBehind namespace.now (effects.put_new document) self.old result self.new.marks }
     {
-        // Behind the change nothing may want memory.
+        // After the change nothing may run out of memory.
         let told = one_told(self.alloc, &self.views, namespace, &document)?;
         told_changes_are_made();
         dv_views::laws::what_is_not_read_does_not_matter();
@@ -117,16 +116,16 @@ impl Catalog {
         Ok(())
     }
 
-    /// Updates the documents of a namespace that an updating is for. Refused as the first of them is, then with `DuplicateKey` if
-    /// one of the changes, made one after the other, would put a key of a unique index under two `_id`s; then nothing is changed.
-    /// If memory runs out, the first so many changes, not all, are made. There is no view there.
+    /// Updates the documents of a namespace that an updating selects. Refused as the first refused document is, then with
+    /// `DuplicateKey` if one of the changes, made one after the other, would put a key of a unique index under two `_id`s; then
+    /// nothing is changed. If memory runs out, only the first changes are made, or none, but never all. The namespace has no view.
     pub fn update(&mut self, namespace: &str, updating: &Updating) -> Result<Counted, Stopped>
         requires { is_view namespace.now self.old.state.views ≡ false }
         ensures made { MakesCounted namespace.now (effects.update_chosen (updating_seen updating.now)) self.old result self.new }
         ensures views { self.new.state.views ≡ self.old.state.views }
         ensures marks { StandBehind namespace.now (effects.update_chosen (updating_seen updating.now)) self.old result self.new.marks }
     {
-        // Views share the documents of which they are told.
+        // Views share the documents that are passed to them.
         let whole = self.views.is_read(namespace);
         let effect = match self.collections.get(namespace) {
             Some(collection) => updated_in(self.alloc, collection, updating, whole)?,
@@ -135,8 +134,8 @@ impl Catalog {
         self.carry_out(namespace, effect)
     }
 
-    /// Makes the changes of an effect, one after the other, tells the views of them, and returns what the statement is counted
-    /// for. If memory runs out, the first so many, not all of them, are made, and the views are told of these.
+    /// Makes the changes of an effect, one after the other, passes them to the views, and returns the counts of the statement. If
+    /// memory runs out, only the first changes are made, or none, but never all; only these are passed to the views.
     fn carry_out(&mut self, namespace: &str, effect: Effect) -> Result<Counted, Stopped>
         requires collection { is_view namespace.now self.old.state.views ≡ false }
         requires ordered { AreOrdered (documents_of namespace.now self.old.state.namespaces) }
@@ -158,8 +157,8 @@ impl Catalog {
         Ok(Counted { matched, changed })
     }
 
-    /// Makes changes, one after the other, until memory runs out, tells the views of those that were made, and returns how many
-    /// these are. Fails when memory runs out before the first; then nothing is changed.
+    /// Makes changes, one after the other, until memory runs out, passes the changes that were made to the views, and returns their
+    /// number. Fails when memory runs out before the first; then nothing is changed.
     fn make(&mut self, namespace: &str, changes: Changes) -> Result<usize, NoMemory>
         requires collection { is_view namespace.now self.old.state.views ≡ false }
         requires ordered { AreOrdered (documents_of namespace.now self.old.state.namespaces) }
@@ -171,7 +170,7 @@ impl Catalog {
         ensures views { self.new.state.views ≡ self.old.state.views }
         ensures marks { IfOk result (λ done. AreMarkedFrom namespace.now (take done (changes_seen changes)) self.old self.new.marks) }
     {
-        // Behind the first change nothing but another one may want memory.
+        // After the first change, only another change may run out of memory.
         let mut told = told(
             self.alloc,
             &self.views,
@@ -188,7 +187,7 @@ impl Catalog {
         Ok(done)
     }
 
-    /// The rows under a namespace that a find is for, in its order. Stale views that it needs are recomputed first. Fails with
+    /// The rows that a find returns from a namespace, in its order. Stale views that it needs are recomputed first. Fails with
     /// `NoMemory` when memory runs out; then some of these may be recomputed.
     pub fn find(&mut self, find: &Find) -> Result<Vec<Document>, NoMemory>
         ensures rows { let asked = find_seen find.now in
@@ -254,7 +253,7 @@ impl Catalog {
         )
     }
 
-    /// The state of the view of a namespace; none if there is no view there. A stale view is left so. Takes no memory.
+    /// The state of the view of a namespace; none if there is no view there. A stale view stays stale. Takes no memory.
     pub fn stats(&self, namespace: &str) -> Option<Stats>
         ensures { option_map stats_seen result ≡ stats_of namespace.now self.now }
     {
@@ -269,8 +268,8 @@ impl Catalog {
         })
     }
 
-    /// The rows that the view of a namespace keeps, in their order: those of its pipeline over what it reads, as that is now. None
-    /// if there is no view there, or a stale one. Takes no memory.
+    /// The rows that the view of a namespace keeps, in their order: those of its pipeline over the current contents of what it
+    /// reads. None if there is no view there, or a stale one. Takes no memory.
     pub fn stored_rows(&self, namespace: &str) -> Option<dv_views::ViewRows<'_>>
         ensures { result ≡ stored_of namespace.now self.now }
     {
@@ -300,7 +299,7 @@ impl Catalog {
         }
     }
 
-    /// Makes a view under a namespace where nothing stands, as `create` does.
+    /// Makes a view under a namespace that doesn't exist, as `create` does.
     fn create_view(&mut self, namespace: &str, view: ViewOn) -> Result<(), Refusal>
         requires { is_there namespace.now self.old.state ≡ false }
         ensures made { Leaves (making.made namespace.now (Some (view_on_seen view)) self.old.state) self.old.state result self.new.state }
@@ -316,8 +315,8 @@ impl Catalog {
         }
     }
 
-    /// Takes out what is under a namespace: a collection, without which the views that read it find it empty, or a view. Refused
-    /// with `NamespaceNotFound` if there is nothing, and with `ReadByView` if a view reads the view that is there; then nothing is
+    /// Removes what is under a namespace: a collection, which is then empty for the views that read it, or a view. Refused with
+    /// `NamespaceNotFound` if there is nothing, and with `ReadByView` if a view reads the view that is there; then nothing is
     /// changed. If memory runs out when a change is passed to a view, that view is stale.
     pub fn remove(&mut self, namespace: &str) -> Result<(), Refusal>
         ensures made { Leaves (making.dropped namespace.now self.old.state) self.old.state result self.new.state }
@@ -338,7 +337,7 @@ impl Catalog {
         Ok(())
     }
 
-    /// Takes out the collection of a namespace, which is there.
+    /// Removes the collection of a namespace, which exists.
     fn remove_collection(&mut self, namespace: &str)
         requires { is_collection namespace.now self.old.state.namespaces ≡ true }
         ensures state { self.new.state ≡ record self.old.state { namespaces = finite.remove self.old.state.namespaces namespace.now } }

@@ -57,7 +57,7 @@ impl Collections {
         }
     }
 
-    /// The collection of a namespace, where it is there.
+    /// The collection of a namespace, if it exists.
     pub(crate) fn get(&self, namespace: &str) -> Option<&IndexedCollection>
         ensures { option_map (λ collection. standing_seen collection.now) result ≡ finite.get self.now namespace.now }
     {
@@ -71,7 +71,7 @@ impl Collections {
         self.get(namespace).is_some()
     }
 
-    /// The documents of a namespace; none where it isn't there.
+    /// The documents of a namespace; none if it doesn't exist.
     pub(crate) fn rows(&self, namespace: &str) -> FoundRows<'_>
         ensures documents { result ≡ documents_of namespace.now self.now }
         ensures ordered { AreOrdered (documents_of namespace.now self.now) }
@@ -89,9 +89,9 @@ impl Collections {
         let _ = self.rows(namespace);
     }
 
-    /// Puts a document into the collection of a namespace, which is made where it isn't there. Refused with
-    /// `DuplicateKey` where a document has an equal `_id`, or one has a key of it in a unique index, and with
-    /// `WantOfMemory`; then nothing is changed, and no collection is made.
+    /// Puts a document into the collection of a namespace, which is made if it doesn't exist. Refused with `DuplicateKey` if
+    /// another document has an equal `_id`, or has a key in common with this one in a unique index, and with `WantOfMemory`; then
+    /// nothing is changed, and no collection is made.
     pub(crate) fn insert(&mut self, namespace: &str, document: Document) -> Result<(), Stopped>
         requires { HasId document }
         ensures { Makes (λ _. one_changed) namespace.now (effects.put_new document) self.old result self.new }
@@ -125,7 +125,7 @@ impl Collections {
     {
         match self.collections.get_mut(namespace) {
             Some(collection) => changes.make_in(collection),
-            // Where there is no document, none is changed.
+            // If there are no documents, none is changed.
             None => 0,
         }
     }
@@ -142,10 +142,10 @@ impl Collections {
         Ok(())
     }
 
-    /// Makes the indexes of the collection of a namespace that aren't there; the collection is made where it isn't there.
-    /// Refused with `ConflictingUpdateOperators` where the name or the path of one is there but not the same index, then with
-    /// `LimitReached` where there would be more than 64, then with `DuplicateKey` where a key of a unique one stands in two
-    /// documents, and with `WantOfMemory`; then nothing is changed, and no collection is made.
+    /// Makes the indexes of these entries for the collection of a namespace, except those that exist; the collection is made if it
+    /// doesn't exist. Refused with `ConflictingUpdateOperators` if an index has the name or the path of an entry, but isn't the
+    /// same index, then with `LimitReached` if there would be more than 64, then with `DuplicateKey` if a key of a unique one is in
+    /// two documents, and with `WantOfMemory`; then nothing is changed, and no collection is made.
     pub(crate) fn create_indexes(
         &mut self,
         namespace: &str,
@@ -177,9 +177,9 @@ impl Collections {
         Ok(counts)
     }
 
-    /// Drops the index of a name of the collection of a namespace, or with `*` all but that on `_id`, and returns how many there
-    /// were. Refused with `NamespaceNotFound` where the collection isn't there, with `BadValue` for the index on `_id`, and with
-    /// `IndexNotFound` where there is none of the name; then nothing is changed.
+    /// Drops the index of a name of the collection of a namespace, or with `*` all except that on `_id`, and returns how many there
+    /// were. Refused with `NamespaceNotFound` if the collection doesn't exist, with `BadValue` for the index on `_id`, and with
+    /// `IndexNotFound` if there is none of the name; then nothing is changed.
     pub(crate) fn drop_indexes(&mut self, namespace: &str, name: &str) -> Result<usize, Refusal>
         ensures made { Leaves (indexes_dropped_in namespace.now name.now self.old) self.old result self.new }
         ensures count { IfOk result (λ count. count ≡ length (indexes_of namespace.now self.old)) }
@@ -190,7 +190,7 @@ impl Collections {
         drop_named(collection, name)
     }
 
-    /// Takes out the collection of a namespace. Takes no memory.
+    /// Removes the collection of a namespace. Takes no memory.
     pub(crate) fn remove(&mut self, namespace: &str)
         ensures { self.new ≡ finite.remove self.old namespace.now }
     {

@@ -1,13 +1,13 @@
-//! What a statement is counted for.
+//! The counts of a statement.
 
-/// How many documents a statement that was carried out is counted for, and how many changes it made.
+/// How many documents a statement that was carried out counts, and how many changes it made.
 #[derive(Clone, Copy, Debug)]
 pub struct Counted {
     pub matched: usize,
     pub changed: usize,
 }
 
-/// What a statement is counted for that does nothing.
+/// The counts of a statement that does nothing.
 pub(crate) const NOTHING: Counted = Counted {
     matched: 0,
     changed: 0,

@@ -42,8 +42,8 @@ pub(crate) fn deleted(
     })
 }
 
-/// The keys of the first documents that a deletion is for, one of several documents: `most` of them, but never all. Fails when
-/// memory runs out.
+/// The keys of the first documents that a deletion of several documents selects: `most` of them, but never all. Fails when memory
+/// runs out.
 pub(crate) fn first_keys(
     alloc: Global,
     collection: &IndexedCollection,
@@ -58,7 +58,7 @@ pub(crate) fn first_keys(
     laws::removed_document_is_not_found();
     // The documents are in order, and begin with their `_id`s.
     collection.law_ascending();
-    // That there is one more shows that these aren't all.
+    // One more is found, and left out, so that these are never all.
     let mut documents = collection.find_first(&deletion.filter, most.saturating_add(1))?;
     let _ = documents.pop();
     keys_of(alloc, &documents)
@@ -76,7 +76,7 @@ fn keys_of(alloc: Global, documents: &[&Document]) -> Result<Vec<Key>, NoMemory>
     Ok(keys)
 }
 
-/// Takes out the documents under the keys, until memory runs out, and returns how many were taken out.
+/// Removes the documents under the keys, until memory runs out, and returns how many were removed.
 pub(crate) fn remove_each(collection: &mut IndexedCollection, keys: &[Key]) -> usize
     ensures count { result ≤ length keys.now }
     ensures made { collection.new ≡ with_documents (with_changes collection.old.documents (take result (map gone keys.now))) collection.old }

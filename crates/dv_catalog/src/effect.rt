@@ -19,19 +19,19 @@ use std::alloc::Global;
 pub(crate) enum Changes {
     /// Documents are updated.
     Put(Updates),
-    /// The documents under these keys go.
+    /// The documents under these keys are removed.
     Gone(Vec<Key>),
 }
 
-/// What an update makes of documents, in the order of their `_id`s.
+/// The results of an update for documents, in the order of their `_id`s.
 #[derive(Drop)]
 pub(crate) struct Updates {
-    /// The update's sole name, that of the field where one alone is changed.
+    /// The update's sole name: that of the changed field, if only one is changed.
     pub(crate) name: Name,
     pub(crate) each: Vec<Updated>,
 }
 
-/// A document as it is, whose fields are shared, and what becomes of it.
+/// A document before its update, which shares its fields, and the result of the update.
 #[derive(Drop)]
 pub(crate) struct Updated {
     pub(crate) before: Document,
@@ -39,7 +39,7 @@ pub(crate) struct Updated {
 }
 
 impl Updated {
-    /// The document that comes in its place; where one field alone is changed, that under the name. Fails when memory runs out.
+    /// The document after the update; if only one field is changed, it is the one under the name. Fails when memory runs out.
     pub(crate) fn after(&self, name: &str) -> Result<Document, NoMemory>
         requires whole { has_zero name.now ≡ false }
         ensures { IfOk result (λ after. after ≡ after_of name.now self.now) }
@@ -80,7 +80,7 @@ impl Changes {
     {
         match self {
             Changes::Put(updates) => updates_clash(alloc, collection, updates),
-            // Documents that go have no keys.
+            // Removed documents add no keys.
             Changes::Gone(_) => Ok(false),
         }
     }
@@ -105,7 +105,7 @@ impl Changes {
 /// What a statement does.
 #[derive(Drop)]
 pub(crate) struct Effect {
-    /// How many documents it is counted for.
+    /// How many documents it counts.
     pub(crate) matched: usize,
     pub(crate) changes: Changes,
 }

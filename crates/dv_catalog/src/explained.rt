@@ -1,4 +1,4 @@
-//! How a find is answered.
+//! How the rows of a find are found, for an explain.
 
 ghost use Rattle.std.specs.Prelude.{◌≡◌, length, IfOk};
 ghost use Rattle.std.specs.FinMap as finite;
@@ -19,7 +19,7 @@ pub enum Access {
     View,
     /// By the index of this name.
     Index(String),
-    /// By looking at all documents.
+    /// By reading all documents.
     All,
 }
 
@@ -27,8 +27,8 @@ pub enum Access {
 #[derive(Debug, Drop)]
 pub struct Explained {
     pub way: Access,
-    /// How many documents or rows the plan covers: all, or by an index those that have a leaf in its bounds, Missing counting
-    /// as null. Fewer may be looked at.
+    /// How many documents or rows the plan covers: all, or with an index those that have a leaf in its bounds, where Missing counts
+    /// as null. Fewer may be read.
     pub documents: usize,
 }
 
@@ -42,7 +42,8 @@ pub(crate) fn explained_view(rows: ViewRows<'_>) -> Explained
     }
 }
 
-/// How documents are found in the collection of a namespace, by looking at none where it isn't there. Fails when memory runs out.
+/// How documents are found in the collection of a namespace; if it doesn't exist, all of its 0 documents are read. Fails when
+/// memory runs out.
 pub(crate) fn explained_in(
     alloc: Global,
     collections: &Collections,

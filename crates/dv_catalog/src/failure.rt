@@ -1,4 +1,4 @@
-//! How a statement ends that isn't carried out.
+//! How a statement that isn't carried out ends.
 
 ghost use Rattle.std.specs.Prelude.{◌≡◌};
 ghost use Rattle.dv_catalog.specs.Views.{view_refusal};
@@ -10,11 +10,11 @@ use dv_command::Refusal;
 use dv_views::ViewFault;
 use std::alloc::{AllocError, AllocFailed};
 
-/// Why a statement isn't carried out, and what it leaves.
+/// Why a statement isn't carried out, and how many of its changes were made.
 #[derive(Clone, Copy, Debug)]
 pub struct Stopped {
     pub refusal: Refusal,
-    /// How many of its changes were made before, one after the other: none but if memory runs out, and never all of them.
+    /// How many of its changes were made before, one after the other: none unless memory ran out, and never all of them.
     pub done: usize,
 }
 
@@ -59,7 +59,7 @@ impl From<InsertFault> for Stopped {
     }
 }
 
-/// How a command is refused for the fault of a new view.
+/// The refusal of a command for the fault of a new view.
 pub(crate) fn refusal_of(fault: ViewFault) -> Refusal
     ensures { result ≡ view_refusal fault }
 {

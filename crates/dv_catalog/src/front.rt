@@ -23,19 +23,20 @@ use dv_value::{Document, NoMemory};
 use dv_views::ToldRegistry;
 use std::alloc::Global;
 
-/// The first stages of a pipeline, which are a find: a `$match`, a `$sort` and a `$limit`, as far as they follow each other so.
+/// The first stages of a pipeline, if they are a find: a `$match`, a `$sort` and a `$limit`, in this order. Any of the three may be
+/// missing.
 #[derive(Drop)]
 struct LeadingFind<'a> {
     filter: Option<&'a Filter>,
     sort: Option<&'a SortSpec>,
-    /// How many rows the `$limit` leaves. Where there is none, how many the stages behind need, where they don't need all.
+    /// How many rows the `$limit` leaves. If there is none, how many the later stages need, unless they need all.
     most: Option<usize>,
-    /// The stages behind them.
+    /// The stages after them.
     later: &'a [Stage],
 }
 
 impl<'a> LeadingFind<'a> {
-    /// That of these stages.
+    /// The find that these stages begin with.
     fn of(stages: &'a [Stage]) -> Self
         ensures { IsFront (passed (option_map (λ f. f.now) result.filter) (option_map (λ s. s.now) result.sort) result.most) result.later.now stages.now }
     {
@@ -51,7 +52,7 @@ impl<'a> LeadingFind<'a> {
     }
 }
 
-/// The filter of a `$match` that is the first stage, and the stages behind it.
+/// The filter of the first stage, if that is a `$match`, and the stages after it.
 fn first_match(stages: &[Stage]) -> (Option<&Filter>, &[Stage])
     ensures { IsFront (matching_where (option_map (λ f. f.now) result.0)) result.1.now stages.now }
 {
@@ -61,7 +62,7 @@ fn first_match(stages: &[Stage]) -> (Option<&Filter>, &[Stage])
     }
 }
 
-/// The order of a `$sort` that is the first stage, and the stages behind it.
+/// The order of the first stage, if that is a `$sort`, and the stages after it.
 fn first_sort(stages: &[Stage]) -> (Option<&SortSpec>, &[Stage])
     ensures { IsFront (sorted_where (option_map (λ s. s.now) result.0)) result.1.now stages.now }
 {
@@ -71,8 +72,8 @@ fn first_sort(stages: &[Stage]) -> (Option<&SortSpec>, &[Stage])
     }
 }
 
-/// How many rows a `$limit` leaves that is the first stage, and the stages behind it. Where another stage is the first, how many rows
-/// the stages need.
+/// How many rows the first stage leaves, if that is a `$limit`, and the stages after it. If another stage is the first, how many
+/// rows the stages need.
 fn first_limit(stages: &[Stage]) -> (Option<usize>, &[Stage])
     ensures { IsFront (front result.0) result.1.now stages.now }
 {
@@ -82,8 +83,8 @@ fn first_limit(stages: &[Stage]) -> (Option<usize>, &[Stage])
     (wanted(stages), stages)
 }
 
-/// How many of the first rows matter to the stages, where not all do: those that a `$limit` takes, if each stage in front of it makes one
-/// row of each.
+/// How many of the first rows the stages need, unless they need all: as many as a `$limit` takes, if each stage before it returns
+/// one row for each.
 fn wanted(stages: &[Stage]) -> Option<usize>
     ensures { result ≡ wanted_by stages.now }
 {
@@ -97,7 +98,7 @@ fn wanted(stages: &[Stage]) -> Option<usize>
     None
 }
 
-/// The filter, or where there is none the one that all documents match.
+/// The filter, or if there is none, the one that all documents match.
 fn filter_or<'a>(filter: Option<&'a Filter>, everything: &'a Filter) -> &'a Filter
     requires { everything.now ≡ no_members }
     ensures { (rows : List Row) → matching result.now rows ≡ matching_where (option_map (λ f. f.now) filter.entry) rows }
@@ -108,8 +109,8 @@ fn filter_or<'a>(filter: Option<&'a Filter>, everything: &'a Filter) -> &'a Filt
     }
 }
 
-/// The rows of stages over what stands under their source. What stages in front find is found as a find's rows are, by the
-/// indexes of a collection. Fails when memory runs out.
+/// The rows of stages over the rows under their source. The rows of the first stages that are a find are found like a find's rows,
+/// by the indexes of a collection. Fails when memory runs out.
 pub(crate) fn rows_of_stages(
     alloc: Global,
     collections: &Collections,

@@ -19,7 +19,7 @@ use dv_command::Refusal;
 use dv_index::{Index, IndexedCollection, NewIndex, same_path};
 use std::alloc::Global;
 
-/// How many indexes a collection has at most, that on `_id` among them.
+/// How many indexes a collection has at most, including that on `_id`.
 const INDEX_LIMIT: usize = 64;
 
 /// How many indexes a collection had, and how many it has.
@@ -29,9 +29,9 @@ pub struct IndexCounts {
     pub after: usize,
 }
 
-/// Makes the indexes of a collection that aren't there. Refused with `ConflictingUpdateOperators` where the name or the path
-/// of one is there but not the same index, then with `LimitReached` where there would be more than 64, then with
-/// `DuplicateKey` where a key of a unique one stands in two documents, and with `WantOfMemory`; then none is made.
+/// Makes the indexes of these entries for a collection, except those that exist. Refused with `ConflictingUpdateOperators` if an
+/// index has the name or the path of an entry, but isn't the same index, then with `LimitReached` if there would be more than 64,
+/// then with `DuplicateKey` if a key of a unique one is in two documents, and with `WantOfMemory`; then none is made.
 pub(crate) fn create_each(
     alloc: Global,
     collection: &mut IndexedCollection,
@@ -53,9 +53,9 @@ pub(crate) fn create_each(
     })
 }
 
-/// The entries whose indexes aren't there, where an index of an earlier entry counts as there. Refused with
-/// `ConflictingUpdateOperators` at the first whose name or path is there but not the same index, and with `WantOfMemory`.
-/// Takes time as the entries want to be put in order.
+/// The entries whose indexes don't exist; the index of an earlier entry counts as existing. Refused with
+/// `ConflictingUpdateOperators` at the first entry whose name or path another index has, and with `WantOfMemory`. Takes as long as
+/// sorting the entries.
 fn fresh_among(
     alloc: Global,
     there: &[Index],
@@ -78,7 +78,7 @@ fn fresh_among(
     Ok(coming.into_inner())
 }
 
-/// Whether nothing is to be made for an entry: it is on `_id`, or its index is there, or comes.
+/// Whether nothing is to be made for an entry: it is on `_id`, or its index exists or is pending.
 fn is_made(entry: &NewIndex, there: &[Index], coming: &PendingIndexes) -> bool
     ensures { result ≡ making.is_made (form_of_new entry.now) (map form_of there.now ++ coming.now) }
 {
@@ -98,7 +98,7 @@ fn is_there(entry: &NewIndex, there: &[Index]) -> bool
     there.iter().any(|index| is_same(entry, index.name(), index.path(), index.is_unique()))
 }
 
-/// Whether the name or the path of an entry is there, or comes.
+/// Whether an index that exists or is pending has the name or the path of an entry.
 fn is_half_made(entry: &NewIndex, path: &str, there: &[Index], coming: &PendingIndexes) -> bool
     requires { path.now ≡ joined (form_of_new entry.now).path }
     ensures { result ≡ list_any (making.is_alike (form_of_new entry.now)) (map form_of there.now ++ coming.now) }
@@ -109,7 +109,7 @@ fn is_half_made(entry: &NewIndex, path: &str, there: &[Index], coming: &PendingI
     coming.has_half(entry, path)
 }
 
-/// Whether the name or the path of an entry is there.
+/// Whether an index that exists has the name or the path of an entry.
 fn is_half_there(entry: &NewIndex, there: &[Index]) -> bool
     ensures { result ≡ list_any (λ x. making.is_alike (form_of_new entry.now) (form_of x)) there.now }
 {
@@ -118,7 +118,7 @@ fn is_half_there(entry: &NewIndex, there: &[Index]) -> bool
         .any(|index| is_alike(entry, index.name(), index.path()))
 }
 
-/// Whether an entry's index is the one of this name and this path, unique or not.
+/// Whether an entry's index has this name and this path, and is unique exactly if `unique` is true.
 pub(crate) fn is_same(entry: &NewIndex, name: &str, path: &Path, unique: bool) -> bool
     ensures { result ≡ making.is_same (form_of_new entry.now) (record { name = name.now; path = path.now; unique = unique }) }
 {
@@ -144,8 +144,8 @@ pub(crate) fn is_id(path: &Path) -> bool
     }
 }
 
-/// Drops the index of a name, or with `*` all but that on `_id`, and returns how many there were. Refused with `BadValue` for
-/// that on `_id`, and with `IndexNotFound` where there is none of the name; then nothing is changed.
+/// Drops the index of a name, or with `*` all except that on `_id`, and returns how many there were. Refused with `BadValue` for
+/// that on `_id`, and with `IndexNotFound` if there is none of the name; then nothing is changed.
 pub(crate) fn drop_named(collection: &mut IndexedCollection, name: &str) -> Result<usize, Refusal>
     ensures made { Leaves (collection_so collection.old (making.without_named name.now collection.old.indexes)) collection.old result collection.new }
     ensures count { IfOk result (λ count. count ≡ length collection.old.indexes) }

@@ -11,8 +11,8 @@ use dv_command::Refusal;
 use dv_index::IndexedCollection;
 use dv_value::Document;
 
-/// Puts a document into a collection. Refused with `DuplicateKey` where a document has an equal `_id`, or one has a key of it
-/// in a unique index, and with `WantOfMemory`; then nothing is changed.
+/// Puts a document into a collection. Refused with `DuplicateKey` if another document has an equal `_id`, or has a key in common
+/// with this one in a unique index, and with `WantOfMemory`; then nothing is changed.
 pub(crate) fn put_new(collection: &mut IndexedCollection, document: Document) -> Result<(), Refusal>
     requires { HasId document }
     ensures done { UnlessWanting (λ _. record { matched = 1; changes = put document ∷ [] }) (done_to collection.old (effects.put_new document)) result }

@@ -27,9 +27,9 @@ use dv_views::RowsById;
 use std::alloc::Global;
 use std::ops::Bound;
 
-/// The first rows that match the filter, in a direction of their `_id`s: `most` of them, or all. Those are looked at whose `_id`s
-/// are equal to values that the filter asks for, or are in all ranges that it sets, up to the last of these; all of them where
-/// some `_id` is an array. Fails when memory runs out.
+/// The first rows that match the filter, ordered by `_id` in this direction: `most` of them, or all. Only the rows are read whose
+/// `_id`s equal values that the filter asks for, or those whose `_id`s are in all ranges that it sets, up to the last row that is
+/// returned. If some `_id` is an array, no range is set. Fails when memory runs out.
 pub(crate) fn first_by_key<'a>(
     alloc: Global,
     rows: &RowsById<'a>,
@@ -51,7 +51,7 @@ pub(crate) fn first_by_key<'a>(
     }
 }
 
-/// The rows whose `_id`s stand between two ends, in a direction of these.
+/// The rows whose `_id`s are between two ends, ordered by `_id` in this direction.
 fn rows_between<'a>(
     rows: &RowsById<'a>,
     ends: Interval,
@@ -69,7 +69,7 @@ fn rows_between<'a>(
     }
 }
 
-/// The rows whose `_id`s have one of these keys, in a direction of their `_id`s.
+/// The rows whose `_id`s have one of these keys, ordered by `_id` in this direction.
 fn rows_among<'a>(
     alloc: Global,
     rows: &RowsById<'a>,
@@ -83,7 +83,7 @@ fn rows_among<'a>(
     Ok(directed(among, direction))
 }
 
-/// Rows that ascend, in a direction.
+/// Ascending rows, in this direction.
 fn directed<'a>(mut rows: Vec<&'a Document>, direction: Direction) -> Vec<&'a Document>
     ensures { rows_referred result.items ≡ in_direction direction (rows_referred rows.entry.items) }
 {
@@ -115,7 +115,7 @@ fn rows_under<'a>(
     Ok(under)
 }
 
-/// The row whose `_id` has this key, where there is one.
+/// The row whose `_id` has this key, if there is one.
 fn rows_at<'a>(alloc: Global, rows: &RowsById<'a>, key: &Key) -> Result<Vec<&'a Document>, NoMemory>
     ensures { IfOk result (λ at. rows_referred at.items ≡ kept (λ d. is_eq (key_order (id_key d) key.now)) rows.now) }
 {
@@ -124,7 +124,7 @@ fn rows_at<'a>(alloc: Global, rows: &RowsById<'a>, key: &Key) -> Result<Vec<&'a 
     rows_within(alloc, rows, Bound::Included(low), Bound::Included(high))
 }
 
-/// The rows whose `_id`s stand between two ends, in their order.
+/// The rows whose `_id`s are between two ends, in their order.
 fn rows_within<'a>(
     alloc: Global,
     rows: &RowsById<'a>,
@@ -137,7 +137,7 @@ fn rows_within<'a>(
     rows.between(low, high)?.collect(alloc)
 }
 
-/// Puts rows behind others.
+/// Appends rows to others.
 fn add_rows<'a>(rows: &mut Vec<&'a Document>, mut more: Vec<&'a Document>) -> Result<(), NoMemory>
     ensures { OnOk result (rows_referred rows.new.items ≡ rows_referred rows.old.items ++ rows_referred more.entry.items) }
 {

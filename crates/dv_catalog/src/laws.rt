@@ -1,4 +1,4 @@
-//! What holds of changes, each the contract of a function that does nothing.
+//! The laws of changes, each the contract of a function that does nothing.
 
 ghost use Rattle.std.specs.Prelude.{◌≡◌, ◌<◌, ◌≤◌, ◌++◌, ◌∷◌, [], true, false, codes, length, take, List, Ok, Err};
 ghost use Rattle.dv_value.specs.Tree.{Field};
@@ -32,7 +32,7 @@ pub fn changes_keep_the_order()
     dv_coll::laws::replaced_documents_begin_with_ids();
 }
 
-/// Changes that can be made, as they are told to views, are those that a collection makes.
+/// Changes that can be made, as they are passed to views, are those that a collection makes.
 pub(crate) fn told_changes_are_made()
     ensures { (documents : List (List Field)) (changes : List Change) → AreOrdered documents → AreAble documents changes
         → AreToldAsMade documents changes }
@@ -66,10 +66,10 @@ pub fn there_may_be_sixty_four_indexes()
     ensures one_more { (indexes : List IndexForm) → length indexes ≡ 65 → within_limit indexes ≡ Err LimitReached }
 {}
 
-/// Beside an index `a_1` on `a`, an entry for the same one changes nothing, nor does one on `_id`. Another name for its path is
-/// refused, another path under its name, and the same one as a unique index, or as one that isn't beside a unique one; an index on
-/// another path comes behind it. `dropIndexes` by its name leaves the one on `_id`, which cannot be dropped by its own name; no other
-/// name is known.
+/// If there is an index `a_1` on `a`, an entry for the same index changes nothing, nor does one on `_id`. Another name for its path
+/// is refused, another path under its name, and the same index as a unique one, or as one that isn't unique if the index is; an
+/// index on another path is added after it. `dropIndexes` by its name leaves the one on `_id`, which cannot be dropped by its own
+/// name; no other name is known.
 pub fn indexes_by_example()
     ensures again { with_index (index_on (codes "a_1") (codes "a" ∷ []) false) beside_id ≡ Ok beside_id }
     ensures on_id { with_index (index_on (codes "i") (codes "_id" ∷ []) true) beside_id ≡ Ok beside_id }
@@ -84,7 +84,8 @@ pub fn indexes_by_example()
     ensures all_dropped { without_named (codes "*") beside_id ≡ Ok (id_form ∷ []) }
 {}
 
-/// An update of all counts each document that matches, and one of the first counts that, whether it changes or not.
+/// An update of all documents counts each document that matches, and an update of the first one counts that one, whether it changes
+/// or not.
 #[tactic(auto, using(crate::proofs::Counting::all_counted, crate::proofs::Counting::first_counted))]
 pub fn an_update_counts_what_it_chooses()
     ensures all { (updating : Updating) (documents : List (List Field)) (effect : Effect) → updating.multi ≡ true

@@ -15,8 +15,8 @@ use std::alloc::Global;
 use std::collections::{BTreeMap, BTreeSet};
 use std::marker::Model;
 
-/// Indexes in the order in which they are to be made. One is found by its name, and by the text of its path, in time
-/// logarithmic in their number; only where one has the name or the path of another are all of them looked at.
+/// Indexes in the order in which they are to be made. An index is searched for by its name, and by the text of its path, in time
+/// logarithmic in their number; all of them are searched only if one has the name or the path.
 #[derive(Debug, Drop)]
 pub(crate) struct PendingIndexes {
     alloc: Global,
@@ -43,7 +43,7 @@ impl Model for PendingIndexes {
 }
 
 impl PendingIndexes {
-    /// None.
+    /// No indexes.
     pub(crate) fn new(alloc: Global) -> Self
         ensures { result ≡ [] }
     {
@@ -55,18 +55,18 @@ impl PendingIndexes {
         }
     }
 
-    /// Whether an index comes that is the same as this one.
+    /// Whether a pending index is the same as this one.
     pub(crate) fn has(&self, index: &NewIndex) -> bool
         ensures { result ≡ list_any (making.is_same (form_of_new index.now)) self.now }
     {
         match self.names.get(index.name.as_str()) {
             None => false,
-            // Where the one of its name isn't the same, this one is refused, and no other one is looked up.
+            // If the pending index of its name isn't the same, this index is refused, and no other one is looked up.
             Some(place) => is_at(index, &self.indexes, *place) || is_among(index, &self.indexes),
         }
     }
 
-    /// Whether an index comes that has the name or the path of this one.
+    /// Whether a pending index has the name or the path of this one.
     pub(crate) fn has_half(&self, index: &NewIndex, path: &str) -> bool
         requires { path.now ≡ joined (form_of_new index.now).path }
         ensures { result ≡ list_any (making.is_alike (form_of_new index.now)) self.now }
@@ -77,7 +77,7 @@ impl PendingIndexes {
         is_half_among(index, &self.indexes)
     }
 
-    /// One more. Fails when memory runs out.
+    /// Adds an index. Fails when memory runs out.
     pub(crate) fn add(&mut self, index: NewIndex, path: String) -> Result<(), NoMemory>
         requires { string_bytes path ≡ joined (form_of_new index).path }
         ensures { OnOk result (self.new ≡ self.old ++ form_of_new index ∷ []) }
@@ -98,7 +98,7 @@ impl PendingIndexes {
     }
 }
 
-/// Whether the index at a place is there, and the same as this one.
+/// Whether there is an index at a place that is the same as this one.
 fn is_at(index: &NewIndex, others: &[NewIndex], place: usize) -> bool
     ensures { result ≡ true → list_any (λ x. making.is_same (form_of_new index.now) (form_of_new x)) others.now ≡ true }
 {
@@ -124,7 +124,7 @@ fn is_half_among(index: &NewIndex, others: &[NewIndex]) -> bool
         .any(|there| is_alike(index, there.name.as_str(), &there.path))
 }
 
-/// The components of a path, each behind a dot. Fails when memory runs out.
+/// The components of a path, each after a dot. Fails when memory runs out.
 pub(crate) fn text_of(alloc: Global, path: &Path) -> Result<String, NoMemory>
     ensures { IfOk result (λ text. string_bytes text ≡ joined path.now) }
 {

@@ -15,8 +15,8 @@ use dv_value::{NoMemory, Str};
 use dv_views::{ToldRegistry, ViewState, names_read};
 use std::alloc::Global;
 
-/// Makes stale views anew that what stands under the namespace needs. Fails when memory runs out; then some of them may be made
-/// anew.
+/// Recomputes the stale views that are needed for the rows of the namespace. Fails when memory runs out; then some of them may be
+/// recomputed.
 pub(crate) fn refresh_under(
     alloc: Global,
     collections: &Collections,
@@ -35,8 +35,8 @@ pub(crate) fn refresh_under(
     refresh_needed(alloc, collections, registry, names)
 }
 
-/// Makes stale views anew that what a pipeline over `source` reads needs. Fails when memory runs out; then some of them may be
-/// made anew.
+/// Recomputes the stale views that are needed for what a pipeline over `source` reads. Fails when memory runs out; then some of
+/// them may be recomputed.
 pub(crate) fn refresh_read(
     alloc: Global,
     collections: &Collections,
@@ -55,7 +55,8 @@ pub(crate) fn refresh_read(
     refresh_needed(alloc, collections, registry, names)
 }
 
-/// Makes stale views anew that what stands under the names needs. Fails when memory runs out; then some of them may be made anew.
+/// Recomputes the stale views that are needed for the rows of the names. Fails when memory runs out; then some of them may be
+/// recomputed.
 fn refresh_needed(
     alloc: Global,
     collections: &Collections,
@@ -100,7 +101,7 @@ fn is_stale(registry: &ToldRegistry, name: &str) -> bool
     }
 }
 
-/// A law: the rows that a right view shows are those that stand under its name.
+/// A law: the rows that a view shows are those of its name, if the views are right.
 pub(crate) fn law_shown(registry: &ToldRegistry)
     ensures shown { (namespaces : Namespaces) (name : List ℕ) → views.AreRight (lists_of namespaces) registry.now → ShowsItsRows name namespaces registry.now }
     ensures kept { (namespaces : Namespaces) (name : List ℕ) → views.AreRight (lists_of namespaces) registry.now

@@ -1,4 +1,4 @@
-//! What stands under a namespace, row by row.
+//! What is under a namespace, row by row.
 
 ghost use Rattle.std.specs.Prelude.{◌≡◌, []};
 
@@ -10,17 +10,17 @@ use std::marker::Model;
 /// Where rows come from.
 #[derive(Drop)]
 enum RowsOrigin<'a> {
-    /// Nothing stands there.
+    /// There is nothing.
     Nothing,
     /// The documents of a collection, in the order of their `_id`s.
     Collection(Iter<'a>),
     /// The rows of a view.
     View(dv_views::ViewRows<'a>),
-    /// Rows of a view between two ends, in an order of their `_id`s.
+    /// Rows of a view between two ends, in ascending or descending order of their `_id`s.
     Between(RowsBetween<'a>),
 }
 
-/// Rows that are still to come.
+/// Rows that are still to be returned.
 #[derive(Drop)]
 pub(crate) struct FoundRows<'a> {
     origin: RowsOrigin<'a>,

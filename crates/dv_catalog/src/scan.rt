@@ -19,7 +19,7 @@ use dv_sort::{Sorter, laws};
 use dv_value::{Document, NoMemory};
 use std::alloc::Global;
 
-/// The rows that a find is for, in its order. Fails when memory runs out.
+/// The rows that a find returns, in its order. Fails when memory runs out.
 pub(crate) fn scan(
     alloc: Global,
     within: Searched<'_>,
@@ -66,7 +66,7 @@ pub(crate) fn in_sort(
     sorted(alloc, &all, sort, most)
 }
 
-/// The same where the order of `_id`s or an index finds them. Fails when memory runs out.
+/// The same, if the order of `_id`s or an index finds them. Fails when memory runs out.
 fn by_index(
     alloc: Global,
     within: &Searched<'_>,
@@ -83,7 +83,7 @@ fn by_index(
     }
 }
 
-/// The same of the documents of a collection.
+/// The same for the documents of a collection.
 fn in_collection(
     alloc: Global,
     collection: &IndexedCollection,
@@ -102,7 +102,7 @@ fn in_collection(
     }
 }
 
-/// How many rows are looked for, where these many are left out and `limit` are wanted; `None` for all.
+/// How many rows are searched for, if `skip` are left out and `limit` are wanted; `None` for all.
 fn most_of(skip: u64, limit: u64) -> Option<usize>
     ensures { IsEnough skip limit result }
 {
@@ -140,7 +140,7 @@ pub(crate) fn sorted(
     sorter.into_rows()
 }
 
-/// The rows without the first `skip`, and not more than `limit`, where 0 stands for all. Takes no memory.
+/// The rows without the first `skip`, and at most `limit`, where 0 stands for all. Takes no memory.
 fn window(mut rows: Vec<Document>, skip: u64, limit: u64) -> Vec<Document>
     ensures { result.items ≡ scans.limited limit (drop skip rows.items) }
 {

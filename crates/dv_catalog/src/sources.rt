@@ -16,8 +16,8 @@ use dv_value::{Document, NoMemory, Str};
 use dv_views::ToldRegistry;
 use std::alloc::Global;
 
-/// Under each of the names, the documents of the collection that stands there: none where a view does, or nothing. Fails when
-/// memory runs out.
+/// Under each of the names, the documents of the collection with this name; none if it is the name of a view, or of nothing. Fails
+/// when memory runs out.
 pub(crate) fn documents_under<'a>(
     alloc: Global,
     collections: &'a Collections,
@@ -34,8 +34,8 @@ pub(crate) fn documents_under<'a>(
     Ok(sources)
 }
 
-/// Under each of the names, the rows that stand there: those of a view that isn't stale, or else a collection's documents. Fails
-/// when memory runs out.
+/// Under each of the names, its rows: those of a view that isn't stale, or else a collection's documents. Fails when memory runs
+/// out.
 pub(crate) fn rows_under<'a>(
     alloc: Global,
     collections: &'a Collections,
@@ -52,7 +52,7 @@ pub(crate) fn rows_under<'a>(
     Ok(sources)
 }
 
-/// The rows that stand under a namespace; those of a stale view aren't there.
+/// The rows under a namespace; a stale view has none.
 fn rows_in<'a>(
     collections: &'a Collections,
     registry: &'a ToldRegistry,
@@ -66,7 +66,7 @@ fn rows_in<'a>(
     }
 }
 
-/// Adds the rows under a name, unless rows are there, since several views may read the same. Fails when memory runs out.
+/// Adds the rows under a name, unless it has rows already, since several views may read the same name. Fails when memory runs out.
 fn add_rows<'a>(
     alloc: Global,
     sources: &mut Sources<'a>,

@@ -1,4 +1,4 @@
-//! What a find looks through.
+//! What a find searches.
 
 ghost use Rattle.std.specs.Prelude.{◌≡◌, Some, IfOk, IfSome};
 ghost use Rattle.dv_catalog.specs.Inner.CatalogParts.{rows_kept};
@@ -19,18 +19,18 @@ use dv_value::{Document, NoMemory};
 use dv_views::{RowsById, ToldRegistry};
 use std::alloc::Global;
 
-/// What stands under a namespace.
+/// What is under a namespace.
 #[derive(Drop)]
 pub(crate) enum Searched<'a> {
     /// A collection, with its indexes.
     Collection(&'a IndexedCollection),
-    /// The rows of a view that stand by their `_id`s.
+    /// The rows of a view that are ordered by their `_id`s.
     ById(RowsById<'a>),
     /// The rows of another view, or none.
     Rows(FoundRows<'a>),
 }
 
-/// What stands under a namespace; the rows of a stale view aren't there.
+/// What is under a namespace; a stale view has no rows.
 pub(crate) fn searched_in<'a>(
     collections: &'a Collections,
     registry: &'a ToldRegistry,
@@ -51,7 +51,7 @@ pub(crate) fn searched_in<'a>(
     }
 }
 
-/// The rows of the view under a namespace by their `_id`s, where they stand so.
+/// The rows of the view under a namespace by their `_id`s, if they are ordered by these.
 fn by_id<'a>(
     collections: &Collections,
     registry: &'a ToldRegistry,
@@ -66,8 +66,8 @@ fn by_id<'a>(
     Some(standing.by_id())
 }
 
-/// The first rows that match the filter, in their order: `most` of them, or all. Of a collection they are found by its indexes,
-/// and of a view whose rows stand by their `_id`s by these. Fails when memory runs out.
+/// The first rows that match the filter, in their order: `most` of them, or all. In a collection they are found by its indexes, and
+/// in a view whose rows are ordered by their `_id`s, by these. Fails when memory runs out.
 pub(crate) fn first_found<'a>(
     alloc: Global,
     within: Searched<'a>,

@@ -1,4 +1,4 @@
-//! How a view stands.
+//! The state of a view.
 
 ghost use Rattle.std.specs.Prelude.{◌≡◌};
 ghost use Rattle.dv_catalog.specs.Inner.StatsView.{live_shown};
@@ -15,7 +15,7 @@ pub struct Stats {
     pub ticks: u64,
 }
 
-/// Whether a view that stands so is live.
+/// Whether a view in this state is live.
 pub(crate) fn is_live(state: ViewState) -> bool
     ensures { result ≡ live_shown state }
 {

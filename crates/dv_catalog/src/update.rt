@@ -28,8 +28,8 @@ use dv_update::{Outcome, Update, UpdateFault};
 use dv_value::{Document, Name, NoMemory};
 use std::alloc::Global;
 
-/// What an updating does to a collection: where its documents are wanted whole, each as a whole document. Refused as the first of
-/// them is, then with `DuplicateKey` where one of the changes, made one after the other, would put a key of a unique index under
+/// What an updating does to a collection; if `whole` is true, each result is a whole document. Refused as the first refused
+/// document is, then with `DuplicateKey` if one of the changes, made one after the other, would put a key of a unique index under
 /// two `_id`s, and when memory runs out.
 pub(crate) fn updated_in(
     alloc: Global,
@@ -42,7 +42,7 @@ pub(crate) fn updated_in(
     ensures placed { IfOk result (λ effect. ArePlaced collection.now.documents (changes_seen effect.changes)) }
     ensures standing { IfOk result (λ effect. StandsFor collection.now.documents effect.changes) }
 {
-    // Whole documents show the keys of a unique index.
+    // The keys of a unique index are read from whole documents.
     let whole = whole || collection.has_unique();
     let effect = updated(alloc, collection, updating, whole)?;
     if effect.changes.clash_in(alloc, collection)? {
@@ -51,8 +51,8 @@ pub(crate) fn updated_in(
     Ok(effect)
 }
 
-/// What an updating does to the documents of a collection: where they are wanted whole, each as a whole document. Refused as the
-/// first of them is, and when memory runs out.
+/// What an updating does to the documents of a collection; if `whole` is true, each result is a whole document. Refused as the
+/// first refused document is, and when memory runs out.
 fn updated(
     alloc: Global,
     collection: &IndexedCollection,
@@ -87,8 +87,8 @@ fn name_of(alloc: Global, update: &Update) -> Result<Name, NoMemory>
     Name::of(alloc, update.sole_name())
 }
 
-/// What an update makes of the documents, in order, without those that stay as they are spelled. Refused as the first is, and
-/// when memory runs out.
+/// The results of an update for the documents, in order, without those whose encoding stays the same. Refused as the first refused
+/// document is, and when memory runs out.
 fn changed_by(
     alloc: Global,
     update: &Update,
@@ -107,8 +107,8 @@ fn changed_by(
     Ok(changed)
 }
 
-/// Adds a document to those that are changed, unless it stays as it is spelled. A whole one lies beside the names of the one
-/// before, if it has the same. Fails when memory runs out.
+/// Adds a document to the changed ones, unless its encoding stays the same. A whole result shares the names of the result before
+/// it, if they are the same. Fails when memory runs out.
 fn add_changed(
     changed: &mut Vec<Updated>,
     document: &Document,
@@ -129,7 +129,7 @@ fn add_changed(
     Ok(())
 }
 
-/// What an update makes of a document, as `Update::outcome` tells it; where it is wanted whole, as a whole document.
+/// The result of an update for a document, as `Update::outcome` returns it; if `whole` is true, as a whole document.
 fn outcome_of(
     alloc: Global,
     update: &Update,
@@ -147,8 +147,8 @@ fn outcome_of(
     }
 }
 
-/// Whether one of the documents that come, put one after the other, has a key of a unique index under another `_id` than the one
-/// that it stands under. Fails when memory runs out.
+/// Whether one of the updated documents, put one after the other, has a key of a unique index that a document with another `_id`
+/// has. Fails when memory runs out.
 pub(crate) fn updates_clash(
     alloc: Global,
     collection: &IndexedCollection,
@@ -166,7 +166,7 @@ pub(crate) fn updates_clash(
     collection.replacing_clashes(&pairs)
 }
 
-/// The documents that come in the places of those that are updated. Fails when memory runs out.
+/// The updated documents, as they are after the update. Fails when memory runs out.
 fn afters_of(alloc: Global, updates: &Updates) -> Result<Vec<Document>, NoMemory>
     requires whole { has_zero updates.now.name ≡ false }
     ensures { IfOk result (λ afters. afters.items ≡ new_documents updates.now.name updates.now.each.items) }
@@ -178,7 +178,7 @@ fn afters_of(alloc: Global, updates: &Updates) -> Result<Vec<Document>, NoMemory
     Ok(afters)
 }
 
-/// Each document that is updated with the one that comes in its place. Fails when memory runs out.
+/// Each updated document, before and after the update. Fails when memory runs out.
 fn replacings<'d>(
     alloc: Global,
     each: &'d [Updated],
@@ -196,8 +196,8 @@ fn replacings<'d>(
     Ok(pairs)
 }
 
-/// Puts what documents become in their places, where they are, until memory runs out, and returns how many were put. Where one
-/// field alone is changed, it is that under the name.
+/// Puts the updated documents in place of the old ones, until memory runs out, and returns how many were put. If only one field is
+/// changed, it is the one under the name.
 pub(crate) fn put_each(collection: &mut IndexedCollection, name: &str, each: Vec<Updated>) -> usize
     requires placed { ArePlaced collection.old.documents (update_changes name.now each.items) }
     requires standing { AreUpdatesOf collection.old.documents name.now each.items }
@@ -216,8 +216,8 @@ pub(crate) fn put_each(collection: &mut IndexedCollection, name: &str, each: Vec
     count
 }
 
-/// Puts what a document becomes in its place: a field alone is changed in place, where nothing else shares the fields. Fails when
-/// memory runs out; then nothing is changed.
+/// Puts an updated document in place of the old one. A single field is changed in place, if nothing else shares the fields. Fails
+/// when memory runs out; then nothing is changed.
 fn put_one(
     collection: &mut IndexedCollection,
     name: &str,

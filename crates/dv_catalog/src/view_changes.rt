@@ -1,4 +1,4 @@
-//! Changes as they are told to views, each with the document that stood there.
+//! Changes as they are passed to views, each with the document that was there before.
 
 ghost use Rattle.std.specs.Prelude.{◌≡◌, ◌∷◌, [], false, is_some, List, IfOk};
 ghost use Rattle.std.specs.List.{AllByRecursion};
@@ -21,7 +21,7 @@ use dv_value::{Document, NoMemory};
 use dv_views::{ToldRegistry, document_gone, document_put};
 use std::alloc::Global;
 
-/// The changes as they are told to views: nothing, where no view reads the namespace. Fails when memory runs out.
+/// The changes as they are passed to views; none if no view reads the namespace. Fails when memory runs out.
 pub(crate) fn told(
     alloc: Global,
     views: &ToldRegistry,
@@ -76,7 +76,7 @@ fn all_gone(
     Ok(all)
 }
 
-/// The document under the key, where there is a collection that has one.
+/// The document under the key, if there is a collection that has one.
 fn found_in<'a>(collection: Option<&'a IndexedCollection>, key: &Key) -> Option<&'a Document>
     ensures { option_map (λ document. document.now) result ≡ found key.now (defined.documents_in (option_map (λ c. c.now) collection.entry)) }
 {
@@ -86,8 +86,7 @@ fn found_in<'a>(collection: Option<&'a IndexedCollection>, key: &Key) -> Option<
     }
 }
 
-/// That a document is put where none is, as it is told to views: nothing, where no view reads the namespace. Fails when memory
-/// runs out.
+/// The insertion of a document, as it is passed to views; no change if no view reads the namespace. Fails when memory runs out.
 pub(crate) fn one_told(
     alloc: Global,
     views: &ToldRegistry,

@@ -1,4 +1,4 @@
--- The order where one part is lent alone.
+-- The order if one part is borrowed alone.
 use Rattle.std.specs.Prelude.{◌≡◌, [], ◌∷◌}
 use Rattle.std.proofs.Common.{ap, sym, ◌∙◌}
 use Rattle.std.specs.declared.cmp.Ordering.{Ordering}

@@ -1,4 +1,4 @@
--- Two places whose first parts have one code.
+-- Two places whose first parts have the same code.
 use Rattle.std.specs.Prelude.{◌≡◌, ℕ}
 use Rattle.std.proofs.Common.{ap, sym, ◌∙◌}
 use Rattle.std.specs.declared.cmp.Ordering.TheVariants.{Less, Equal, Greater}
@@ -13,7 +13,7 @@ use Rattle.dv_change.specs.Inner.Places.{parts_of, IsCodeOf, IsValid}
 use Rattle.dv_change.specs.Inner.PlaceLaws.{code_order, told_order}
 use Rattle.dv_order.specs.Inner.TotalOrder.{then_Equal}
 
--- the first parts have one code
+-- the first parts have the same code
 abbrev pub AreAlike : PosTree → PosTree → Type 0
 AreAlike a b = (first_top a ≡ first_top b) × (first_high a ≡ first_high b) × (first_low a ≡ first_low b)
 

@@ -1,4 +1,4 @@
--- Of rows one by one: those that come.
+-- The rows that are put, one by one.
 use Rattle.std.specs.Prelude.{◌≡◌, Bool, true, false, not, cond, List, [], ◌∷◌, ◌++◌, map, filter, if◌then◌else◌, refl}
 use Rattle.dv_value.specs.Tree.{Field}
 use Rattle.dv_change.specs.Changes.{Positioned, at}

@@ -16,7 +16,7 @@ use Rattle.dv_change.proofs.Passing.{nothing_through}
 module _ {O : Type 0} (makes : O → List Positioned → Positioned → Positioned) (holds : O → List Positioned → Positioned → Type 0)
     (positioned : (o : O) (others : List Positioned) (left : Positioned) → holds o others left → IsPositioned left × AllByRecursion (λ rows. IsPositioned rows) others)
     (ordered : (o : O) (others : List Positioned) (rows : Positioned) → IsPositioned rows → IsPositioned (makes o others rows)) where
-  -- what the last operator tells of exact changes is exact
+  -- the changes that the last operator returns for exact changes are exact
   exact-pass : (operators : List O) (forms : List Transform) (rows : Positioned) (changes : List Change) → AreHeld makes holds operators forms rows → AllByRecursion IsExactChange changes → AllByRecursion IsExactChange (pass forms rows changes)
   exact-pass [] [] rows changes held exact = exact
   exact-pass [] (form ∷ forms) rows changes held exact = absurd held

@@ -1,4 +1,4 @@
--- Turns that stay linked while changes go through them.
+-- Operators that stay linked while changes go through them.
 use Rattle.std.proofs.Common.{◌≡◌, ◌∙◌, ap, sym, subst, refl, List, [], ◌∷◌, ◌+◌, ℕ, length, arith, ◌-◌}
 use Rattle.std.specs.Prelude.{Bool, true, false, if◌then◌else◌, nat_lt}
 use Rattle.std.specs.List.{AllByRecursion}
@@ -20,7 +20,7 @@ use Rattle.dv_change.specs.Inner.Work.{forms_after, forms_named}
 pub raised-twice : (n a b : ℕ) → raised (raised n a) b ≡ raised n (a + b)
 raised-twice n a b = omega arith
 
--- ---- what a stage hands on
+-- ---- what a stage returns
 
 module _ (f : Positioned → Positioned) (keeps : (rows : Positioned) → IsPositioned rows → IsPositioned (f rows)) where
   positioned-next : (rows : Positioned) (change : Change) → IsPositioned rows → IsExactChange change → IsPositioned (with_change rows change)
@@ -32,7 +32,7 @@ module _ (f : Positioned → Positioned) (keeps : (rows : Positioned) → IsPosi
       let next = positioned-next rows change are exact.0 in
       exact-both (diff (f rows) (f (with_change rows change))) (handed f (with_change rows change) changes) (exact-diff (f rows) (f (with_change rows change)) (keeps rows are) (keeps (with_change rows change) next)) (exact-handed (with_change rows change) changes next exact.1)
 
-  -- what is handed on leads from what it made to what it makes
+  -- the changes that it returns lead from its old result to its new one
   pub apply-handed : (rows : Positioned) (changes : List Change) → IsPositioned rows → AllByRecursion IsExactChange changes → with_changes (f rows) (handed f rows changes) ≡ f (with_changes rows changes)
   apply-handed rows [] are exact = refl
   apply-handed rows (change ∷ changes) are exact =
@@ -41,7 +41,7 @@ module _ (f : Positioned → Positioned) (keeps : (rows : Positioned) → IsPosi
       ∙ ap (λ made. with_changes made (handed f (with_change rows change) changes)) (apply-diff (f rows) (f (with_change rows change)) (keeps rows are) (keeps (with_change rows change) next))
       ∙ apply-handed (with_change rows change) changes next exact.1
 
--- ---- turns
+-- ---- operators
 
 module _ {T : Type 0} (turning : Turning T) where
   pub first-linked : (ts : List T) (rows : Positioned) → IsLinked turning ts rows → AreLinked turning ts
@@ -64,7 +64,7 @@ module _ {T : Type 0} (turning : Turning T) where
   work_named-first i change [] rows l = refl
   work_named-first i change (t ∷ ts) rows l = ap (λ r. work_named i change (forms_of turning (t ∷ ts)) r) l.1
 
-  -- the same turns, behind what came of what they had taken in
+  -- the same operators, after changes of the rows that they had taken in
   pub relinked : (ts us : List T) (rows after : Positioned) (changes : List Change) → forms_of turning us ≡ forms_of turning ts → IsLinked turning ts rows → IsLinked turning us (with_changes (first_left turning ts) changes) → with_changes rows changes ≡ after → IsLinked turning us after
   relinked ts [] rows after changes e l m is = tt
   relinked [] (u ∷ us) rows after changes e l m is = absurd cc
@@ -113,7 +113,7 @@ module _ {T : Type 0} (turning : Turning T) where
         relinked ts us (made turning t) (made turning after) items forms linked more
         (ap (with_changes (made turning t)) e ∙ apply-diff (made turning t) ((turning.form t).makes (others_after input change (turning.form t).named) (left_after input change (turning.left t))) (ordered t (turning.form t).named (turning.left t) (positioned t s).0) now ∙ (λ i. sym m i (sym o i) (sym l i)))
 
-    -- ---- what comes out leads from what the last one made to what it makes
+    -- ---- the changes that are returned lead from the last one's old result to its new one
 
     pub fresh-linked : ((t : T) (named : List Positioned) → (turning.form t).makes named [] ≡ []) → (ts : List T) → HaveTakenNothing turning ts → IsLinked turning ts []
     fresh-linked empty [] all = tt

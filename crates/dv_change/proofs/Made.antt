@@ -1,4 +1,4 @@
--- What operators have made, behind a change, behind their first rows, and where nothing came yet.
+-- The result of operators after a change, after their first rows, and before any row.
 use Rattle.std.proofs.Common.{◌≡◌, ◌∙◌, ◌++◌, ap, refl, sym, subst, List, [], Some}
 use Rattle.std.specs.List.{AllByRecursion}
 use Rattle.dv_change.specs.declared.change.Change.{Change}
@@ -26,7 +26,7 @@ exact-change : (c : Change) → IsExact (position_changed c) → IsExactChange c
 exact-change (Put pos row) exact = exact
 exact-change (Gone pos) exact = exact
 
--- a change that is told of one of the lists of stages is told of the stages
+-- a change of one of the lists of stages is a change of an input of the stages
 comes-in : (input : Input) (taken : Taken) (change : Change) (forms : List Transform) (left : Positioned) → IsExact taken.pos → HasInput input (lists_of forms) → taken ≡ with_old (input_rows input (lists_of forms) left) change → ComesIn input taken change forms left
 comes-in input taken change forms left exact has told = record {
   there = there-counted input forms (lists_of forms) refl has;
@@ -39,7 +39,7 @@ still-positioned Left change left are exact = positioned-changed left change are
 still-positioned (Named i) change left are exact = are
 
 module _ {O : Type 0} (makes : O → List Positioned → Positioned → Positioned) (holds : O → List Positioned → Positioned → Type 0) where
-  -- behind a change that went through the operators, and whose outcome was carried out and told
+  -- after a change that went through the operators, whose outcome was applied and returned
   pub takes_told : (input : Input) (taken : Taken) (old new : ToldRows O) (nothing out before now : List Taken) → IsExact taken.pos → ChainTakesIn makes holds (Some old.rows.entries) input taken old.operators new.operators nothing out old.ticks new.ticks → nothing ≡ []
       → new.rows.entries ≡ with_changes old.rows.entries (changes_told out) → now ≡ before ++ out → TakesTold makes holds input taken old new before now
   takes_told input taken old new nothing out before now exact passed none rows telling forms left change made has told =
@@ -61,7 +61,7 @@ module _ {O : Type 0} (makes : O → List Positioned → Positioned → Position
 
   module _ (positioned : (o : O) (others : List Positioned) (left : Positioned) → holds o others left → IsPositioned left × AllByRecursion (λ rows. IsPositioned rows) others)
       (ordered : (o : O) (others : List Positioned) (rows : Positioned) → IsPositioned rows → IsPositioned (makes o others rows)) (empty : (o : O) (others : List Positioned) → makes o others [] ≡ []) where
-    -- where no row came yet
+    -- before any row
     pub made_first : (operators fresh : List O) (outs : Positioned) (forms : List Transform) → operators ≡ fresh → outs ≡ [] → AreFresh makes holds fresh forms → HaveMade makes holds operators outs forms []
     made_first operators fresh outs forms same none are =
         let held = fresh-held makes holds positioned ordered empty fresh forms are in
@@ -71,7 +71,7 @@ module _ {O : Type 0} (makes : O → List Positioned → Positioned → Position
           made = none ∙ sym (nothing_through makes holds positioned ordered empty fresh forms held);
         }
 
-    -- behind the first rows, whose outcome was carried out
+    -- after the first rows, whose outcome was applied
     pub made_filled : (all made : List Taken) (old new : List O) (outs now : Positioned) → ChainFills makes holds old new all made → now ≡ with_changes outs (changes_told made) → (forms : List Transform) (changes : List Change) → HaveMade makes holds old outs forms []
         → AllByRecursion IsExactChange changes → all ≡ told_along [] changes → HaveMade makes holds new now forms (with_changes [] changes)
     made_filled all made old new outs now fills rows forms changes first exact told =

@@ -1,4 +1,4 @@
--- Changes that are told to operators, one operator behind the other.
+-- Changes that operators receive, one operator after the other.
 use Rattle.std.proofs.Common.{◌≡◌, ◌∙◌, ap, sym, subst, refl, List, [], ◌∷◌, ◌+◌, ℕ, Option, arith, length}
 use Rattle.std.specs.Prelude.{◌<◌, ◌-◌, Bool, true, if◌then◌else◌, nat_lt}
 use Rattle.std.specs.List.{AllByRecursion}
@@ -21,7 +21,7 @@ plus-none : (n : ℕ) → n ≡ n + 0
 plus-none n = omega arith
 
 module _ {O : Type 0} (makes : O → List Positioned → Positioned → Positioned) (holds : O → List Positioned → Positioned → Type 0) where
-  -- the first operator holds what it held, and so do those behind it
+  -- the first operator holds what it held, and so do those after it
   module _ (o after : O) (behind behind_after : List O) (same : makes after ≡ makes o) (first : StaysTaken (holds o) (holds after)) (rest : ChainStays makes holds behind behind_after) where
     pub stays-more : (operators : List O) → operators ≡ o ∷ behind → ChainStays makes holds operators (after ∷ behind_after)
     stays-more operators is [] rows held = absurd (subst (λ (os : List O). AreHeld makes holds os [] rows) is held)
@@ -62,7 +62,7 @@ module _ {O : Type 0} (makes : O → List Positioned → Positioned → Position
         → IsPassed makes holds (after ∷ behind_after) forms rows changes before now first last
     passed-more operators is forms rows changes held exact are same_rows = more forms rows changes (subst (λ (os : List O). AreHeld makes holds os forms rows) is held) exact are same_rows
 
-  -- the last operator, told of changes by itself
+  -- the last operator by itself, which receives changes
   module _ (kept : Option Positioned) (o after : O) (items before now : List Taken) (first last : ℕ) (same : makes after ≡ makes o)
       (fed : (others : List Positioned) (left : Positioned) (changes : List Change) → holds o others left → AllByRecursion IsExactChange changes → items ≡ told_along left changes → AreKept kept (makes o others left) → IsFed (makes o others) (holds after others) left changes before now first last) where
     alone : (forms : List Transform) (rows : Positioned) (changes : List Change) → AreHeld makes holds (o ∷ []) forms rows → AllByRecursion IsExactChange changes → items ≡ told_along rows changes → AreKept kept (through_forms forms rows)
@@ -85,7 +85,7 @@ module _ {O : Type 0} (makes : O → List Positioned → Positioned → Position
         → IsPassed makes holds (after ∷ []) forms rows changes before now first last
     passed-alone operators is forms rows changes held exact are same_rows = alone forms rows changes (subst (λ (os : List O). AreHeld makes holds os forms rows) is held) exact are same_rows
 
-  -- ---- a change of a list that the first operator looks into
+  -- ---- a change of a list that the first operator reads
 
   module _ (kept_rows : Option Positioned) (i : ℕ) (change : Change) (taken : Taken) (exact : IsExactChange change) (o after : O) (behind behind_after : List O) (told before now : List Taken) (first mid last : ℕ) (named : ℕ) (same : makes after ≡ makes o) (counted : (others : List Positioned) (left : Positioned) → holds o others left → named ≡ length others) where
     pub named-here : i < named
@@ -120,10 +120,10 @@ module _ {O : Type 0} (makes : O → List Positioned → Positioned → Position
           leads = rw here (rest.leads ∙ ap (through_forms forms) leads);
         }
 
-  -- ---- rows that come to operators which have taken in none
+  -- ---- rows for operators that have taken in none
 
   module _ (empty : (o : O) (others : List Positioned) → makes o others [] ≡ []) where
-    -- of no rows an operator makes none
+    -- an operator's result for no rows has no rows
     pub nothing_made : (o : O) (form : Transform) → makes o ≡ form.makes → stage_rows form [] ≡ []
     nothing_made o form same = ap (λ (k : List Positioned → Positioned → Positioned). k form.named []) (sym same) ∙ empty o form.named
 

@@ -1,4 +1,4 @@
--- Changes that are told to an operator, one after the other.
+-- Changes that an operator receives, one after the other.
 use Rattle.std.proofs.Common.{◌≡◌, ◌≤◌, ◌∙◌, ap, sym, subst, refl, List, [], ◌∷◌, ◌++◌, ◌+◌, ℕ, length, arith, append_assoc, append-nil, length-append}
 use Rattle.std.specs.Prelude.{suc}
 use Rattle.std.specs.List.{AllByRecursion}
@@ -23,7 +23,7 @@ one-more-tick : (d r h : ℕ) → 1 + d + (r + h) ≡ suc r + (d + h)
 one-more-tick d r h = omega arith
 
 module _ (m : Positioned → Positioned) (keeps : (rows : Positioned) → IsPositioned rows → IsPositioned (m rows)) (holds held_after : Positioned → Type 0) (are_in_order : (rows : Positioned) → holds rows → IsPositioned rows) where
-  -- what one change makes of it
+  -- what one change does to it
   abbrev pub TakesOne : Taken → (now after_now : List Taken) → (after after_all : ℕ) → Type 0
   TakesOne taken now after_now after after_all =
       (rows : Positioned) (change : Change) → holds rows → taken ≡ with_old rows change → IsExactChange change
@@ -95,7 +95,7 @@ module _ (m : Positioned → Positioned) (holds : Positioned → Type 0) (left :
   pub underway-end : IsUnderway m holds [] left changes before now first after → IsFed m holds left changes before now first after
   underway-end u = ended u.rows u.rest u.are u.held u.all u.out u.ticks
 
--- the only change, told to what has taken in these rows
+-- the only change, received by an operator that has taken in these rows
 module _ (m : Positioned → Positioned) (held_after : Positioned → Type 0) (taken : Taken) (left : Positioned) (before now : List Taken) (first after : ℕ)
     (law : (change : Change) → taken ≡ with_old left change → IsExactChange change
     → held_after (with_change left change) × (now ≡ before ++ told_along (m left) (diff (m left) (m (with_change left change)))) × (after ≡ raised first (1 + length (diff (m left) (m (with_change left change)))))) where
@@ -121,7 +121,7 @@ pub nothing-left : {T : Type 0} (items : List T) → length items ≡ 0 → item
 nothing-left [] e = refl
 nothing-left (item ∷ items) e = absurd cc
 
--- what it tells of its first rows leads from nothing to what it makes
+-- the changes that it returns for its first rows lead from no rows to its result
 pub fed-filled : (m : Positioned → Positioned) (holds : Positioned → Type 0) → ((rows : Positioned) → IsPositioned rows → IsPositioned (m rows)) → m [] ≡ [] → (changes : List Change) (before now : List Taken) (first after : ℕ) → before ≡ [] → AllByRecursion IsExactChange changes → IsFed m holds [] changes before now first after → IsFilled m holds changes now
 fed-filled m holds keeps empty changes before now first after none exact fed =
     let outs = handed m [] changes in

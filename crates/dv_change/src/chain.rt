@@ -1,4 +1,4 @@
-//! Stages one behind the other.
+//! Operators one after the other.
 
 ghost use Rattle.std.specs.Prelude.{◌≡◌, ◌<◌, ◌≤◌, ◌++◌, [], OnErr, OnOk};
 ghost use Rattle.std.specs.List.{AllByRecursion};
@@ -35,7 +35,7 @@ impl<T: Turn + Drop> Model for Chain<T> {
 }
 
 impl<T: Turn + Drop> Chain<T> {
-    /// A chain of turns that have taken in nothing.
+    /// A chain of operators that have taken in nothing.
     pub fn new(alloc: Global, turns: Vec<T>) -> Self
         requires { HaveTakenNothing T.turning turns.items }
         ensures turns { result ≡ turns.items }
@@ -45,8 +45,8 @@ impl<T: Turn + Drop> Chain<T> {
     }
 
     /// Takes in a change of an input, and appends the changes that the last operator returns to `out`. The lists that operators
-    /// look into are counted from 0 through all of them. Fails with `NoMemory` when memory runs out; then it is spent and may only
-    /// be dropped, `out` may have grown at its end, and `ticks` may have risen.
+    /// read by `$lookup` are counted from 0 through all of them. Fails with `NoMemory` when memory runs out; then it is spent and
+    /// may only be dropped, `out` may have grown at its end, and `ticks` may have risen.
     pub fn change(
         &mut self,
         input: Input,
@@ -76,7 +76,7 @@ impl<T: Turn + Drop> Chain<T> {
     }
 }
 
-/// Hands the change to the turn whose input it is of, and what it hands on to those behind it.
+/// Passes the change to the operator whose input it changes, and the changes that each operator returns to the next one.
 fn feed_input<T: Turn>(
     alloc: Global,
     turns: &mut [T],
@@ -107,7 +107,7 @@ fn feed_input<T: Turn>(
     }
 }
 
-/// Hands the changes to the turn, one after the other.
+/// Passes the changes to the operator, one after the other.
 fn feed<T: Turn>(
     turn: &mut T,
     changes: Vec<Change>,
@@ -130,7 +130,7 @@ fn feed<T: Turn>(
     Ok(())
 }
 
-/// Hands the changes to the first turn, and what it hands on to those behind it.
+/// Passes the changes to the first operator, and the changes that each operator returns to the next one.
 fn feed_all<T: Turn>(
     alloc: Global,
     turns: &mut [T],
@@ -155,7 +155,7 @@ fn feed_all<T: Turn>(
     feed_all(alloc, behind, handed, ticks, out)
 }
 
-/// Hands the change to the turn that looks into the list, and what it hands on to those behind it.
+/// Passes the change to the operator that reads the list, and the changes that each operator returns to the next one.
 fn feed_named<T: Turn>(
     alloc: Global,
     turns: &mut [T],
@@ -186,7 +186,7 @@ fn feed_named<T: Turn>(
     }
 }
 
-/// Puts the changes behind the others.
+/// Appends the changes to `out`.
 fn push_all(changes: Vec<Change>, out: &mut Vec<Change>) -> Result<(), NoMemory>
     ensures out { OnOk result (out.new.items ≡ out.old.items ++ changes.items) }
     ensures begins { OnErr result (BeginsWith out.new.items out.old.items) }

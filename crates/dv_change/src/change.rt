@@ -24,7 +24,7 @@ pub enum Change {
 }
 
 impl Change {
-    /// A copy of its own, whose row shares its memory. Fails with `NoMemory` when memory runs out.
+    /// A copy, which shares the row's memory. Fails with `NoMemory` when memory runs out.
     pub fn try_clone(&self) -> Result<Self, NoMemory>
         ensures { IfOk result (λ copy. copy ≡ self.now) }
     {
@@ -39,7 +39,7 @@ impl Change {
         }
     }
 
-    /// That each key of its position is that of some value, or the one that no value has. Does nothing.
+    /// Each key of its position is the key of some value, or the one key that no value has. Does nothing.
     pub fn law_exact(&self)
         ensures { IsExactChange self.now }
     {

@@ -1,4 +1,4 @@
-//! What a stage hands on that made some rows and now makes others.
+//! The changes that a stage returns, from its old rows to its new ones.
 
 ghost use Rattle.std.specs.Prelude.{◌≡◌, ◌≤◌, ◌+◌, ◌++◌, length, OnErr, OnOk};
 ghost use Rattle.dv_change.specs.Inner.Beginning.{BeginsWith};
@@ -13,9 +13,9 @@ use crate::ticks::Ticks;
 use dv_order::same_documents;
 use dv_value::{Document, NoMemory};
 
-/// Appends the changes that lead from the old rows to the new ones to `out`, each with the row that stood at its position: each
-/// position that goes, and then each row that comes or isn't the same. Counts 1 for the change that caused this, and 1 for each change
-/// that is returned. Fails with `NoMemory` when memory runs out; then `out` may have grown at its end.
+/// Appends the changes that lead from the old rows to the new ones to `out`, each with the row that was at its position: first each
+/// removal, then each row that is inserted or isn't the same as before. Counts 1 for the change that caused this, and 1 for each
+/// change that is appended. Fails with `NoMemory` when memory runs out; then `out` may have grown at its end.
 pub fn hand_over(
     old: &Ordered<Document>,
     new: &Ordered<Document>,
@@ -35,7 +35,7 @@ pub fn hand_over(
     Ok(())
 }
 
-/// Returns them, as `hand_over`, where at most one row stood at the position, and at most one stands there now.
+/// Does the same as `hand_over`, where at most one row was at the position, and at most one is there now.
 pub fn hand_over_at(
     pos: &Pos,
     old: &Option<Document>,
@@ -60,7 +60,7 @@ pub fn hand_over_at(
     Ok(())
 }
 
-/// Whether there is no row now where there was none, or the same one.
+/// Whether there was no row and there is none now, or the row is the same.
 fn is_kept(old: &Option<Document>, new: &Option<Document>) -> bool
     ensures { result ≡ is_kept old.now new.now }
 {
@@ -71,7 +71,7 @@ fn is_kept(old: &Option<Document>, new: &Option<Document>) -> bool
     }
 }
 
-/// Appends that each old row goes at whose position no new one stands.
+/// Appends the removal of each old row whose position has no new row.
 fn push_gones(
     old: &Ordered<Document>,
     new: &Ordered<Document>,
@@ -90,7 +90,7 @@ fn push_gones(
     Ok(())
 }
 
-/// Appends that the row goes, where no new one stands at its position.
+/// Appends the removal of the row, if its position has no new row.
 fn push_gone(
     pos: &Pos,
     row: &Document,
@@ -110,7 +110,7 @@ fn push_gone(
     Ok(())
 }
 
-/// Appends that each new row comes that doesn't stand among the old ones.
+/// Appends the change that puts each new row, unless the same row is at its position among the old ones.
 fn push_puts(
     old: &Ordered<Document>,
     new: &Ordered<Document>,
@@ -129,7 +129,7 @@ fn push_puts(
     Ok(())
 }
 
-/// Appends that the row comes, unless it stands at its position among the old ones.
+/// Appends the change that puts the row, unless the same row is at its position among the old ones.
 fn push_put(
     old: &Ordered<Document>,
     pos: &Pos,

@@ -5,7 +5,7 @@ ghost use Rattle.dv_change.specs.Inner.Places.{IsFirstCode};
 
 use crate::position::Part;
 
-/// The code of the first part, zeros where there is none: what positions are compared by first.
+/// The code of the first part, zeros if there is none. Positions are compared by it first.
 #[derive(Clone, Copy, Debug, Drop)]
 pub(crate) struct Head {
     pub top: u8,
@@ -14,7 +14,7 @@ pub(crate) struct Head {
 }
 
 impl Head {
-    /// That of the parts. Takes no memory.
+    /// The code of the first of these parts, zeros if there is none. Takes no memory.
     pub(crate) fn of_first(parts: &[Part]) -> Self
         ensures { IsFirstCode parts.now result.top result.high result.low }
     {

@@ -5,6 +5,6 @@
 pub enum Input {
     /// The rows of the stage before it, or of the source.
     Left,
-    /// One of the lists that the stage looks into, counted from 0.
+    /// One of the lists that the stage reads by `$lookup`, counted from 0.
     Named(usize),
 }

@@ -1,4 +1,4 @@
-//! Operators that keep the rows that they have taken in, and so need not be told what stood there.
+//! Operators that store the rows that they have taken in, and so need not receive the old row with each change.
 
 ghost use Rattle.std.specs.Prelude.{◌≡◌, ◌≤◌, ◌<◌, ◌++◌, [], IfOk, OnErr, OnOk, length, map};
 ghost use Rattle.std.specs.List.{AllByRecursion};
@@ -20,8 +20,8 @@ use dv_value::{Document, NoMemory};
 use std::alloc::Global;
 use std::collections::BTreeMap;
 
-/// An operator with the rows that it has taken in and those of the lists that it looks into, so that it need not be told what
-/// stood where a change is.
+/// An operator with the rows that it has taken in and the lists that it reads by `$lookup`, so that it need not receive the old row
+/// with each change.
 #[derive(Drop)]
 pub struct Keeping<O> {
     alloc: Global,
@@ -31,7 +31,7 @@ pub struct Keeping<O> {
 }
 
 impl<O: Operator> Keeping<O> {
-    /// The operator, where it has taken in nothing: as many lists as it looks into, each of no rows.
+    /// The operator before it takes in anything. `lists` are the lists that it reads by `$lookup`, each without rows.
     pub fn new(alloc: Global, operator: O, lists: Vec<BTreeMap<Pos, Document>>) -> Self
         requires sound { O.sound operator }
         requires fresh { O.holds operator (map (λ m. m.entries) lists.items) [] }
@@ -48,7 +48,7 @@ impl<O: Operator> Keeping<O> {
         }
     }
 
-    /// Tells the operator of a change, and hands on what it tells.
+    /// Passes a change to the operator, and appends the changes that it returns to `out`.
     fn hand_on(
         &mut self,
         input: Input,
@@ -108,7 +108,7 @@ impl<O: Operator> Turn for Keeping<O> {
     }
 }
 
-/// Takes a change into the list at the place.
+/// Applies a change to the list at the place.
 pub(crate) fn take_in_at(
     lists: &mut [BTreeMap<Pos, Document>],
     place: usize,
@@ -123,7 +123,7 @@ pub(crate) fn take_in_at(
     take_in(&mut lists[place], change)
 }
 
-/// Puts the changes that are told behind the others.
+/// Appends the changes to `out`, without their old rows.
 fn push_changes(told: Vec<Taken>, out: &mut Vec<Change>) -> Result<(), NoMemory>
     ensures out { OnOk result (out.new.items ≡ out.old.items ++ changes_told told.items) }
     ensures begins { OnErr result (BeginsWith out.new.items out.old.items) }

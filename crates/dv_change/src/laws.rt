@@ -1,4 +1,4 @@
-//! What holds of positions, changes and work, each the contract of a function that does nothing.
+//! Laws of positions, changes and work. Each is the contract of a function that does nothing.
 
 ghost use Rattle.std.specs.Prelude.{◌≡◌, ◌∷◌, [], ℕ, List};
 ghost use Rattle.std.specs.declared.cmp.Ordering.TheVariants.{Equal, Less};
@@ -16,7 +16,8 @@ ghost use Rattle.dv_change.specs.Raised.{raised};
 ghost use Rattle.dv_change.specs.Work.{pass_in, work_in};
 ghost use Rattle.dv_order.specs.Key.{KeyTree};
 
-/// Positions that are equal in the order are identical, if their keys are those of values, or the one that no value has.
+/// Positions that are equal in the order are identical, if each of their keys is the key of some value, or the one key that no
+/// value has.
 #[tactic(auto, using(crate::proofs::Lawful::lawful))]
 pub fn equal_positions_are_one()
     ensures { (p q : PosTree) → IsExact p → IsExact q → pos_order p q ≡ Equal → p ≡ q }
@@ -27,20 +28,20 @@ pub fn changes_keep_rows_in_order()
     ensures { (rows : Positioned) (changes : List Change) → IsPositioned rows → AllByRecursion IsExactChange changes → IsPositioned (with_changes rows changes) }
 {}
 
-/// Lists with the same row at each exact position are one.
+/// Two lists with the same row at each exact position are equal.
 #[tactic(auto, using(crate::proofs::Lawful::lawful))]
 pub fn rows_are_known_by_their_positions()
     ensures { (xs ys : Positioned) → IsPositioned xs → IsPositioned ys → ((q : PosTree) → IsExact q → at q xs ≡ at q ys) → xs ≡ ys }
 {}
 
-/// A difference leads from the one list of rows to the other one.
+/// The difference of two lists of rows, applied to the old list, gives the new one.
 #[tactic(auto, using(crate::proofs::Lawful::lawful))]
 pub fn a_difference_leads_from_old_to_new()
     ensures { (old new : Positioned) → IsPositioned old → IsPositioned new → with_changes old (diff old new) ≡ new }
 {}
 
-/// Parts that rise are in the order of their keys, and those that fall in its reverse. A part that rises comes before one that falls,
-/// and either comes before a number, whatever they hold. A position comes before those that it begins.
+/// Ascending parts are in the order of their keys, and descending parts in its reverse. An ascending part comes before a descending
+/// one, and both come before a number, whatever they hold. A position comes before those that it begins.
 pub fn positions_by_example()
     ensures rising { part_order (Up (number_key 1)) (Up (number_key 2)) ≡ Less }
     ensures falling { (k l : KeyTree) → part_order (Down k) (Down l) ≡ part_order (Up l) (Up k) }
@@ -50,7 +51,7 @@ pub fn positions_by_example()
     ensures shorter_first { pos_order (At 1 ∷ []) (At 1 ∷ At 0 ∷ []) ≡ Less }
 {}
 
-/// What goes comes first, and what stays as it is isn't in the difference.
+/// Removals come first, and a row that stays as it is isn't in the difference.
 pub fn examples_of_differences()
     ensures nothing { diff ((place 0, numbered_row 1) ∷ []) ((place 0, numbered_row 1) ∷ []) ≡ [] }
     ensures each_kind { diff (numbered_rows 0 (1 ∷ 2 ∷ 3 ∷ [])) (numbered_rows 1 (2 ∷ 4 ∷ 5 ∷ [])) ≡ Gone (place 0) ∷ Put (place 2) (numbered_row 4) ∷ Put (place 3) (numbered_row 5) ∷ [] }

@@ -1,4 +1,4 @@
-//! The parts of a position, lent.
+//! The parts of a position, borrowed.
 
 ghost use Rattle.std.specs.Prelude.{◌≡◌, [], ◌∷◌};
 ghost use Rattle.dv_order.specs.LentKeys.{lent_key};
@@ -10,7 +10,7 @@ use crate::position::Part;
 use dv_order::LentKey;
 use std::cmp::Ordering;
 
-/// Parts, each of its own.
+/// Parts, each as a `Part`.
 #[derive(Debug, Drop)]
 pub(crate) enum Parts<'a> {
     One([Part; 1]),
@@ -21,7 +21,7 @@ pub(crate) enum Parts<'a> {
 /// The parts of a position.
 #[derive(Debug, Drop)]
 pub(crate) enum Lent<'a> {
-    /// One part, under an ascending key that stands in the position.
+    /// One part, with an ascending key that is borrowed from the position.
     Alone(LentKey<'a>),
     /// Any parts.
     Together(Parts<'a>),
@@ -54,7 +54,7 @@ impl<'a> Lent<'a> {
     }
 }
 
-/// The order of the position of these parts and of the one of the ascending key alone.
+/// The order of the position of these parts and of the position of the ascending key alone.
 fn order_to(parts: &[Part], key: &LentKey) -> Ordering
     ensures { result ≡ pos_order parts.now (Up (lent_key key.now) ∷ []) }
 {
@@ -65,7 +65,7 @@ fn order_to(parts: &[Part], key: &LentKey) -> Ordering
     }
 }
 
-/// The order of the part and of one under the ascending key.
+/// The order of the part and of the part with this ascending key.
 fn part_order_to(part: &Part, key: &LentKey) -> Ordering
     ensures { result ≡ part_order part.now (Up (lent_key key.now)) }
 {

@@ -1,4 +1,4 @@
-//! Stages that are told what stood where a change is.
+//! Operators that receive the old row with each change.
 
 ghost use Rattle.std.specs.Prelude.{◌≡◌, ◌≤◌, List, [], length, IfOk, OnErr, OnOk};
 ghost use Rattle.std.specs.List.{AllByRecursion};
@@ -15,10 +15,10 @@ use crate::ticks::Ticks;
 use dv_value::{Document, NoMemory};
 use std::collections::BTreeMap;
 
-/// A stage of a pipeline that is told of each change with the row that stood at its position, and tells so what changes of its
-/// rows. Of what it has taken in it keeps only what it needs for that.
+/// An operator: a stage of a pipeline that receives each change with the row that was at its position, and returns the changes of
+/// its result in the same way. Of what it has taken in, it stores only what it needs for that.
 pub trait Operator {
-    /// What it makes of the lists that it looks into and of its rows.
+    /// Its result for the lists that it reads by `$lookup` and for its rows.
     ghost makes: { Self → List Positioned → Positioned → Positioned };
 
     /// It isn't spent.
@@ -27,13 +27,13 @@ pub trait Operator {
     /// It may have taken in these lists and these rows.
     ghost holds: { Self → List Positioned → Positioned → Type 0 };
 
-    /// How many lists it looks into.
+    /// How many lists it reads by `$lookup`.
     fn named(&self) -> usize
         ensures { (others : List Positioned) (left : Positioned) → holds self.now others left → result ≡ length others };
 
-    /// Takes in a change of an input, and appends what changes of its rows to `out`. Counts 1 for the change and 1 for each that
-    /// it tells. Fails with `NoMemory` when memory runs out; then it is spent and may only be dropped, `out` may have grown at its
-    /// end, and `ticks` may have risen.
+    /// Takes in a change of an input, and appends the changes of its result to `out`. Counts 1 for the change and 1 for each that
+    /// it returns. Fails with `NoMemory` when memory runs out; then it is spent and may only be dropped, `out` may have grown at
+    /// its end, and `ticks` may have risen.
     fn take(
         &mut self,
         input: Input,
@@ -50,8 +50,8 @@ pub trait Operator {
         ensures begins { OnErr result (BeginsWith out.new.items out.old.items) }
         ensures no_fewer { OnErr result (ticks.old ≤ ticks.new) };
 
-    /// Takes in a change, as `take`. `made` holds the rows that it has made: it may take from them what it made before the change,
-    /// in place of making that again.
+    /// Takes in a change, as `take` does. `made` has the rows of its result before the change: it may take its old rows from these,
+    /// and need not compute them again.
     fn take_beside(
         &mut self,
         input: Input,
@@ -73,13 +73,13 @@ pub trait Operator {
         self.take(input, taken, ticks, out)
     }
 
-    /// Whether its first rows cost less where it takes them in at once, as where it makes a row of many.
+    /// Whether taking in its first rows costs less if it gets them all at once, as when it makes one row of many.
     fn is_filled_at_once(&self) -> bool {
         false
     }
 
-    /// Takes in its first rows, by the changes that put them in. Tells changes that lead to what it makes of these rows; counts
-    /// nothing. Fails with `NoMemory` when memory runs out; then it is spent and may only be dropped.
+    /// Takes in its first rows, given as the changes that insert them. Returns changes that lead from no rows to its result for
+    /// these rows; counts nothing. Fails with `NoMemory` when memory runs out; then it is spent and may only be dropped.
     fn fill(&mut self, all: Vec<Taken>) -> Result<Vec<Taken>, NoMemory>
         requires { sound self.old }
         ensures sound { OnOk result (sound self.new) }
@@ -94,8 +94,8 @@ pub trait Operator {
         Ok(made)
     }
 
-    /// Stores what it keeps in less memory, where it can; it has then taken in the same. Called after its first rows. Fails with
-    /// `NoMemory` when memory runs out; then it is spent and may only be dropped.
+    /// Stores what it keeps in less memory, if it can; what it has taken in stays the same. Called before and after its first rows.
+    /// Fails with `NoMemory` when memory runs out; then it is spent and may only be dropped.
     fn pack(&mut self) -> Result<(), NoMemory>
         requires { sound self.old }
         ensures sound { OnOk result (sound self.new) }
@@ -105,15 +105,15 @@ pub trait Operator {
         Ok(())
     }
 
-    /// What it may have taken in stands at exact positions, in their order.
+    /// What it may have taken in, rows and lists, is at exact positions, in their order.
     ghost positioned: { (o : Self) (others : List Positioned) (left : Positioned) → holds o others left → IsPositioned left × AllByRecursion (λ rows. IsPositioned rows) others };
 
-    /// So does what it makes of such rows.
+    /// So is its result for such rows.
     ghost ordered: { (o : Self) (others : List Positioned) (rows : Positioned) → IsPositioned rows → IsPositioned (makes o others rows) };
 
-    /// Of rows at positions of one length it makes such rows.
+    /// For rows at positions of one length, its result has positions of one length.
     ghost even: { (o : Self) (others : List Positioned) (rows : Positioned) → IsPositioned rows → HaveOneLength rows → HaveOneLength (makes o others rows) };
 
-    /// It makes nothing of nothing.
+    /// Its result for no rows has no rows.
     ghost empty: { (o : Self) (others : List Positioned) → makes o others [] ≡ [] };
 }

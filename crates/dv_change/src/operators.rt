@@ -1,4 +1,4 @@
-//! Operators one behind the other, each told what stood where a change is.
+//! Operators one after the other, each of which receives the old row with each change.
 
 ghost use Rattle.std.specs.Prelude.{◌≡◌, ◌∷◌, [], ◌++◌, IfOk, OnErr, OnOk, Some};
 ghost use Rattle.std.specs.List.{AllByRecursion};
@@ -17,7 +17,7 @@ use std::alloc::Global;
 use std::collections::BTreeMap;
 use std::marker::Model;
 
-/// Operators one behind the other. Each takes in the changes that the one before it tells.
+/// Operators one after the other. Each takes in the changes that the one before it returns.
 #[derive(Drop)]
 pub struct Operators<O: Operator + Drop> {
     alloc: Global,
@@ -40,10 +40,10 @@ impl<O: Operator + Drop> Operators<O> {
         Operators { alloc, operators }
     }
 
-    /// Takes in a change of an input, and appends what the last operator tells of it to `out`. The rows that the last operator has
-    /// made are kept in `made`. The lists that operators look into are counted from 0 through all of them. Fails with `NoMemory`
-    /// when memory runs out; then it is spent and may only be dropped, `out` may have grown at its end, and what `ticks` counts is
-    /// not said.
+    /// Takes in a change of an input, and appends the changes that the last operator returns to `out`. `made` has the rows of the
+    /// last operator's result before the change. The lists that operators read by `$lookup` are counted from 0 through all of them.
+    /// Fails with `NoMemory` when memory runs out; then it is spent and may only be dropped, `out` may have grown at its end, and
+    /// nothing is said of what `ticks` counts.
     pub fn take(
         &mut self,
         input: Input,
@@ -68,8 +68,8 @@ impl<O: Operator + Drop> Operators<O> {
         )
     }
 
-    /// Takes in its first rows, by the changes that put them in. Tells changes that lead to what the last operator makes; counts
-    /// nothing. Fails with `NoMemory` when memory runs out; then it is spent and may only be dropped.
+    /// Takes in its first rows, given as the changes that insert them. Returns changes that lead from no rows to the last
+    /// operator's result; counts nothing. Fails with `NoMemory` when memory runs out; then it is spent and may only be dropped.
     pub fn fill(&mut self, all: Vec<Taken>) -> Result<Vec<Taken>, NoMemory>
         requires { AllByRecursion O.sound self.old }
         ensures sound { OnOk result (AllByRecursion O.sound self.new) }
@@ -79,7 +79,7 @@ impl<O: Operator + Drop> Operators<O> {
     }
 }
 
-/// Tells the operator whose input it is of of the change, and those behind it of what it tells.
+/// Passes the change to the operator whose input it changes, and the changes that each operator returns to the next one.
 fn take_input<O: Operator>(
     alloc: Global,
     operators: &mut [O],
@@ -100,7 +100,7 @@ fn take_input<O: Operator>(
     }
 }
 
-/// Tells the operator of the changes, one after the other.
+/// Passes the changes to the operator, one after the other.
 fn take_each<O: Operator>(
     operator: &mut O,
     all: Vec<Taken>,
@@ -118,7 +118,7 @@ fn take_each<O: Operator>(
     Ok(())
 }
 
-/// Tells the last operator of a change, where the rows that it has made may be kept.
+/// Passes a change to the last operator, with the rows of its result so far, if these are stored.
 fn take_last<O: Operator>(
     operator: &mut O,
     taken: Taken,
@@ -138,7 +138,8 @@ fn take_last<O: Operator>(
     }
 }
 
-/// Tells the first operator of a change, and those behind it of what it tells. The rows that the last one has made may be kept.
+/// Passes a change to the first operator, and the changes that each operator returns to the next one. `made` has the rows of the
+/// last one's result so far, if these are stored.
 #[cycle(passing)]
 fn take_one<O: Operator>(
     alloc: Global,
@@ -165,7 +166,7 @@ fn take_one<O: Operator>(
     take_all(alloc, behind, told, made, ticks, out)
 }
 
-/// The same of changes, one after the other.
+/// Does the same for several changes.
 #[cycle(passing)]
 fn take_all<O: Operator>(
     alloc: Global,
@@ -195,7 +196,7 @@ fn take_all<O: Operator>(
     take_all(alloc, behind, told, made, ticks, out)
 }
 
-/// Tells the operator that looks into the list of the change, and those behind it of what it tells.
+/// Passes the change to the operator that reads the list, and the changes that each operator returns to the next one.
 fn take_named<O: Operator>(
     alloc: Global,
     operators: &mut [O],
@@ -223,8 +224,8 @@ fn take_named<O: Operator>(
     }
 }
 
-/// Has the operators take in their first rows. What they keep is stored in little memory before that, so that the rows can take
-/// what it leaves, and afterwards. Gives what the last one tells.
+/// Has the operators take in their first rows, and returns the changes that the last one returns. What they store is packed into
+/// less memory before that, so that the rows can use what this frees, and again afterwards.
 fn fill_packed<O: Operator>(
     alloc: Global,
     operators: &mut [O],
@@ -240,8 +241,9 @@ fn fill_packed<O: Operator>(
     Ok(made)
 }
 
-/// Has the operators take in their first rows: each row through all of them, so that what they make of it on the way goes at once;
-/// but all rows one operator after the other, as far as one takes them in at once. Gives what the last one tells.
+/// Has the operators take in their first rows: each row goes through all of them, so that the rows between operators are dropped
+/// right away. But up to the last operator that takes its first rows in at once, each operator takes in all rows before the next
+/// one does. Returns the changes that the last one returns.
 fn fill_all<O: Operator>(
     alloc: Global,
     operators: &mut [O],
@@ -268,7 +270,8 @@ fn is_one_filled_at_once<O: Operator>(operators: &[O]) -> bool {
         .any(|operator| operator.is_filled_at_once())
 }
 
-/// Has the operators take in their first rows, one after the other. Gives what the last one tells.
+/// Has the operators take in their first rows, each row through all of them before the next row. Returns the changes that the last
+/// one returns.
 fn fill_each<O: Operator>(
     alloc: Global,
     operators: &mut [O],
@@ -286,7 +289,7 @@ fn fill_each<O: Operator>(
     Ok(made)
 }
 
-/// Has the operators store what they keep in less memory, where they can.
+/// Has the operators store what they keep in less memory, if they can.
 fn pack_all<O: Operator>(operators: &mut [O]) -> Result<(), NoMemory>
     requires { AllByRecursion O.sound operators.old }
     ensures sound { OnOk result (AllByRecursion O.sound operators.new) }
@@ -299,7 +302,7 @@ fn pack_all<O: Operator>(operators: &mut [O]) -> Result<(), NoMemory>
     pack_all(behind)
 }
 
-/// Puts what is told behind the others.
+/// Appends the changes to `out`.
 fn push_all(all: Vec<Taken>, out: &mut Vec<Taken>) -> Result<(), NoMemory>
     ensures out { OnOk result (out.new.items ≡ out.old.items ++ all.items) }
     ensures begins { OnErr result (BeginsWith out.new.items out.old.items) }

@@ -12,7 +12,8 @@ use std::collections::BTreeMap;
 use std::collections::btree_map::Iter;
 use std::marker::Model;
 
-/// Values at positions, in their order. The first one is kept outside the tree, which takes room for many as soon as it has one.
+/// Values at positions, in their order. The first value is kept outside the tree, since a tree takes memory for many as soon as it
+/// has one.
 #[derive(Drop)]
 pub struct Ordered<V> {
     first: Option<(Pos, V)>,
@@ -38,7 +39,7 @@ impl<V> Model for Ordered<V> {
 }
 
 impl<V: Drop> Ordered<V> {
-    /// No values, which take no memory.
+    /// No values. Takes no memory.
     pub fn new(alloc: Global) -> Self
         ensures { result ≡ [] }
     {

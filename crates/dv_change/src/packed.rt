@@ -1,4 +1,4 @@
-//! Rows in as few nodes of a tree as hold them.
+//! Rows in as few nodes of a tree as can hold them.
 
 ghost use Rattle.std.specs.Prelude.{◌≡◌, IfOk};
 ghost use Rattle.std.specs.BTreeMap.{IsFromIterResult};
@@ -12,8 +12,8 @@ use dv_value::{Document, NoMemory};
 use std::alloc::Global;
 use std::collections::BTreeMap;
 
-/// The same rows, in as few nodes as hold them: rows that were inserted in ascending order leave each node half empty. Fails when
-/// memory runs out.
+/// The same rows, in as few nodes as can hold them: rows that were inserted in ascending order leave each node half empty. Fails
+/// when memory runs out.
 pub(crate) fn packed(
     alloc: Global,
     rows: BTreeMap<Pos, Document>,
@@ -26,7 +26,7 @@ pub(crate) fn packed(
     Ok(packed)
 }
 
-/// The rows in a tree that is built of all of them at once. Fails when memory runs out.
+/// The rows in a tree that is built from all of them at once. Fails when memory runs out.
 fn built_anew(
     alloc: Global,
     rows: BTreeMap<Pos, Document>,
@@ -36,7 +36,7 @@ fn built_anew(
     rows.into_iter().collect(alloc)
 }
 
-/// That the keys of the positions are those of values, or the one that no value has. Changes nothing.
+/// Each key of the positions is the key of some value, or the one key that no value has. Changes nothing.
 fn law_exact_rows(rows: &BTreeMap<Pos, Document>)
     ensures { AllByRecursion IsExact (keys_of rows.now.entries) }
 {

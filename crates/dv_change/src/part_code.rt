@@ -1,4 +1,4 @@
-//! Codes of parts: three numbers, by which parts stand where these differ.
+//! Codes of parts: three numbers, which order two parts if they differ.
 
 ghost use Rattle.std.specs.Prelude.{◌≡◌, true};
 ghost use Rattle.dv_change.specs.Inner.PartCodes.{part_high, part_low, part_of_code, part_top};
@@ -10,13 +10,13 @@ use dv_order::Key;
 /// What a part is compared by first.
 #[derive(Clone, Copy, Debug, Drop)]
 pub(crate) struct PartCode {
-    /// Where the part stands among the kinds of parts, and its key among the classes of keys.
+    /// The rank of the part's kind, and within it of its key's class.
     pub top: u8,
-    /// Rises with the part inside its kind and class.
+    /// Never decreases as the part grows within its kind and class.
     pub high: u64,
-    /// Rises with the part where the number above is the same.
+    /// Never decreases as the part grows while `high` stays the same.
     pub low: u32,
-    /// Whether these tell the part.
+    /// Whether these numbers determine the part.
     pub is_exact: bool,
 }
 
@@ -40,7 +40,7 @@ impl Part {
         }
     }
 
-    /// The part that a code tells. Takes no memory.
+    /// The part that a code determines. Takes no memory.
     pub(crate) fn of_code(top: u8, high: u64, low: u32) -> Self
         ensures { result ≡ part_of_code top high low }
     {
@@ -54,7 +54,7 @@ impl Part {
     }
 }
 
-/// The code of the part under an ascending key.
+/// The code of the part with this ascending key.
 #[tactic(auto, using(crate::specs::Inner::PartCodes::key_class_within))]
 fn up_code(key: &Key) -> PartCode
     ensures top { result.top ≡ part_top (Up key.now) }
@@ -71,7 +71,7 @@ fn up_code(key: &Key) -> PartCode
     }
 }
 
-/// The code of the part under a descending key. Only a key without a second number is told by it.
+/// The code of the part with this descending key. It can determine only a key whose code has 0 as its second number.
 #[tactic(auto, using(crate::specs::Inner::PartCodes::key_class_within))]
 fn down_code(key: &Key) -> PartCode
     ensures top { result.top ≡ part_top (Down key.now) }

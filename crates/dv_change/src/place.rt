@@ -22,13 +22,13 @@ use std::rc::Rc;
 /// The parts of a position.
 #[derive(Debug, Drop)]
 pub(crate) enum Place {
-    /// One part, told by its code.
+    /// One part, determined by its code.
     One {
         top: u8,
         low: u32,
         high: u64,
     },
-    /// Two parts, told by their codes: that of the first has no second number, and `low` is that of the second.
+    /// Two parts, determined by their codes. The second number of the first code is 0, and `low` is that of the second code.
     Two {
         top: u8,
         next_top: u8,
@@ -36,7 +36,7 @@ pub(crate) enum Place {
         high: u64,
         next: u64,
     },
-    /// One ascending text, with zeros behind it.
+    /// One ascending text, followed by zeros.
     Short {
         len: u8,
         bytes: [u8; 22],
@@ -55,7 +55,7 @@ pub(crate) enum Place {
     Doc {
         document: Document,
     },
-    /// The code of the first part, zeros where there is none, and all parts.
+    /// The code of the first part, zeros if there is none, and all parts.
     Listed {
         top: u8,
         low: u32,
@@ -82,8 +82,8 @@ impl Place {
         })
     }
 
-    /// The place of one part, if that needs no list: an ascending text that isn't long, an ascending document, or a part that is
-    /// told by its code. Fails when memory runs out.
+    /// The place of one part, if it needs no list: an ascending text that isn't long, an ascending document, or a part that is
+    /// determined by its code. Fails when memory runs out.
     pub(crate) fn alone(alloc: Global, part: &Part) -> Result<Option<Self>, NoMemory>
         ensures parts { IfOk result (λ found. IfSome found (λ place. parts_of place ≡ part.now ∷ [])) }
         ensures valid { IfOk result (λ found. IfSome found IsValid) }
@@ -97,7 +97,8 @@ impl Place {
         }
     }
 
-    /// The place with this part in front, if both are told by their codes. Takes no memory.
+    /// The place with this part before its own one, if both are determined by their codes and the second number of the new part's
+    /// code is 0. Takes no memory.
     pub(crate) fn behind_part(&self, part: &Part) -> Option<Self>
         ensures parts { IfSome result (λ place. parts_of place ≡ part.now ∷ parts_of self.now) }
         ensures valid { IfSome result IsValid }
@@ -210,7 +211,8 @@ impl Place {
         }
     }
 
-    /// The order of the positions of two places: where both have codes these decide, if they can. Takes no memory.
+    /// The order of the positions of two places. If both store the code of their first part, and these codes differ, they decide.
+    /// Takes no memory.
     pub(crate) fn order(&self, other: &Place) -> Ordering
         requires own { IsValid self.now }
         requires other { IsValid other.now }
@@ -233,7 +235,7 @@ impl Place {
         self.order_behind(other)
     }
 
-    /// The code of the first part, zeros where there is none; `None` where the place has no code.
+    /// The code of the first part, zeros if there is none; `None` if the place stores no code.
     fn head(&self) -> Option<Head>
         requires { IsValid self.now }
         ensures { IfSome result (λ head. IsFirstCode (parts_of self.now) head.top head.high head.low) }
@@ -253,7 +255,7 @@ impl Place {
         }
     }
 
-    /// The order of the positions of two places whose first parts have one code. Takes no memory.
+    /// The order of the positions of two places whose first parts have the same code. Takes no memory.
     fn order_behind(&self, other: &Place) -> Ordering
         requires own { IsValid self.now }
         requires other { IsValid other.now }
@@ -312,7 +314,7 @@ fn unlisted(alloc: Global, parts: &[Part]) -> Result<Option<Place>, NoMemory>
     }
 }
 
-/// The ascending key of the part, lent, if it is that of a text or of a document.
+/// The ascending key of the part, borrowed, if it is the key of a text or of a document.
 fn lent_of(part: &Part) -> Option<LentKey<'_>>
     ensures { IfSome result (λ key. Up (lent_key key) ≡ part.now) }
 {
@@ -322,7 +324,7 @@ fn lent_of(part: &Part) -> Option<LentKey<'_>>
     }
 }
 
-/// The place of one part, if that is told by its code.
+/// The place of one part, if it is determined by its code.
 fn one(part: &Part) -> Option<Place>
     ensures parts { IfSome result (λ place. parts_of place ≡ part.now ∷ []) }
     ensures valid { IfSome result IsValid }
@@ -338,7 +340,7 @@ fn one(part: &Part) -> Option<Place>
     })
 }
 
-/// The place of two parts, if these are told by their codes and that of the first has no second number.
+/// The place of two parts, if they are determined by their codes and the second number of the first code is 0.
 fn two(part: &Part, next: &Part) -> Option<Place>
     ensures parts { IfSome result (λ place. parts_of place ≡ part.now ∷ next.now ∷ []) }
     ensures valid { IfSome result IsValid }
@@ -357,7 +359,7 @@ fn two(part: &Part, next: &Part) -> Option<Place>
     })
 }
 
-/// The place of an ascending text, if that is of at most 40 bytes. Fails when memory runs out.
+/// The place of an ascending text, if it has at most 40 bytes. Fails when memory runs out.
 fn of_text(alloc: Global, text: &str) -> Result<Option<Place>, NoMemory>
     ensures parts { IfOk result (λ found. IfSome found (λ place. parts_of place ≡ Up (value (string text.now)) ∷ [])) }
     ensures valid { IfOk result (λ found. IfSome found IsValid) }

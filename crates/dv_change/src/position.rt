@@ -18,16 +18,16 @@ use std::mem::size_of;
 /// One part of a position.
 #[derive(Debug, Drop)]
 pub enum Part {
-    /// Under an ascending key.
+    /// An ascending key.
     Up(Key),
-    /// Under a descending key.
+    /// A descending key.
     Down(Key),
-    /// At a number.
+    /// A number.
     At(u64),
 }
 
 impl Part {
-    /// A copy of its own. Fails with `NoMemory` when memory runs out.
+    /// A copy. Fails with `NoMemory` when memory runs out.
     pub fn try_clone(&self) -> Result<Self, NoMemory>
         ensures { IfOk result (λ copy. copy ≡ self.now) }
     {
@@ -38,7 +38,7 @@ impl Part {
         }
     }
 
-    /// That its key is that of some value, or the one that no value has. Does nothing.
+    /// Its key is the key of some value, or the one key that no value has. Does nothing.
     pub fn law_exact(&self)
         ensures { IsExactPart self.now }
     {
@@ -49,7 +49,7 @@ impl Part {
         }
     }
 
-    /// Where the part stands among the kinds of parts.
+    /// The rank of the part's kind.
     fn kind(&self) -> u8
         ensures { result ≡ kind self.now }
     {
@@ -104,14 +104,15 @@ impl Ord for Part {
     }
 }
 
-/// The place of a row among others: the first parts that differ decide, and else the one with fewer parts comes first. Copies share
-/// what they don't hold themselves.
+/// The place of a row among others: the first parts that differ decide; if none differ, the position with fewer parts comes first.
+/// Copies share all memory outside the `Pos` itself.
 #[derive(Debug)]
 pub struct Pos {
     place: Place,
 }
 
-/// Three words. One part or two of those that are told by their codes take no more, nor does an ascending text of at most 22 bytes.
+/// Three words. One part that is determined by its code takes no more, nor do two if the second number of the first code is 0, nor
+/// does an ascending text of at most 22 bytes.
 const _: () = prove!(size_of::<Pos>() == 24);
 
 impl Model for Pos {
@@ -132,7 +133,7 @@ impl Model for Pos {
     ghost invariant = { λ p. IsExact (parts_of p.place) × IsValid p.place };
 }
 
-// Written out, so that whoever drops a position calls this and knows nothing of what is in it.
+// Written out, so that code that drops a position calls this and knows nothing of what is in it.
 impl Drop for Pos {
     fn drop(self) {
         let Pos { place: _place } = self;
@@ -150,7 +151,7 @@ impl Pos {
         })
     }
 
-    /// The position of one part. Fails with `NoMemory` when memory runs out, and takes none where the part is told by its code.
+    /// The position of one part. Fails with `NoMemory` when memory runs out, and takes none if the part is determined by its code.
     pub fn of_part(alloc: Global, part: Part) -> Result<Self, NoMemory>
         ensures { IfOk result (λ pos. pos ≡ part ∷ []) }
     {
@@ -163,8 +164,8 @@ impl Pos {
         Pos::of(alloc, parts)
     }
 
-    /// The position with this part in front. Fails with `NoMemory` when memory runs out, and takes none where both are told by
-    /// codes.
+    /// The position with this part before its own. Fails with `NoMemory` when memory runs out. Takes none if it has one part, both
+    /// parts are determined by their codes, and the second number of the new part's code is 0.
     pub fn behind_part(&self, alloc: Global, part: Part) -> Result<Self, NoMemory>
         ensures { IfOk result (λ pos. pos ≡ part ∷ self.now) }
     {
@@ -177,7 +178,7 @@ impl Pos {
         self.behind(alloc, parts)
     }
 
-    /// That each key of its parts is that of some value, or the one that no value has. Does nothing.
+    /// Each key of its parts is the key of some value, or the one key that no value has. Does nothing.
     pub fn law_exact(&self)
         ensures { IsExact self.now }
     {
@@ -234,7 +235,7 @@ impl Pos {
     }
 }
 
-/// That the keys of the parts are those of values, or the one that no value has. Changes nothing.
+/// Each key of the parts is the key of some value, or the one key that no value has. Changes nothing.
 fn law_exact_parts(parts: &[Part])
     ensures { IsExact parts.now }
 {
@@ -243,7 +244,7 @@ fn law_exact_parts(parts: &[Part])
     }
 }
 
-/// Puts copies of the parts behind the others. Fails when memory runs out.
+/// Appends copies of the parts to `all`. Fails when memory runs out.
 fn push_all(all: &mut Vec<Part>, parts: &[Part]) -> Result<(), NoMemory>
     ensures { OnOk result (all.new.items ≡ all.old.items ++ parts.now) }
 {

@@ -13,7 +13,7 @@ use dv_value::{Document, NoMemory};
 use std::alloc::Global;
 use std::collections::BTreeMap;
 
-/// What a change made of rows: at which position, which row was there, and which one is there now.
+/// What a change did to rows: at which position, which row was there, and which one is there now.
 #[derive(Debug, Drop)]
 pub struct Taken {
     /// The position.
@@ -25,7 +25,7 @@ pub struct Taken {
 }
 
 impl Taken {
-    /// A copy of its own, whose rows share their memory. Fails with `NoMemory` when memory runs out.
+    /// A copy, which shares the memory of the rows. Fails with `NoMemory` when memory runs out.
     pub fn try_clone(&self) -> Result<Self, NoMemory>
         ensures { IfOk result (λ copy. copy ≡ self.now) }
     {
@@ -36,7 +36,7 @@ impl Taken {
         })
     }
 
-    /// The change, of its own, whose row shares its memory. Fails with `NoMemory` when memory runs out.
+    /// The change, which shares the memory of the row. Fails with `NoMemory` when memory runs out.
     pub fn change(&self) -> Result<Change, NoMemory>
         ensures { IfOk result (λ change. change ≡ change_told self.now) }
     {
@@ -50,7 +50,7 @@ impl Taken {
         }
     }
 
-    /// That each key of its position is that of some value, or the one that no value has. Does nothing.
+    /// Each key of its position is the key of some value, or the one key that no value has. Does nothing.
     pub fn law_exact(&self)
         ensures { IsExact self.now.pos }
     {
@@ -69,7 +69,7 @@ impl Taken {
     }
 }
 
-/// The row, where there is one, whose memory is shared.
+/// The row, if there is one; its memory is shared.
 pub(crate) fn copied(row: &Option<Document>) -> Result<Option<Document>, NoMemory>
     ensures { IfOk result (λ copy. copy ≡ row.now) }
 {
@@ -79,7 +79,7 @@ pub(crate) fn copied(row: &Option<Document>) -> Result<Option<Document>, NoMemor
     }
 }
 
-/// Takes a change into the rows, which are in the order of their positions. Fails with `NoMemory` when memory runs out.
+/// Applies a change to the rows, which are in the order of their positions. Fails with `NoMemory` when memory runs out.
 pub fn take_in(rows: &mut BTreeMap<Pos, Document>, change: Change) -> Result<Taken, NoMemory>
     requires { IsPositioned rows.old.entries }
     ensures exact { IsExactChange change }
@@ -110,7 +110,7 @@ pub fn take_in(rows: &mut BTreeMap<Pos, Document>, change: Change) -> Result<Tak
     }
 }
 
-/// The row at the position by itself, if there is one; its memory is shared. Fails with `NoMemory` when memory runs out.
+/// A list of only the row at the position, if there is one; its memory is shared. Fails with `NoMemory` when memory runs out.
 pub fn row_alone(
     alloc: Global,
     rows: &BTreeMap<Pos, Document>,

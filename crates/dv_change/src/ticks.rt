@@ -5,7 +5,7 @@ ghost use Rattle.dv_change.specs.Raised.{raised};
 
 use std::marker::Model;
 
-/// Where a count stays.
+/// The limit of a count.
 const MOST: u64 = 9_223_372_036_854_775_807;
 
 /// A count that stays at 9,223,372,036,854,775,807.
@@ -25,7 +25,7 @@ impl Model for Ticks {
 }
 
 impl Ticks {
-    /// A count of nothing.
+    /// A count of 0.
     pub fn new() -> Self
         ensures { result ≡ 0 }
     {

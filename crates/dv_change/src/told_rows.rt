@@ -1,4 +1,4 @@
-//! Rows that are kept by changes which are told with what stood where they are.
+//! The rows of operators that receive the old row with each change.
 
 ghost use Rattle.std.specs.Prelude.{◌≡◌, ◌↔◌, ◌++◌, List, [], filter, length, IfOk, IsTrue, OnErr, OnOk};
 ghost use Rattle.std.specs.BTreeMap.Range.{IsLeBy, IsLtBy, range_contains};
@@ -25,8 +25,8 @@ use std::collections::BTreeMap;
 use std::collections::btree_map::{Iter, Range, Values};
 use std::ops::Bound;
 
-/// The rows that come out of operators, and the count of the work that their changes took. Whoever tells it of a change says what
-/// stood there, so nothing of what came in is kept beside what the operators keep of it.
+/// The rows that come out of operators, and the count of the work that their changes took. Each change comes with the row that was
+/// at its position, so nothing of the input is stored except what the operators keep of it.
 #[derive(Drop)]
 pub struct ToldRows<O: Operator + Drop> {
     alloc: Global,
@@ -37,7 +37,7 @@ pub struct ToldRows<O: Operator + Drop> {
 }
 
 impl<O: Operator + Drop> ToldRows<O> {
-    /// The rows of operators to which no row came.
+    /// The rows of operators that have taken in no rows.
     pub fn new(alloc: Global, operators: Vec<O>) -> Self
         ensures operators { result.operators ≡ operators.items }
         ensures rows { result.rows.entries ≡ [] }
@@ -52,7 +52,7 @@ impl<O: Operator + Drop> ToldRows<O> {
         }
     }
 
-    /// Takes in a change of an input, and appends what changes of its rows to `told`. The lists that operators look into are
+    /// Takes in a change of an input, and appends the changes of its rows to `told`. The lists that operators read by `$lookup` are
     /// counted from 0 through all of them. Fails with `NoMemory` when memory runs out; then all is dropped, and `told` may have
     /// grown at its end.
     pub fn take(self, input: Input, taken: Taken, told: &mut Vec<Taken>) -> Result<Self, NoMemory>
@@ -70,8 +70,8 @@ impl<O: Operator + Drop> ToldRows<O> {
         Ok(live)
     }
 
-    /// Takes in its first rows, by the changes that put them in, and counts nothing. Fails with `NoMemory` when memory runs out;
-    /// then all is dropped.
+    /// Takes in its first rows, given as the changes that insert them, and counts nothing. Fails with `NoMemory` when memory runs
+    /// out; then all is dropped.
     pub fn fill(self, all: Vec<Taken>) -> Result<Self, NoMemory>
         requires { AreSound O.sound self }
         ensures sound { IfOk result (λ rows. AreSound O.sound rows) }
@@ -85,7 +85,7 @@ impl<O: Operator + Drop> ToldRows<O> {
         Ok(live)
     }
 
-    /// The same rows, with nothing counted.
+    /// The same rows, with a count of 0.
     pub fn counted_anew(self) -> Self
         ensures operators { result.operators ≡ self.operators }
         ensures rows { result.rows.entries ≡ self.rows.entries }
@@ -133,7 +133,7 @@ impl<O: Operator + Drop> ToldRows<O> {
     }
 
     /// The count of the work that its changes took: for each operator, 1 for each change that it took in and 1 for each that it
-    /// told.
+    /// returned.
     pub fn ticks(&self) -> u64
         ensures { result ≡ self.now.ticks }
     {
@@ -141,7 +141,7 @@ impl<O: Operator + Drop> ToldRows<O> {
     }
 }
 
-/// Carries out what is told, one change after the other, and puts it behind what is in `told`.
+/// Applies the changes to the rows, one after the other, and appends each to `told`.
 fn put_all(
     rows: &mut BTreeMap<Pos, Document>,
     all: Vec<Taken>,
@@ -160,7 +160,7 @@ fn put_all(
     Ok(())
 }
 
-/// Carries out what is told, one change after the other.
+/// Applies the changes to the rows, one after the other.
 fn put_each(rows: &mut BTreeMap<Pos, Document>, all: Vec<Taken>) -> Result<(), NoMemory>
     requires { IsPositioned rows.old.entries }
     ensures rows { OnOk result (rows.new.entries ≡ with_changes rows.old.entries (changes_told all.items)) }
@@ -172,7 +172,7 @@ fn put_each(rows: &mut BTreeMap<Pos, Document>, all: Vec<Taken>) -> Result<(), N
     Ok(())
 }
 
-/// Carries the change out.
+/// Applies the change to the rows.
 fn put(rows: &mut BTreeMap<Pos, Document>, change: Change) -> Result<(), NoMemory>
     requires { IsPositioned rows.old.entries }
     ensures rows { OnOk result (rows.new.entries ≡ with_change rows.old.entries change) }

@@ -1,4 +1,4 @@
-//! Stages that are kept by changes.
+//! Operators that receive changes alone.
 
 ghost use Rattle.std.specs.Prelude.{◌≡◌, ◌≤◌, ◌+◌, ◌++◌, List, [], length, OnErr, OnOk};
 ghost use Rattle.std.specs.List.{AllByRecursion};
@@ -15,18 +15,18 @@ use crate::input::Input;
 use crate::ticks::Ticks;
 use dv_value::NoMemory;
 
-/// An operator: a stage of a pipeline that keeps what it has taken in, and returns what changes of its rows.
+/// An operator: a stage of a pipeline that stores what it has taken in, and returns the changes of its result.
 pub trait Turn {
-    /// The stage that it is, with the lists that it looks into; the rows that it has taken in; and that it isn't spent.
+    /// Its stage, with the lists that this reads by `$lookup`; the rows that it has taken in; and that it isn't spent.
     ghost turning: { Turning Self };
 
-    /// How many lists it looks into.
+    /// How many lists it reads by `$lookup`.
     fn named(&self) -> usize
         ensures { result ≡ length (turning.form self.now).named };
 
-    /// Takes in a change of an input, and appends what changes of its rows to `out`. Counts 1 for the change and 1 for each that it
-    /// returns. Fails with `NoMemory` when memory runs out; then it is spent and may only be dropped, `out` may have grown at its
-    /// end, and `ticks` may have risen.
+    /// Takes in a change of an input, and appends the changes of its result to `out`. Counts 1 for the change and 1 for each that
+    /// it returns. Fails with `NoMemory` when memory runs out; then it is spent and may only be dropped, `out` may have grown at
+    /// its end, and `ticks` may have risen.
     fn change(
         &mut self,
         input: Input,
@@ -45,15 +45,15 @@ pub trait Turn {
         ensures begins { OnErr result (BeginsWith out.new.items out.old.items) }
         ensures no_fewer { OnErr result (ticks.old ≤ ticks.new) };
 
-    /// What it has taken in stands at exact positions, in their order.
+    /// The rows that it has taken in, also those of the lists, are at exact positions, in their order.
     ghost positioned: { (t : Self) → turning.sound t → IsPositioned (turning.left t) × AllByRecursion (λ rows. IsPositioned rows) (turning.form t).named };
 
-    /// So does what it makes of such rows.
+    /// So is its result for such rows.
     ghost ordered: { (t : Self) → KeepsPositions (turning.form t) };
 
-    /// Of rows at positions of one length it makes such rows.
+    /// For rows at positions of one length, its result has positions of one length.
     ghost even: { (t : Self) → KeepsOneLength (turning.form t) };
 
-    /// It makes nothing of nothing.
+    /// Its result for no rows has no rows.
     ghost empty: { (t : Self) (named : List Positioned) → (turning.form t).makes named [] ≡ [] };
 }

@@ -1,4 +1,4 @@
--- A field changed in the document that stands under a key.
+-- A field changed in the document under a key.
 use Rattle.std.proofs.Common.{◌≡◌, ℕ, Bool, true, false, List, [], ◌∷◌, ◌++◌, Option, None, Some, cond, codes, refl, ap, sym, subst, ◌∙◌, if◌then◌else◌, Result, Ok, Err, OnOk, OnErr}
 use Rattle.std.proofs.lemmas.Map.Steps.{set_value_same}
 use Rattle.std.specs.List.{AllByRecursion}
@@ -105,7 +105,7 @@ module _ (name : List ℕ) (c : FieldChange) (other : bytes_eq name (codes "_id"
   keyed-put : EqualKeysAreOne → (k : KeyTree) (es fs : Entries) → IsKeyed es → fs ≡ changed_under (lookup (is_at (key_order k)) es) k name c es → IsKeyed fs
   keyed-put one k es fs keyed is = subst IsKeyed (sym is) (keyed-by one k es keyed (lookup (is_at (key_order k)) es) refl)
 
-  -- the same where memory may be wanting
+  -- the same if memory may run out
   pub keyed-either : {X E : Type 0} → EqualKeysAreOne → (k : KeyTree) (es fs : Entries) → IsKeyed es → (r : Result X E) → OnOk r (fs ≡ changed_under (lookup (is_at (key_order k)) es) k name c es) → OnErr r (fs ≡ es) → IsKeyed fs
   keyed-either one k es fs keyed (Ok x) ok err = keyed-put one k es fs keyed ok
   keyed-either one k es fs keyed (Err e) ok err = subst IsKeyed (sym err) keyed

@@ -11,7 +11,7 @@ use Rattle.dv_order.specs.Inner.KeyLaws.{key_order_total}
 use Rattle.dv_coll.specs.Collection.{IsAscending, id_key, has_key, found, inserted}
 use Rattle.dv_coll.proofs.Places.{Follow}
 
--- a document that is found nowhere is found neither first nor behind
+-- what is found nowhere is neither the first document nor among the rest
 absent_first : (b : Bool) (d : List Field) (r : Option (List Field)) → cond b (Some d) r ≡ None → b ≡ false
 absent_first true d r e = cc
 absent_first false d r e = refl
@@ -48,7 +48,7 @@ inserted_ascending d (e ∷ ds) ascending absent =
     ascending-placed _ d e ds _ refl (absent_first _ e _ absent) ascending
     (inserted_ascending d ds ascending.1 (absent_behind _ e _ absent)) (λ before. follow-inserted (id_key e) d ds before ascending.0)
 
--- which of two documents is looked at first, where no more than one passes
+-- it doesn't matter which of two documents is tested first, if at most one passes
 found-swap : (p q : Bool) (d e : List Field) (r : Option (List Field)) → (p ≡ true → q ≡ false) → cond q (Some e) (cond p (Some d) r) ≡ cond p (Some d) (cond q (Some e) r)
 found-swap false q d e r apart = refl
 found-swap true q d e r apart = ap (λ b. cond b (Some e) (Some d)) (apart refl)

@@ -1,4 +1,4 @@
--- Where documents stand that are kept under the keys of their `_id`s.
+-- The places of documents that are kept under the keys of their `_id`s.
 use Rattle.std.proofs.Common.{◌≡◌, List, [], ◌∷◌, map, None, refl, arith}
 use Rattle.std.specs.List.{AllByRecursion}
 use Rattle.std.specs.Map.{keys_of, values_of, lookup}

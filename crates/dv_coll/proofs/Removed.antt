@@ -18,7 +18,7 @@ use Rattle.dv_coll.proofs.Places.{Entries, Follow}
 abbrev pub AreApart : KeyTree → List (List Field) → Type 0
 AreApart k ds = AllByRecursion (λ d. has_key k d ≡ false) ds
 
--- behind the document that has the key no other has it
+-- after the document that has the key, no other one has it
 pub apart_behind : (k l : KeyTree) (ds : List (List Field)) → is_eq (key_order k l) ≡ true → Follow l ds → AreApart k ds
 apart_behind k l [] here behind = tt
 apart_behind k l (d ∷ ds) here behind = (ap is_eq (key_order_total.congr k l (id_key d) ((Equal-is _).0 here) ∙ behind.0), apart_behind k l ds here behind.1)
@@ -73,11 +73,11 @@ unfolding IsStrictlySortedBy
 removed_ascending k [] h = tt
 removed_ascending k (d ∷ ds) h = ascending-kept (not (has_key k d)) d (removed k ds) (follow-removed (id_key d) k ds h.0) (removed_ascending k ds h.1)
 
--- keys beside each other are those of the same documents
+-- equal keys are those of the same documents
 same-test : (k l : KeyTree) (d : List Field) → is_eq (key_order k l) ≡ true → has_key k d ≡ has_key l d
 same-test k l d here = ap is_eq (key_order_total.congr k l (id_key d) ((Equal-is _).0 here))
 
--- two keys of one document stand beside each other
+-- two keys of one document are equal
 one-document : (k l : KeyTree) (d : List Field) → has_key k d ≡ true → has_key l d ≡ true → is_eq (key_order k l) ≡ true
 one-document k l d p q = ap is_eq (alike_right key_order_total l (id_key d) k ((Equal-is _).0 q)) ∙ p
 

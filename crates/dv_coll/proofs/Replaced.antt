@@ -1,4 +1,4 @@
--- What is left where a document is put in place of another.
+-- What a replacement of a document leaves.
 use Rattle.std.proofs.Common.{◌≡◌, Bool, true, false, List, [], ◌∷◌, map, Option, None, Some, is_some, cond, refl, ap, sym, subst, ◌∙◌, arith}
 use Rattle.std.proofs.lemmas.Map.{keys-set_value}
 use Rattle.std.specs.List.{AllByRecursion}
@@ -109,7 +109,7 @@ keys-replaced one d (e ∷ ds) h all = λ i. same-key one d e h all.0 (has_key (
 pub replaced_ascending : EqualKeysAreOne → (d : List Field) (ds : List (List Field)) → HasId d → AllByRecursion HasId ds → IsAscending ds → IsAscending (replaced d ds)
 replaced_ascending one d ds h all ascending = subst (IsStrictlySortedBy key_order) (sym (keys-replaced one d ds h all)) ascending
 
--- equal `_id`s have whatever key the other has
+-- two documents with equal `_id`s have the same keys
 same-test : (k : KeyTree) (d e : List Field) → has_key (id_key d) e ≡ true → has_key k d ≡ has_key k e
 same-test k d e here = ap is_eq (alike_right key_order_total (id_key d) (id_key e) k ((Equal-is _).0 here))
 

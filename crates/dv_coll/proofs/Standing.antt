@@ -18,7 +18,7 @@ use Rattle.dv_coll.proofs.Replaced.{found_replaced}
 abbrev IsStanding : List (List Field) → List Field → Type 0
 IsStanding ds d = found (id_key d) ds ≡ Some d
 
--- what comes later hasn't the key of what comes before it
+-- an earlier document doesn't have the key of a later one
 later-apart : (d e : List Field) → key_order (id_key d) (id_key e) ≡ Less → has_key (id_key e) d ≡ false
 later-apart d e before = ap is_eq (key_order_total.antisymm (id_key e) (id_key d) ∙ ap ordering_reverse before)
 
@@ -64,7 +64,7 @@ unfolding IsStrictlySortedBy
 stands_first ds [] stand = (tt, tt)
 stands_first ds (d ∷ those) stand = ((stand.0.0, tt), (tt, tt))
 
--- ---- after one comes in place of another
+-- ---- after one is put in place of another
 
 module _ (d : List Field) (ds : List (List Field)) where
   found-still : (e : List Field) → has_key (id_key e) d ≡ false → IsStanding ds e → IsStanding (replaced d ds) e

@@ -36,7 +36,7 @@ has_key k d = is_eq (key_order k (id_key d))
 abbrev pub found : KeyTree → List (List Field) → Option (List Field)
 found k ds = find (has_key k) ds
 
--- the documents with d inserted in front of the first that has a greater `_id`
+-- the documents with d inserted before the first that has a greater `_id`
 abbrev pub inserted : List Field → List (List Field) → List (List Field)
 inserted d [] = d ∷ []
 inserted d (e ∷ ds) = if is_lt (key_order (id_key d) (id_key e)) then d ∷ e ∷ ds else e ∷ inserted d ds

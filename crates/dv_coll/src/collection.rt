@@ -69,7 +69,7 @@ impl Collection {
         self.documents.len()
     }
 
-    /// That the documents ascend by their `_id`s, and that each begins with its own. Does nothing.
+    /// A law: the documents ascend by their `_id`s, and each begins with its own. Does nothing.
     pub fn law_ascending(&self)
         ensures ascending { IsAscending self.now }
         ensures identified { AllByRecursion HasId self.now }
@@ -111,7 +111,7 @@ impl Collection {
         Walk::of(self.documents.range((low, high)), false)
     }
 
-    /// The same from the last one on.
+    /// The same, in reverse.
     pub fn between_from_last(&self, low: Bound<Key>, high: Bound<Key>) -> Walk<'_>
         requires { IsForward (IsLeBy key_order) (IsLtBy key_order) low high }
         ensures { result ≡ reverse (filter (λ d. range_contains key_order low high (id_key d)) self.now) }
@@ -120,14 +120,14 @@ impl Collection {
     }
 
     /// Puts the document in its place. Refused with `Duplicate` if a document has an equal `_id`, and with `NoMemory` when memory
-    /// runs out, also for looking the `_id` up; then nothing is changed, and the document is dropped.
+    /// runs out, also while the `_id` is looked up; then nothing is changed, and the document is dropped.
     #[tactic(auto, using(crate::proofs::Places::places))]
     pub fn insert(&mut self, mut document: Document) -> Result<(), InsertFault>
         requires { HasId document }
         ensures ok { OnOk result (self.new ≡ inserted document self.old) }
         ensures err { OnErr result (self.new ≡ self.old) }
 
-        // An equal `_id` is never inserted, and no new one refused as a duplicate.
+        // An equal `_id` is never inserted, and no new one is refused as a duplicate.
         ensures fresh { OnOk result (found (id_key document) self.old ≡ None) }
         ensures duplicate { IsErrOf result InsertFault.Duplicate → IsSome (found (id_key document) self.old) }
     {
@@ -174,7 +174,7 @@ impl Collection {
         change_in_document(&mut self.documents, key, name, change)
     }
 
-    /// Takes out the document under the key of its `_id`, if there is one, and returns it. Takes no memory.
+    /// Removes the document under the key of its `_id`, if there is one, and returns it. Takes no memory.
     #[tactic(auto, using(crate::proofs::Places::places, crate::proofs::Removed::removals))]
     pub fn remove(&mut self, key: &Key) -> Option<Document>
         ensures document { result ≡ found key.now self.old }
@@ -183,8 +183,8 @@ impl Collection {
         self.documents.remove(key)
     }
 
-    /// Puts the document in its place, under the key of its `_id`. Refused with `Duplicate` exactly where a document has an equal
-    /// `_id`, and with `NoMemory` when memory runs out to keep it.
+    /// Puts the document in its place, under the key of its `_id`. Refused with `Duplicate` exactly if a document has an equal
+    /// `_id`, and with `NoMemory` when memory runs out for storing it.
     #[tactic(auto, using(crate::proofs::Places::places))]
     fn insert_under(&mut self, key: Key, document: Document) -> Result<(), InsertFault>
         requires identified { HasId document }
@@ -227,7 +227,7 @@ fn change_in_document(
     change_beside_first(documents, key, name, change)
 }
 
-/// The same, where the document first takes the names of the first one: a field that comes then has the name that lies there.
+/// The same, but the document first shares the names of the first one, so that a new field uses a name that is already there.
 #[tactic(auto, using(crate::proofs::Changed::put_same))]
 fn change_beside_first(
     documents: &mut BTreeMap<Key, Document>,
@@ -251,7 +251,7 @@ fn change_beside_first(
     Ok(true)
 }
 
-/// A copy of the first document, where there is one and memory for it.
+/// A copy of the first document, if there is one, and memory for the copy.
 fn first_copy(documents: &BTreeMap<Key, Document>) -> Option<Document> {
     let (_, first) = documents.first_key_value()?;
     first.try_clone().ok()
@@ -272,7 +272,7 @@ fn change_and_keep_size(
     Ok(())
 }
 
-/// Lets the document have the names of the first one: most documents of a collection have the same.
+/// Has the document share the names of the first one, since most documents of a collection have the same names.
 fn take_first_names(document: &mut Document, documents: &BTreeMap<Key, Document>)
     ensures { document.new ≡ document.old }
 {
@@ -292,7 +292,7 @@ pub fn key_of_id(document: &Document) -> Result<Key, NoMemory>
     key_of(id)
 }
 
-/// Documents of a collection that are still to come, in the order of their `_id`s.
+/// Documents of a collection that are still to be returned, in the order of their `_id`s.
 #[derive(Debug, Drop)]
 pub struct Iter<'a> {
     documents: Values<'a, Key, Document>,

@@ -29,19 +29,19 @@ pub fn inserted_document_is_found()
     ensures { (k : KeyTree) (d : List Field) (ds : List (List Field)) → found (id_key d) ds ≡ None → found k (inserted d ds) ≡ (if has_key k d then Some d else found k ds) }
 {}
 
-/// Documents ascend after one is taken out.
+/// Documents ascend after one is removed.
 #[tactic(auto, using(crate::proofs::Removed::removed_ascending))]
 pub fn removed_documents_ascend()
     ensures { (k : KeyTree) (ds : List (List Field)) → IsAscending ds → IsAscending (removed k ds) }
 {}
 
-/// Documents that begin with an `_id` still do after one is taken out.
+/// Documents that begin with an `_id` still do after one is removed.
 #[tactic(auto, using(crate::proofs::Removed::identified_removed))]
 pub fn removed_documents_begin_with_ids()
     ensures { (k : KeyTree) (ds : List (List Field)) → AllByRecursion HasId ds → AllByRecursion HasId (removed k ds) }
 {}
 
-/// Nothing is found under a key after its document is taken out, and under each other key what was found before.
+/// Nothing is found under a key after its document is removed, and under each other key what was found before.
 #[tactic(auto, using(crate::proofs::Removed::found_removed))]
 pub fn removed_document_is_not_found()
     ensures { (k l : KeyTree) (ds : List (List Field)) → found l (removed k ds) ≡ (if is_eq (key_order k l) then None else found l ds) }
@@ -82,8 +82,8 @@ pub fn what_is_found_has_the_key()
     ensures begins { (k : KeyTree) (d : List Field) (ds : List (List Field)) → AllByRecursion HasId ds → found k ds ≡ Some d → HasId d }
 {}
 
-/// Documents that ascend are at the places where they are found; so are those of them that pass a test, and the first; and so are
-/// the others after one comes in place of the first.
+/// Ascending documents are found under their `_id`s as they are; so are those of them that pass a test, and the first one; and so
+/// are the others after a document with an equal `_id` is put in place of the first.
 #[tactic(auto, using(crate::proofs::Standing::standing))]
 pub fn documents_stand_where_they_are_found()
     ensures all { (ds : List (List Field)) → IsAscending ds → AreStanding ds ds }

@@ -10,7 +10,7 @@ use dv_value::Document;
 use std::collections::btree_map::Range;
 use std::marker::Model;
 
-/// Documents of a part of a collection that are still to come, in the order of their `_id`s or from the last one on.
+/// Documents of a part of a collection that are still to be returned, in ascending or descending order of their `_id`s.
 #[derive(Debug, Drop)]
 pub struct Walk<'a> {
     documents: Range<'a, Key, Document>,
@@ -33,7 +33,7 @@ impl<'a> Model for Walk<'a> {
 }
 
 impl<'a> Walk<'a> {
-    /// The documents of a part of the entries, in their order or from the last one on.
+    /// The documents of a part of the entries, in their order or in reverse.
     pub(crate) fn of(documents: Range<'a, Key, Document>, is_backwards: bool) -> Self
         ensures { result ≡ walked is_backwards (values_of documents.entry) }
     {

@@ -1,4 +1,4 @@
--- What stands in fields is no longer than they are, and no list has more values than bytes.
+-- A value in fields is no longer than the fields, and no list has more values than bytes.
 use Rattle.std.proofs.Common.{◌≡◌, ◌≤◌, ◌+◌, ℕ, suc, Bool, true, false, if◌then◌else◌, List, [], ◌∷◌, length, decimal, length-append, Option, Some, refl, subst, arith}
 use Rattle.std.specs.Str.{bytes_eq}
 use Rattle.dv_value.specs.Names.{value_under}
@@ -7,7 +7,7 @@ use Rattle.dv_value.specs.Tree.{Tree, array, Elements, no_elements, element, Fie
 use Rattle.dv_value.specs.declared.kind.Kind.{Kind}
 use Rattle.dv_value.specs.Inner.Spelled.{elements-element}
 
--- what a field adds to a spelling
+-- what a field adds to an encoding
 abbrev pub FieldsAdd : Type 0
 FieldsAdd = (f : Field) (fields : List Field) → length (spelling (f ∷ fields)) ≡ length (payload f.1) + length f.0 + 2 + length (spelling fields)
 

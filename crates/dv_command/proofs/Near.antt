@@ -10,7 +10,7 @@ or_true : (b : Bool) → (b || true) ≡ true
 or_true true = refl
 or_true false = refl
 
--- a name that stands at a place is among the names
+-- a name at a place is among the names
 there : (fs : List Field) (place : ℕ) (f : Field) (name : List ℕ) → slice_get fs place ≡ Some f → bytes_eq name f.0 ≡ true → has_name name fs ≡ true
 there [] place f name at same = absurd cc
 there (g ∷ fs) zero f name at same = let is : g ≡ f = cc in rw (is, same) refl

@@ -1,4 +1,4 @@
--- What a command asks, with no more of its lists than it needs.
+-- What a command asks for, with no more of its lists than it needs.
 use Rattle.std.proofs.Common.{◌≡◌, ℕ, suc, Bool, true, false, ◌&&◌, nat_lt, if◌then◌else◌, List, [], ◌∷◌, length, map, take, Option, Some, None, Result, Ok, Err, refl, ap, arith}
 use Rattle.std.specs.Prelude.{codes, option_map, ⊤}
 use Rattle.std.specs.List.{list_all}
@@ -22,7 +22,7 @@ use Rattle.dv_command.specs.Lists.{CommandLists, check_only, in_either, is_alone
 use Rattle.dv_command.specs.Inner.Needed.{count_needed, front_needed, needed, needed_of, statements_needed}
 use Rattle.dv_command.specs.Tables.{write_table}
 
--- the same, and behind it the same
+-- the same result, followed by the same
 same_behind : {A B : Type 0} (first : Result A Refusal) (rest others : A → Result B Refusal) → ((x : A) → rest x ≡ others x) → (first >>= rest) ≡ (first >>= others)
 same_behind (Ok x) rest others same = same x
 same_behind (Err refusal) rest others same = refl

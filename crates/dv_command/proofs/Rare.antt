@@ -13,7 +13,7 @@ use Rattle.dv_command.specs.Forms.{filter_under, sort_of, sort_under}
 use Rattle.dv_command.specs.Namespaces.{namespace}
 use Rattle.dv_command.specs.Inner.Rare.{is_rare, has_rare}
 
--- no field has a rare name where none of the fields has one
+-- there is no value under a rare name if no field has a rare name
 absent : (name : List ℕ) (fs : List Field) → is_rare name ≡ true → has_rare fs ≡ false → value_under name fs ≡ None
 absent name [] rare none = refl
 absent name (f ∷ fs) rare none = by_tests (bytes_eq name f.0) (is_rare f.0) refl refl none (λ all. absent name fs rare all)
@@ -32,7 +32,7 @@ module _ (body : List Field) (none : has_rare body ≡ false) where
   no_number : (name : List ℕ) (default : ℕ) → is_rare name ≡ true → natural_under name default body ≡ Ok default
   no_number name default rare = ap (λ (value : Option Tree). optional default natural_in value) (absent name body rare none)
 
-  -- what a find asks that has none
+  -- what a find without such a field asks for
   pub asked_plainly : (database collection from : List ℕ) (filter : Members) → text_under (codes "find") body ≡ Ok collection → namespace database collection ≡ Ok from → filter_under (codes "filter") body ≡ Ok filter
       → find_in database body ≡ Ok (record { namespace = from; filter = filter; sort = []; skip = 0; limit = 0; batch_size = first_batch_size; single_batch = false })
   asked_plainly database collection from filter named placed asked =

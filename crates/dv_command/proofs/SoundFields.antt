@@ -103,7 +103,7 @@ wider : (n : ℤ) → IsValue (int32 n) → IsValue (int64 n)
 wider (pos n) fits = omega arith
 wider (negsuc n) fits = omega arith
 
--- an integer of either width is told with the greater one
+-- an integer of either width is valid with the greater one
 integer_valid : (v : Tree) (n : ℤ) → IsValue v → integer_in v ≡ Ok n → IsValue (int64 n)
 integer_valid (int32 m) n valid is = let same : m ≡ n = cc in subst (λ (k : ℤ). IsValue (int64 k)) same (wider m valid)
 integer_valid (int64 m) n valid is = let same : m ≡ n = cc in subst (λ (k : ℤ). IsValue (int64 k)) same valid

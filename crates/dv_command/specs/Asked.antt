@@ -123,7 +123,7 @@ statement_limit = 100000
 abbrev pub check_count : {A : Type 0} → List A → Result ⊤ Refusal
 check_count statements = if nat_lt statement_limit (length statements) then Err LimitReached else Ok tt
 
--- ---- how each command is parsed: its database, its fields in written order, lists beside the body, required fields, their meaning
+-- ---- how each command is parsed: database, fields in written order, lists next to the body, required fields, their meaning
 
 abbrev pub hello_of : List Field → Result Asked Refusal
 hello_of body = database body >>= λ _. Ok hello

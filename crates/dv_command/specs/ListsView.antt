@@ -1,4 +1,4 @@
--- What a list of documents beside a body represents in memory.
+-- What a list of documents next to a body represents in memory.
 use Rattle.std.specs.Prelude.{ℕ, List}
 use Rattle.dv_value.specs.Tree.{Field}
 use Rattle.dv_command.specs.declared.command.DocumentList.{DocumentList}

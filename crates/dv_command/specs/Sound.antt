@@ -1,5 +1,5 @@
--- What holds of a parsed command if the fields of its body and of the lists beside it are valid: its documents, names and pipelines are
--- valid too.
+-- What holds of a parsed command if the fields of its body and of the lists next to it are valid: its documents, names and
+-- pipelines are valid too.
 use Rattle.std.specs.Prelude.{◌≡◌, ◌≤◌, ℕ, List, length, Ok}
 use Rattle.std.specs.Str.{IsUtf8}
 use Rattle.dv_value.specs.Spelling.{AreElements}

@@ -1,4 +1,4 @@
-//! What commands ask.
+//! What commands ask for.
 
 ghost use Rattle.std.specs.Prelude.{◌≤◌, length};
 ghost use Rattle.dv_command.specs.Asked.{statement_limit};
@@ -10,7 +10,7 @@ use dv_path::SortSpec;
 use dv_pipe::Pipeline;
 use dv_value::{List, Str};
 
-/// What a command asks.
+/// What a command asks for.
 #[derive(Drop)]
 pub enum Asked<'a> {
     Hello,
@@ -28,8 +28,8 @@ pub enum Asked<'a> {
     ViewStats(ViewStats),
 }
 
-/// What entries say is inserted, updated or deleted in a namespace, in order. An entry of an insert is the document; one of
-/// an update is read by `updating_of` when its turn comes, and one of a delete by `deletion_of`.
+/// Entries of an insert, update or delete in a namespace, in order. An entry of an insert is the document; one of an update is read
+/// by `updating_of` when it is carried out, and one of a delete by `deletion_of`.
 #[derive(Drop)]
 pub struct Write<'a> {
     pub kind: WriteKind,
@@ -37,7 +37,7 @@ pub struct Write<'a> {
     pub entries: Documents<'a>,
     /// Whether the first entry that is refused ends the command.
     pub ordered: bool,
-    /// As many as a command may have.
+    /// No more than a command may have.
     pub ghost few: { length entries ≤ statement_limit },
 }
 
@@ -59,36 +59,36 @@ pub struct Find {
     pub skip: u64,
     /// How many documents there are at most; 0 is no limit.
     pub limit: u64,
-    /// How many documents come in the first batch at most.
+    /// How many documents the first batch has at most.
     pub batch_size: u64,
     /// Whether the first batch is the only one.
     pub single_batch: bool,
 }
 
-/// The rows that a pipeline makes of a namespace's.
+/// The rows of a pipeline over a namespace.
 #[derive(Drop)]
 pub struct Aggregate {
     pub namespace: String,
     pub pipeline: Pipeline,
-    /// How many rows come in the first batch at most.
+    /// How many rows the first batch has at most.
     pub batch_size: u64,
 }
 
 /// The next rows of a cursor over a namespace.
 #[derive(Drop)]
 pub struct GetMore {
-    /// The cursor's, if there is such a cursor.
+    /// The id of the cursor, which may not exist.
     pub id: i64,
     pub namespace: String,
-    /// How many rows come at most; 0 is as many as a reply may hold.
+    /// How many rows are returned at most; 0 means as many as a reply can hold.
     pub batch_size: u64,
 }
 
-/// Cursors over a namespace go.
+/// A killCursors: cursors over a namespace are closed.
 #[derive(Drop)]
 pub struct KillCursors {
     pub namespace: String,
-    /// Those of the cursors, if there are such cursors.
+    /// The ids of the cursors, which may not exist.
     pub ids: Vec<i64>,
 }
 
@@ -100,7 +100,7 @@ pub struct Create {
     pub view: Option<ViewOn>,
 }
 
-/// What a view shows: the rows that a pipeline makes of another namespace's.
+/// What a view shows: the rows of a pipeline over another namespace.
 #[derive(Drop)]
 pub struct ViewOn {
     pub source: String,
@@ -129,7 +129,7 @@ pub struct IndexAsked {
     pub unique: bool,
 }
 
-/// An index of a namespace goes, or all but the one on `_id`.
+/// A dropIndexes: an index of a namespace, or all except the one on `_id`, is dropped.
 #[derive(Drop)]
 pub struct DropIndexes {
     pub namespace: String,
@@ -137,19 +137,19 @@ pub struct DropIndexes {
     pub index: String,
 }
 
-/// How a find is answered.
+/// How a find reads documents.
 #[derive(Drop)]
 pub struct Explain {
     pub find: Find,
 }
 
-/// The state of the view of this namespace is asked for.
+/// The state of the view of this namespace.
 #[derive(Drop)]
 pub struct ViewStats {
     pub namespace: String,
 }
 
-/// The fields of a command that asks for a view.
+/// The fields of a create that make it a view.
 #[derive(Clone, Copy)]
 pub(crate) struct ViewFields<'a> {
     /// The name of a collection of the same database.

@@ -1,4 +1,4 @@
-//! Commands of what stands under namespaces: collections, views and indexes.
+//! Commands for what is under namespaces: collections, views and indexes.
 
 ghost use Rattle.std.specs.Prelude.{map};
 ghost use Rattle.std.specs.Option.{option_map};
@@ -26,7 +26,7 @@ use dv_refusal::Refusal;
 use dv_value::Document;
 use std::alloc::Global;
 
-/// The fields of what makes a collection or a view.
+/// The fields of a create.
 const CREATE_RULES: [Rule; 4] = [
     DATABASE,
     Rule("create", FieldKind::Text),
@@ -37,21 +37,21 @@ const CREATE_RULES: [Rule; 4] = [
 /// The fields of a drop.
 const DROP_RULES: [Rule; 2] = [DATABASE, Rule("drop", FieldKind::Text)];
 
-/// The fields of what makes indexes.
+/// The fields of a createIndexes.
 const CREATE_INDEXES_RULES: [Rule; 3] = [
     DATABASE,
     Rule("createIndexes", FieldKind::Text),
     Rule("indexes", FieldKind::Documents),
 ];
 
-/// The fields of what takes indexes out.
+/// The fields of a dropIndexes.
 const DROP_INDEXES_RULES: [Rule; 3] = [
     DATABASE,
     Rule("dropIndexes", FieldKind::Text),
     Rule("index", FieldKind::Text),
 ];
 
-/// The fields of what asks how a view stands.
+/// The fields of a viewStats.
 const VIEW_STATS_RULES: [Rule; 2] = [DATABASE, Rule("viewStats", FieldKind::Text)];
 
 /// What a `create` asks for. Refused as `parse` says.
@@ -70,8 +70,8 @@ pub(crate) fn create_of<'a>(
     Ok(Asked::Create(Create { namespace, view }))
 }
 
-/// The fields of a view that a body asks for; `None` where it has neither. Refused with `FailedToParse` where it has only
-/// one of them, and with `TypeMismatch` where one has another type than it has to.
+/// The fields of a view that a body has; `None` if it has neither. Refused with `FailedToParse` if it has only one of them, and
+/// with `TypeMismatch` if one has a wrong type.
 fn view_fields(body: &Document) -> Result<Option<ViewFields<'_>>, Refusal>
     ensures { Returns (option_map view_fields_seen) (asking.view_fields body.now) result }
 {
@@ -85,7 +85,7 @@ fn view_fields(body: &Document) -> Result<Option<ViewFields<'_>>, Refusal>
     }
 }
 
-/// The view of a collection of the database by the fields that ask for one.
+/// The view of a collection of the database that these fields ask for.
 fn view_of(
     alloc: Global,
     database: &str,
@@ -131,7 +131,7 @@ pub(crate) fn create_indexes_of<'a>(
     Ok(Asked::CreateIndexes(CreateIndexes { namespace, indexes }))
 }
 
-/// The indexes that entries ask, or the first refusal of one.
+/// The indexes that entries ask for, or the first refusal of one.
 fn indexes_of(alloc: Global, entries: Documents<'_>) -> Result<Vec<IndexAsked>, Refusal>
     ensures { UnlessWanting (λ indexes. map index_seen indexes.items) (each entered.index_asked entries.entry) result }
 {

@@ -1,4 +1,4 @@
-//! The database of a command, whose fields are looked at.
+//! The database of a command, whose fields are checked.
 
 ghost use Rattle.std.specs.Prelude.{map};
 ghost use Rattle.dv_command.specs.Asked as asking;
@@ -13,10 +13,10 @@ use crate::rules::{FieldKind, FieldPlace, Rule, check_fields};
 use dv_refusal::Refusal;
 use dv_value::Document;
 
-/// The field of a command's database, which is looked at by itself.
+/// The field of a command's database, which is checked separately.
 pub(crate) const DATABASE: Rule = Rule("$db", FieldKind::Anything);
 
-/// The database of a command, whose fields are looked at.
+/// The database of a command, whose fields are checked.
 pub(crate) fn looked_database<'a>(rules: &[Rule], body: &'a Document) -> Result<&'a str, Refusal>
     ensures { Returns (λ name. name.now) (asking.looked_database (map rule_seen rules.now) body.now) result }
 {
@@ -25,7 +25,7 @@ pub(crate) fn looked_database<'a>(rules: &[Rule], body: &'a Document) -> Result<
     Ok(database)
 }
 
-/// The database of a command that has no list beside its body, whose fields and the lists beside it are looked at.
+/// The database of a command that may have no list next to its body. Its fields, and the lists next to it, are checked.
 pub(crate) fn checked_database<'a>(
     rules: &[Rule],
     body: &'a Document,

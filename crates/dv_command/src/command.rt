@@ -1,4 +1,4 @@
-//! Commands as messages bring them.
+//! Commands as they are in messages.
 
 ghost use Rattle.std.specs.Prelude.{◌≡◌, map};
 ghost use Rattle.std.specs.List.{list_all};
@@ -11,10 +11,10 @@ use dv_value::{BsonFault, Document, Str};
 use std::alloc::Global;
 use std::marker::Model;
 
-/// A command as a message brings it.
+/// A command as it is in a message.
 #[derive(Debug, Drop)]
 pub enum Command {
-    /// The message's body, and the lists of documents beside it.
+    /// The message's body, and the lists of documents next to it.
     Sections {
         body: Document,
         lists: DocumentLists,
@@ -23,7 +23,7 @@ pub enum Command {
     Invalid(BsonFault),
 }
 
-/// Documents beside a body, under a name of their own.
+/// Documents next to a body, under a name of their own.
 #[derive(Debug, Drop)]
 pub struct DocumentList {
     pub name: Str,
@@ -84,7 +84,7 @@ impl DocumentLists {
     }
 }
 
-/// The documents of the first list of a name; `None` where there is no such list.
+/// The documents of the first list of a name; `None` if there is no such list.
 fn list_under<'a>(lists: &'a [DocumentList], name: &str) -> Option<&'a [Document]>
     ensures { option_map (λ documents. documents.now) result ≡ defined.list_under name.now (map list_seen lists.now) }
 {

@@ -1,4 +1,4 @@
-//! The documents of a command's array, or of a list beside its body.
+//! The documents of a command's array, or of a list next to its body.
 
 ghost use Rattle.std.specs.Prelude.{◌≡◌, length};
 ghost use Rattle.std.specs.Iterator.{YieldsFirstRef, item_count};
@@ -12,13 +12,13 @@ use dv_refusal::Refusal;
 use dv_value::{Document, List, Value};
 use std::marker::Model;
 
-/// Documents that are still to come, in order: those of an array, or those of a list beside a body.
+/// Documents that are still to be returned, in order: those of an array, or those of a list next to a body.
 #[derive(Debug, Drop)]
 pub struct Documents<'a> {
     source: DocumentPlace<'a>,
 }
 
-/// Where documents stand.
+/// Where documents are.
 #[derive(Clone, Copy, Debug)]
 enum DocumentPlace<'a> {
     Array(&'a [Value]),
@@ -56,7 +56,7 @@ impl<'a> Documents<'a> {
         }
     }
 
-    /// The documents of a list beside a body.
+    /// The documents of a list next to a body.
     pub fn beside(documents: &'a [Document]) -> Self
         ensures { result ≡ documents.now }
     {

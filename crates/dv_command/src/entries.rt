@@ -34,7 +34,7 @@ const UPDATING_RULES: [Rule; 4] = [
     Rule("upsert", FieldKind::OnlyFalse),
 ];
 
-/// The fields of an entry of what makes indexes.
+/// The fields of an entry of a createIndexes.
 const INDEX_RULES: [Rule; 4] = [
     Rule("key", FieldKind::Single),
     Rule("name", FieldKind::Text),
@@ -42,15 +42,15 @@ const INDEX_RULES: [Rule; 4] = [
     Rule("unique", FieldKind::Boolean),
 ];
 
-/// What an entry of a delete asks: the documents that match go.
+/// What an entry of a delete asks for: the documents that match are removed.
 #[derive(Drop)]
 pub struct Deletion {
     pub filter: Filter,
-    /// Whether only the first document goes that matches.
+    /// Whether only the first document that matches is removed.
     pub only_first: bool,
 }
 
-/// What an entry of a delete asks, or the first refusal: for its fields in written order, for those that are missing
+/// What an entry of a delete asks for, or the first refusal: for its fields in written order, for those that are missing
 /// (`FailedToParse`), and for its filter (`BadValue`). It may be refused with `WantOfMemory` in place of any of these.
 pub fn deletion_of(alloc: Global, entry: &Document) -> Result<Deletion, Refusal>
     ensures { UnlessWanting deletion_seen (entries.deletion_of entry.now) result }
@@ -62,16 +62,16 @@ pub fn deletion_of(alloc: Global, entry: &Document) -> Result<Deletion, Refusal>
     Ok(Deletion { filter, only_first })
 }
 
-/// What an entry of an update asks: the documents that match are updated.
+/// What an entry of an update asks for: the documents that match are updated.
 #[derive(Drop)]
 pub struct Updating {
     pub filter: Filter,
     pub update: Update,
-    /// Whether all documents are updated that match, and not only the first.
+    /// Whether all documents that match are updated, and not only the first.
     pub multi: bool,
 }
 
-/// What an entry of an update asks, or the first refusal: for its fields in written order, for those that are missing
+/// What an entry of an update asks for, or the first refusal: for its fields in written order, for those that are missing
 /// (`FailedToParse`), for a replacement of many (`FailedToParse`), for its filter (`BadValue`), and for its update. It may be
 /// refused with `WantOfMemory` in place of any of these.
 pub fn updating_of(alloc: Global, entry: &Document) -> Result<Updating, Refusal>
@@ -105,9 +105,9 @@ fn check_multi(multi: bool, update: &Document) -> Result<(), Refusal>
 /// How many bytes the name of an index may have.
 const LONGEST_INDEX_NAME: usize = 120;
 
-/// The index that an entry asks, or the first refusal: for its fields in the order in which they stand (`FailedToParse`
-/// for a key with more than one field), for those that are missing (`FailedToParse`), for its key and its name
-/// (`BadValue`). It may be refused with `WantOfMemory` in place of any of these.
+/// The index that an entry asks for, or the first refusal: for its fields in written order (`FailedToParse` for a key with more
+/// than one field), for those that are missing (`FailedToParse`), for its key and its name (`BadValue`). It may be refused with
+/// `WantOfMemory` in place of any of these.
 pub(crate) fn index_of(alloc: Global, entry: &Document) -> Result<IndexAsked, Refusal>
     ensures { UnlessWanting index_seen (entries.index_asked entry.now) result }
 {
@@ -124,8 +124,8 @@ pub(crate) fn index_of(alloc: Global, entry: &Document) -> Result<IndexAsked, Re
     })
 }
 
-/// The path of a key's first field. Refused with `BadValue` where the key has no field, or its first one's name is no path
-/// or its value no direction; and with `WantOfMemory`.
+/// The path of a key's first field. Refused with `BadValue` if the key has no field, or if the first field's name is no path or its
+/// value no direction; and with `WantOfMemory`.
 fn key_path(alloc: Global, key: &Document) -> Result<Path, Refusal>
     ensures { UnlessWanting (λ path. path) (entries.key_path key.now) result }
 {
@@ -135,7 +135,7 @@ fn key_path(alloc: Global, key: &Document) -> Result<Path, Refusal>
     }
 }
 
-/// The path that a text is. Refused with `BadValue` where it is none, and with `WantOfMemory`.
+/// The path that a text is. Refused with `BadValue` if it is none, and with `WantOfMemory`.
 fn path_of(alloc: Global, text: &str) -> Result<Path, Refusal>
     ensures { UnlessWanting (λ path. path) (or_bad_value (paths.path_of text.now)) result }
 {
@@ -164,7 +164,7 @@ fn is_unit(number: i64) -> bool
     matches!(number, 1 | -1)
 }
 
-/// Refuses the name of an index with `BadValue` where it is over 120 bytes.
+/// Refuses the name of an index with `BadValue` if it is over 120 bytes.
 fn check_index_name(name: &str) -> Result<(), Refusal>
     ensures { result ≡ entries.check_index_name name.now }
 {

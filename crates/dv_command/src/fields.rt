@@ -17,10 +17,10 @@ use dv_refusal::Refusal;
 use dv_value::{Document, List, Value};
 use std::alloc::Global;
 
-/// Where a command's own field stands, and that of an entry on which all depends.
+/// The usual place of a command's own field, and of the main field of an entry.
 pub(crate) const FIRST: usize = 0;
 
-/// Where mostly stands what a command or an entry says beside its first field.
+/// The usual place of what a command or an entry says besides its first field.
 pub(crate) const SECOND: usize = 1;
 
 /// The first name of fields, which in a body is the command; empty if there is none.
@@ -33,8 +33,8 @@ pub fn first_name(fields: &Document) -> &str
     }
 }
 
-/// The value under a name, where there is one. The field is looked at first that stands at a place where it mostly is: so it is
-/// found without a search.
+/// The value under a name, if there is one. The field at `place`, where it mostly is, is checked first: so mostly it is found
+/// without a search.
 pub(crate) fn value_near<'a>(fields: &'a Document, place: usize, name: &str) -> Option<&'a Value>
     ensures { option_map (λ value. tree value.now) result ≡ value_under name.now fields.now }
 {
@@ -46,7 +46,7 @@ pub(crate) fn value_near<'a>(fields: &'a Document, place: usize, name: &str) -> 
     }
 }
 
-/// The value under a name, which mostly stands at a place. Refused with `FailedToParse` where there is no field of the name.
+/// The value under a name, which is mostly at a place. Refused with `FailedToParse` if there is no field of the name.
 fn required<'a>(fields: &'a Document, place: usize, name: &str) -> Result<&'a Value, Refusal>
     ensures { MatchResult result (λ value. value_under name.now fields.now ≡ Some (tree value.now))
         (λ refusal. (value_under name.now fields.now ≡ None) × (refusal ≡ FailedToParse)) }

@@ -1,4 +1,4 @@
-//! Lists of documents beside a body.
+//! Lists of documents next to a body.
 
 ghost use Rattle.std.specs.Prelude.{◌≡◌};
 ghost use Rattle.dv_command.specs.Lists as defined;
@@ -11,7 +11,7 @@ use crate::values::documents_of;
 use dv_refusal::Refusal;
 use dv_value::Document;
 
-/// Looks at the lists beside the body of a command that has none: one is refused with `FailedToParse`.
+/// Checks the lists next to the body of a command that may have none: a list is refused with `FailedToParse`.
 pub(crate) fn check_alone(lists: &DocumentLists) -> Result<(), Refusal>
     ensures { result ≡ defined.check_alone (defined.is_alone lists.now) }
 {
@@ -22,7 +22,7 @@ pub(crate) fn check_alone(lists: &DocumentLists) -> Result<(), Refusal>
     }
 }
 
-/// Looks at the lists beside the body of a command that has one of this name: another one is refused with
+/// Checks the lists next to the body of a command that may have one of this name: a list with another name is refused with
 /// `FailedToParse`.
 pub(crate) fn check_only(name: &str, lists: &DocumentLists) -> Result<(), Refusal>
     ensures { result ≡ defined.check_only name.now lists.now }
@@ -34,9 +34,8 @@ pub(crate) fn check_only(name: &str, lists: &DocumentLists) -> Result<(), Refusa
     }
 }
 
-/// The documents of a list that has to stand in the body under this name or beside it. Refused with `FailedToParse` where
-/// it stands in neither or in both, and with `TypeMismatch` where another value than an array of documents stands in the
-/// body.
+/// The documents of a list that has to be in the body under this name, or next to it. Refused with `FailedToParse` if it is in
+/// neither or in both places, and with `TypeMismatch` if the body has another value than an array of documents.
 pub(crate) fn documents_under<'a>(
     name: &str,
     body: &'a Document,

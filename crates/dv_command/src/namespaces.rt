@@ -55,7 +55,7 @@ pub fn namespace(alloc: Global, database: &str, collection: &str) -> Result<Stri
     }
 }
 
-/// The two names joined by a dot, which have so many bytes then. Fails when memory runs out.
+/// The two names joined by a dot, which then have `len` bytes. Fails when memory runs out.
 fn dotted(alloc: Global, len: usize, database: &str, collection: &str) -> Result<String, NoMemory>
     ensures { IfOk result (λ text. string_bytes text ≡ names.dotted database.now collection.now) }
 {

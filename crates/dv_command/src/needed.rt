@@ -1,4 +1,4 @@
-//! What of the lists beside its body a command needs.
+//! How much of the lists next to its body a command needs.
 
 ghost use Rattle.std.specs.Prelude.{◌≡◌};
 ghost use Rattle.dv_command.specs.Inner.Needed as defined;
@@ -6,9 +6,9 @@ ghost use Rattle.dv_command.specs.Inner.Needed as defined;
 use crate::parsing::{CommandName, command_named};
 use crate::statements::STATEMENT_LIMIT;
 
-/// How many documents of a list of this name are needed of those beside the body of the command of that name: what the others
-/// are changes nothing of what it asks. Of the list of its statements as many as it may have, and one more, by which it is
-/// refused; of any other none.
+/// How many documents the command named `command` needs of the list named `list` next to its body; the other documents don't change
+/// what it asks for. Of the list of its statements it needs as many as it may have, and one more, for which it is refused; of any
+/// other list it needs none.
 #[tactic(auto, unfolding(crate::specs::Inner::Needed::needed_of))]
 pub fn documents_needed(command: &str, list: &str) -> usize
     ensures { result ≡ defined.needed_of command.now list.now }

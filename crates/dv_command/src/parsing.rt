@@ -1,4 +1,4 @@
-//! Commands looked through: what they ask, or why they are refused.
+//! Parsing commands: what they ask for, or why they are refused.
 
 ghost use Rattle.std.specs.Prelude.{◌≡◌};
 ghost use Rattle.dv_command.specs.Asked as asking;
@@ -20,7 +20,7 @@ use std::alloc::Global;
 /// The name of a command.
 #[derive(Clone, Copy)]
 pub(crate) enum CommandName {
-    /// Of a write, whose statements may stand in a list beside its body.
+    /// Of a write, whose statements may be in a list next to its body.
     Writing(WriteKind),
     /// Of another command, which has no list of statements.
     Alone(AloneName),
@@ -43,12 +43,12 @@ pub(crate) enum AloneName {
     ViewStats,
 }
 
-/// What a command asks, or the first refusal: of a document that can't be read (`InvalidBson`), of a command that doesn't exist
-/// (`CommandNotFound`), for its database, for its other fields in written order, for those that are missing, for its collection's
-/// name, with `LimitReached` for over 100,000 statements, and for its filter and its sort (`BadValue`), the name that its view
-/// reads (`BadValue`), its pipeline (`FailedToParse`, `BadValue` for a filter in it, `ConflictingUpdateOperators`, `LimitReached`
-/// for over 16 stages), and its indexes. A list of statements may be in the body or beside it; one in both, or beside a body whose
-/// command has no such list, is refused with `FailedToParse`. It may be refused with `WantOfMemory` in place of any of these.
+/// What a command asks for, or the first refusal: for a document that can't be read (`InvalidBson`), for a command that doesn't
+/// exist (`CommandNotFound`), for its database, for its other fields in written order, for a list of statements that is both in the
+/// body and next to it, or next to a body whose command has no such list (`FailedToParse`), for fields that are missing, for its
+/// collection's name, with `LimitReached` for over 100,000 statements, and for its filter and its sort (`BadValue`), the name that
+/// its view reads (`BadValue`), its pipeline (`FailedToParse`, `BadValue` for a filter in it, `ConflictingUpdateOperators`,
+/// `LimitReached` for over 16 stages), and its indexes. It may be refused with `WantOfMemory` in place of any of these.
 pub fn parse(alloc: Global, command: &Command) -> Result<Asked<'_>, Refusal>
     ensures { UnlessWanting asked_seen (asking.asked_by command.now) result }
 {
@@ -58,7 +58,7 @@ pub fn parse(alloc: Global, command: &Command) -> Result<Asked<'_>, Refusal>
     }
 }
 
-/// What the command of this name asks. Refused with `CommandNotFound` where there is no such command.
+/// What the command of this name asks for. Refused with `CommandNotFound` if there is no such command.
 fn asked_under<'a>(
     alloc: Global,
     name: &str,
@@ -74,7 +74,7 @@ fn asked_under<'a>(
     }
 }
 
-/// What the command of this name asks, which has no list of statements.
+/// What the command of this name, which has no list of statements, asks for.
 fn asked_alone<'a>(
     alloc: Global,
     name: AloneName,
@@ -115,7 +115,7 @@ fn ping_of(body: &Document) -> Result<Asked<'_>, Refusal>
     Ok(Asked::Ping)
 }
 
-/// The name of a command that a text is; `None` where there is no such command.
+/// The command that a text names; `None` if there is no such command.
 pub(crate) fn command_named(text: &str) -> Option<CommandName>
     ensures { result ≡ asking.command_named text.now }
 {

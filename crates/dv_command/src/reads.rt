@@ -1,4 +1,4 @@
-//! Commands that answer rows, or how they are found, and those of cursors.
+//! Commands that return rows, or how rows are found, and commands for cursors.
 
 ghost use Rattle.std.specs.Prelude.{◌≡◌};
 ghost use Rattle.dv_command.specs.Asked as asking;
@@ -21,7 +21,7 @@ use dv_refusal::Refusal;
 use dv_value::Document;
 use std::alloc::Global;
 
-/// The fields of a find; the first is not one of a find that is explained.
+/// The fields of a find; a find in an explain doesn't have the first one.
 const FIND_RULES: [Rule; 9] = [
     DATABASE,
     Rule("find", FieldKind::Text),
@@ -36,7 +36,7 @@ const FIND_RULES: [Rule; 9] = [
 
 const BATCH_SIZE: Rule = Rule("batchSize", FieldKind::Natural);
 
-/// The fields of an explain; what is explained is looked at by itself.
+/// The fields of an explain; the command that it explains is checked separately.
 const EXPLAIN_RULES: [Rule; 3] = [
     DATABASE,
     Rule("explain", FieldKind::Anything),
@@ -52,7 +52,7 @@ const AGGREGATE_RULES: [Rule; 5] = [
     Rule("allowDiskUse", FieldKind::Anything),
 ];
 
-/// The fields of what takes the next rows of a cursor.
+/// The fields of a getMore.
 const GET_MORE_RULES: [Rule; 4] = [
     DATABASE,
     Rule("getMore", FieldKind::Integer),
@@ -60,14 +60,14 @@ const GET_MORE_RULES: [Rule; 4] = [
     BATCH_SIZE,
 ];
 
-/// The fields of what ends cursors.
+/// The fields of a killCursors.
 const KILL_CURSORS_RULES: [Rule; 3] = [
     DATABASE,
     Rule("killCursors", FieldKind::Text),
     Rule("cursors", FieldKind::Integers),
 ];
 
-/// How many rows come in a first batch where none says so.
+/// How many rows a first batch has at most if the command doesn't say.
 const FIRST_BATCH_SIZE: u64 = 101;
 
 /// What a `find` asks for. Refused as `parse` says.
@@ -82,14 +82,14 @@ pub(crate) fn find_of<'a>(
     Ok(Asked::Find(find_in(alloc, database, body)?))
 }
 
-/// What a find of a database asks, whose fields were looked at.
+/// What a find in a database, whose fields were checked, asks for.
 fn find_in(alloc: Global, database: &str, body: &Document) -> Result<Find, Refusal>
     ensures { UnlessWanting find_seen (asking.find_in database.now body.now) result }
 {
     let collection = text_under(body, "find")?;
     let namespace = namespace(alloc, database, collection)?;
     let filter = filter_under(alloc, body, "filter")?;
-    // Most finds ask no more, and aren't looked through for each of the others.
+    // Most finds have no other fields, and aren't searched for each of them.
     if !has_rare(body) {
         return Ok(Find {
             namespace,
@@ -158,7 +158,7 @@ pub(crate) fn aggregate_of<'a>(
     }))
 }
 
-/// How many rows come in the first batch, by the field `cursor`, where it is there and says so.
+/// How many rows the first batch has at most, by the field `cursor`, if it is there and says so.
 fn cursor_size(alloc: Global, body: &Document) -> Result<u64, Refusal>
     ensures { result ≡ asking.cursor_size body.now }
 {
@@ -215,15 +215,15 @@ pub(crate) fn explain_of<'a>(
 {
     let inside = explained(body)?;
     let database = database(body)?;
-    // The command's own field stands first, so what is in it is looked at before the other fields.
+    // The command's own field is the first one, so what is in it is checked before the other fields.
     check_fields(FieldPlace::Command, &FIND_RULES[1..], inside)?;
     checked_database(&EXPLAIN_RULES, body, lists)?;
     let find = find_in(alloc, database, inside)?;
     Ok(Asked::Explain(Explain { find }))
 }
 
-/// The document that is explained. Refused with `CommandNotFound` where another value stands there, or a document that
-/// doesn't begin with `find`.
+/// The document that is explained. Refused with `CommandNotFound` if there is another value, or a document that doesn't begin with
+/// `find`.
 fn explained(body: &Document) -> Result<&Document, Refusal>
     ensures { Returns (λ inside. inside.now) (asking.explained_command body.now) result }
 {

@@ -23,7 +23,7 @@ pub fn reply_of(mut fields: Document) -> Result<Document, NoMemory>
     Ok(fields)
 }
 
-/// The reply to a greeting: what this server takes at most, and the versions of the wire that it speaks. Fails with `NoMemory` when
+/// The reply to a hello: the size limits of this server, and the protocol versions that it supports. Fails with `NoMemory` when
 /// memory runs out.
 pub fn hello_reply(alloc: Global) -> Result<Document, NoMemory>
     ensures { IfOk result (λ reply. reply ≡ replies.hello_reply) }
@@ -66,8 +66,8 @@ pub fn write_error(alloc: Global, place: usize, refusal: &Refusal) -> Result<Doc
     Ok(error)
 }
 
-/// The error of the statement at a place, counted from 0 and below 2^31, that ran out of memory after so many of its changes. Fails
-/// with `NoMemory` when memory runs out.
+/// The error of the statement at a place, counted from 0 and below 2^31, that ran out of memory after this many of its changes.
+/// Fails with `NoMemory` when memory runs out.
 pub fn cut_error(alloc: Global, place: usize, changes: usize) -> Result<Document, NoMemory>
     requires { place < 2 ^ 31 }
     ensures { IfOk result (λ error. error ≡ replies.cut_error place changes) }
@@ -123,7 +123,7 @@ pub fn update_reply(
     reply_of(fields)
 }
 
-/// Adds the errors of statements, where there are any. Fails when memory runs out.
+/// Adds the errors of statements, if there are any. Fails when memory runs out.
 #[tactic(auto, using(crate::proofs::Errors::no_errors, crate::proofs::Errors::some_errors))]
 fn add_errors(fields: &mut Document, errors: Vec<Value>) -> Result<(), NoMemory>
     requires { has_name (codes "writeErrors") fields.old ≡ false }
@@ -135,7 +135,7 @@ fn add_errors(fields: &mut Document, errors: Vec<Value>) -> Result<(), NoMemory>
     Ok(())
 }
 
-/// The reply to a drop: the namespace of what went. Fails with `NoMemory` when memory runs out.
+/// The reply to a drop: the namespace that was dropped. Fails with `NoMemory` when memory runs out.
 pub fn drop_reply(alloc: Global, namespace: String) -> Result<Document, NoMemory>
     ensures { IfOk result (λ reply. reply ≡ replies.drop_reply (string_bytes namespace)) }
 {
@@ -160,8 +160,8 @@ pub fn first_batch_reply(
     cursor_reply(alloc, names, cursor)
 }
 
-/// The reply to what asks for the next rows of a cursor: these rows, and the cursor that has the others, 0 if there is none. Fails
-/// with `NoMemory` when memory runs out.
+/// The reply to a getMore: the next rows of a cursor, and the cursor that has the others, 0 if there is none. Fails with `NoMemory`
+/// when memory runs out.
 pub fn next_batch_reply(
     alloc: Global,
     names: &ReplyNames,
@@ -176,8 +176,8 @@ pub fn next_batch_reply(
     cursor_reply(alloc, names, cursor)
 }
 
-/// The cursor of an id and a namespace, with a batch of rows under the name of such a batch, which isn't that of another
-/// field. It may share the names of `like`.
+/// The cursor of an id and a namespace, with a batch of rows under the name `batch`, which no other field has. It may share the
+/// names of `like`.
 fn cursor_of(
     alloc: Global,
     like: &Document,
@@ -208,7 +208,7 @@ fn cursor_reply(alloc: Global, names: &ReplyNames, cursor: Document) -> Result<D
     reply_of(fields)
 }
 
-/// The reply to what ends cursors: the ids of those that went, and those of which there was none. Fails with `NoMemory` when memory
+/// The reply to a killCursors: the ids of the closed cursors, and of those that were not found. Fails with `NoMemory` when memory
 /// runs out.
 pub fn kill_cursors_reply(alloc: Global, killed: List, missing: List) -> Result<Document, NoMemory>
     ensures { IfOk result (λ reply. reply ≡ replies.kill_cursors_reply killed missing) }
@@ -219,7 +219,8 @@ pub fn kill_cursors_reply(alloc: Global, killed: List, missing: List) -> Result<
     reply_of(fields)
 }
 
-/// The reply to what makes indexes: how many the collection had, and how many it has. Fails with `NoMemory` when memory runs out.
+/// The reply to a createIndexes: how many indexes the collection had, and how many it has. Fails with `NoMemory` when memory runs
+/// out.
 pub fn create_indexes_reply(
     alloc: Global,
     before: usize,
@@ -233,7 +234,7 @@ pub fn create_indexes_reply(
     reply_of(fields)
 }
 
-/// The reply to what takes indexes out: how many the collection had. Fails with `NoMemory` when memory runs out.
+/// The reply to a dropIndexes: how many indexes the collection had. Fails with `NoMemory` when memory runs out.
 pub fn drop_indexes_reply(alloc: Global, before: usize) -> Result<Document, NoMemory>
     ensures { IfOk result (λ reply. reply ≡ replies.drop_indexes_reply before) }
 {
@@ -261,11 +262,11 @@ pub fn explain_reply(
     reply_of(fields)
 }
 
-/// The reply to what asks for a view's state. `state` is `live` if it has its rows, and `stale` if it has none and is recomputed
-/// when it is read. `rows` is how many rows it has, and `ticks` the count of the work that changes of what it reads took since it
-/// was made: for each stage, 1 for each change that it took in, and 1 for each that it returned. For a stale view the caller gives
-/// 0 for both. They are returned as int64; a number beyond the greatest int64 is returned as that. Fails with `NoMemory` when
-/// memory runs out.
+/// The reply to a viewStats. `state` is `live` if the view has its rows, and `stale` if it has none and is recomputed when it is
+/// read. `rows` is how many rows it has, and `ticks` the count of the work that changes of what it reads took since it was made:
+/// for each stage, 1 for each change that it took in, and 1 for each that it returned. For a stale view the caller gives 0 for
+/// both. They are returned as int64; a number beyond the greatest int64 is returned as that. Fails with `NoMemory` when memory runs
+/// out.
 pub fn view_stats_reply(
     alloc: Global,
     is_live: bool,
@@ -296,7 +297,7 @@ fn text_value(alloc: Global, text: &str) -> Result<Value, NoMemory>
     Ok(Value::Text(Str::of(String::from_str(alloc, text)?)))
 }
 
-/// A number as int32 where it fits, else as int64.
+/// A number as int32 if it fits, else as int64.
 fn count(number: u128) -> Value
     ensures { tree result ≡ replies.count number }
 {
@@ -306,7 +307,7 @@ fn count(number: u128) -> Value
     }
 }
 
-/// A number as int64; one beyond the greatest int64 is told as that.
+/// A number as int64; one beyond the greatest int64 is returned as that.
 fn long_count(number: u128) -> Value
     ensures { tree result ≡ replies.long_count number }
 {

@@ -8,8 +8,8 @@ use crate::replies::{update_reply, write_reply};
 use dv_value::{Document, Value};
 use std::alloc::Global;
 
-/// The names of the replies that come most often, each in a document beside which such a reply is made: it shares them, and
-/// takes no memory for names. And the replies to writes of one document themselves, which are shared too.
+/// The field names of the most frequent replies, a document for each kind: a reply shares the names of its document, and takes no
+/// memory for names. Also the replies to writes of one document themselves, which are shared too.
 #[derive(Debug, Drop)]
 pub struct ReplyNames {
     /// Of a cursor with its first rows.
@@ -44,7 +44,7 @@ impl ReplyNames {
         }
     }
 
-    /// Makes those that aren't there. If memory runs out some are left out, and replies take names of their own.
+    /// Makes the names and replies that aren't there. If memory runs out some are left out, and replies have names of their own.
     pub fn prepare(&mut self, alloc: Global) {
         if self.update.is_empty() {
             self.first_batch = nulls(alloc, &["firstBatch", "id", "ns"]);
@@ -67,7 +67,7 @@ fn one_written(alloc: Global, names: &ReplyNames) -> Option<Document>
     Some(reply)
 }
 
-/// The same of an update that changed the one document that matched.
+/// The same for an update that changed the one document that matched.
 fn one_updated(alloc: Global, names: &ReplyNames) -> Option<Document>
     ensures { ForSome result (λ reply. reply ≡ replies.update_reply 1 1 []) }
 {

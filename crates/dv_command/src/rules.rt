@@ -43,15 +43,15 @@ pub(crate) enum FieldKind {
     Natural,
     /// How many documents a statement deletes: 0 for all that match, 1 for the first.
     HowMany,
-    /// An update; a list of stages isn't one yet.
+    /// An update; a list of stages isn't supported.
     Update,
-    /// A boolean, and only false yet.
+    /// A boolean; only false is supported.
     OnlyFalse,
-    /// A document without fields, and nothing else yet.
+    /// A document without fields; nothing else is supported.
     EmptyDocument,
-    /// A document with one field at most; more aren't taken yet.
+    /// A document with one field at most; more aren't supported.
     Single,
-    /// How the rows of an answer come: a document that may say how many there are in a batch.
+    /// The options of a cursor: a document that may say how many rows there are in a batch.
     Cursor,
 }
 
@@ -59,9 +59,10 @@ pub(crate) enum FieldKind {
 #[derive(Clone, Copy)]
 pub(crate) struct Rule(pub &'static str, pub FieldKind);
 
-/// Checks fields in written order. The first one is returned that is unknown (`FailedToParse`) or has a value of another kind:
-/// `TypeMismatch` if the value is of another type, and `BadValue` if it is a number out of its rules. For a value that may only be
-/// an empty document, or false, and isn't, `FailedToParse` is returned.
+/// Checks fields in written order. Refuses the first one that is unknown (`FailedToParse`) or has a value of another kind:
+/// `TypeMismatch` if the value is of another type, `BadValue` if it is a number that isn't allowed, and `FailedToParse` if it isn't
+/// supported: a value that has to be an empty document, or false, and isn't, an array as an update, or a field that a key or a
+/// cursor can't have.
 pub(crate) fn check_fields(
     place: FieldPlace,
     rules: &[Rule],
@@ -75,7 +76,7 @@ pub(crate) fn check_fields(
     Ok(())
 }
 
-/// Looks at one field.
+/// Checks one field.
 fn check_field(place: FieldPlace, rules: &[Rule], name: &str, value: &Value) -> Result<(), Refusal>
     ensures { result ≡ defined.check_field (place_seen place) (map rule_seen rules.now) (name.now, tree value.now) }
 {
@@ -116,7 +117,7 @@ fn is_ignored_in_commands(name: &str) -> bool
     }
 }
 
-/// What the rules say of a field of the name; `None` where there is no such field.
+/// What the rules say of a field of the name; `None` if there is no such field.
 fn kind_in(rules: &[Rule], name: &str) -> Option<FieldKind>
     ensures { option_map kind_seen result ≡ defined.kind_in (map rule_seen rules.now) name.now }
 {
@@ -128,7 +129,7 @@ fn kind_in(rules: &[Rule], name: &str) -> Option<FieldKind>
     None
 }
 
-/// Looks at a value that has to be of the kind.
+/// Checks a value that has to be of the kind.
 fn check_value(kind: FieldKind, value: &Value) -> Result<(), Refusal>
     ensures { result ≡ defined.check_value (kind_seen kind) (tree value.now) }
 {
@@ -151,7 +152,7 @@ fn check_value(kind: FieldKind, value: &Value) -> Result<(), Refusal>
     }
 }
 
-/// Looks at a value that may only be false.
+/// Checks a value that may only be false.
 fn check_false(value: &Value) -> Result<(), Refusal>
     ensures { result ≡ defined.check_value kinds.only_false (tree value.now) }
 {
@@ -162,7 +163,7 @@ fn check_false(value: &Value) -> Result<(), Refusal>
     }
 }
 
-/// Looks at a value that may only be a document without fields.
+/// Checks a value that may only be a document without fields.
 #[tactic(auto, using(crate::proofs::Checks::some_fields))]
 fn check_empty(value: &Value) -> Result<(), Refusal>
     ensures { result ≡ defined.check_empty (tree value.now) }
@@ -173,7 +174,7 @@ fn check_empty(value: &Value) -> Result<(), Refusal>
     }
 }
 
-/// Looks at an array that may only hold integers.
+/// Checks an array that may only hold integers.
 fn check_integers(value: &Value) -> Result<(), Refusal>
     ensures { result ≡ defined.check_value kinds.integers (tree value.now) }
 {
@@ -193,7 +194,7 @@ fn are_integers(values: &[Value]) -> bool
         .all(|value| matches!(value, Value::Int32(_) | Value::Int64(_)))
 }
 
-/// Looks at fields of which there may be one at most.
+/// Checks fields of which there may be one at most.
 #[tactic(auto, using(crate::proofs::Checks::several_fields))]
 fn check_single(fields: &Document) -> Result<(), Refusal>
     ensures { result ≡ defined.check_single fields.now }
@@ -205,7 +206,7 @@ fn check_single(fields: &Document) -> Result<(), Refusal>
     }
 }
 
-/// Looks at the fields that say how the rows of an answer come: there may be one, the number of rows in a batch.
+/// Checks the options of a cursor: there may be one, the number of rows in a batch.
 fn check_cursor(fields: &Document) -> Result<(), Refusal>
     ensures { result ≡ defined.check_cursor fields.now }
 {
@@ -215,7 +216,7 @@ fn check_cursor(fields: &Document) -> Result<(), Refusal>
     check_single(fields)
 }
 
-/// Looks at a field that may only be the number of rows in a batch.
+/// Checks a field that may only be the number of rows in a batch.
 fn check_batch_size(name: &str, value: &Value) -> Result<(), Refusal>
     ensures { result ≡ defined.check_batch_size (name.now, tree value.now) }
 {

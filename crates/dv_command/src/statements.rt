@@ -45,7 +45,7 @@ impl WriteKind {
     }
 }
 
-/// What a write asks.
+/// What a write asks for.
 pub(crate) fn write_of<'a>(
     alloc: Global,
     kind: WriteKind,

@@ -1,4 +1,4 @@
-//! What the value of a field is, where it is of the type that is asked for.
+//! What the value of a field is, if it has the required type.
 
 ghost use Rattle.std.specs.Prelude.{◌≡◌, map};
 ghost use Rattle.dv_value.specs.View.{tree};
@@ -21,7 +21,7 @@ pub(crate) fn text_of(value: &Value) -> Result<&str, Refusal>
     }
 }
 
-/// The boolean that a value is. Refused with `TypeMismatch` where it is another value.
+/// The boolean that a value is. Refused with `TypeMismatch` if it is another value.
 pub(crate) fn boolean_of(value: &Value) -> Result<bool, Refusal>
     ensures { result ≡ defined.boolean_in (tree value.now) }
 {
@@ -64,7 +64,7 @@ pub(crate) fn array_of(value: &Value) -> Result<&List, Refusal>
     }
 }
 
-/// The integer that a value is, of either width. Refused with `TypeMismatch` where it is another value.
+/// The integer that a value is, of either width. Refused with `TypeMismatch` if it is another value.
 pub(crate) fn integer_of(value: &Value) -> Result<i64, Refusal>
     ensures { result ≡ defined.integer_in (tree value.now) }
 {
@@ -75,7 +75,7 @@ pub(crate) fn integer_of(value: &Value) -> Result<i64, Refusal>
     }
 }
 
-/// The integers that values are, of either width. Refused with `TypeMismatch` where another value is among them, and with
+/// The integers that values are, of either width. Refused with `TypeMismatch` if another value is among them, and with
 /// `WantOfMemory`.
 pub(crate) fn integers_of(alloc: Global, values: &[Value]) -> Result<Vec<i64>, Refusal>
     ensures { UnlessWanting (λ integers. integers.items) (each defined.integer_in (map tree values.now)) result }
@@ -87,8 +87,8 @@ pub(crate) fn integers_of(alloc: Global, values: &[Value]) -> Result<Vec<i64>, R
     Ok(integers)
 }
 
-/// The integer from 0 that a value is, of either width. Refused with `TypeMismatch` where it is another value, and with
-/// `BadValue` where it is a negative integer.
+/// The integer from 0 that a value is, of either width. Refused with `TypeMismatch` if it is another value, and with `BadValue` if
+/// it is a negative integer.
 pub(crate) fn natural_of(value: &Value) -> Result<u64, Refusal>
     ensures { result ≡ defined.natural_in (tree value.now) }
 {
@@ -96,8 +96,8 @@ pub(crate) fn natural_of(value: &Value) -> Result<u64, Refusal>
     u64::try_from(number).map_err(|_| Refusal::BadValue)
 }
 
-/// Whether a statement deletes only the first document: a value 1, and not 0, of either width. Refused with
-/// `TypeMismatch` where the value is no integer, and with `BadValue` where it is another one.
+/// Whether a statement deletes only the first document: a value 1, and not 0, of either width. Refused with `TypeMismatch` if the
+/// value is no integer, and with `BadValue` if it is another one.
 pub(crate) fn only_first_of(value: &Value) -> Result<bool, Refusal>
     ensures { result ≡ defined.only_first_in (tree value.now) }
 {
@@ -108,8 +108,8 @@ pub(crate) fn only_first_of(value: &Value) -> Result<bool, Refusal>
     }
 }
 
-/// The document of an update that a value is. Refused with `FailedToParse` where it is an array, and with `TypeMismatch`
-/// where it is another value.
+/// The document of an update that a value is. Refused with `FailedToParse` if it is an array, and with `TypeMismatch` if it is
+/// another value.
 #[tactic(auto, using(dv_value::specs::Inner::TreeLaws::fields_again))]
 pub(crate) fn update_of(value: &Value) -> Result<&Document, Refusal>
     ensures { Returns (λ document. document.now) (defined.update_in (tree value.now)) result }

@@ -24,7 +24,7 @@ module _ (namespace : List ℕ) (statement : Statement) (stopped : Stopped) (old
   left new (inl refused) = refused.kept
   left new (inr cut) = cut.made ∙ ap (λ (changes : List Change). apply namespace changes old.state.namespaces) made
 
-  -- one that stopped before its first change left all as it was
+  -- a statement that stopped before its first change left everything unchanged
   pub unbegun : (new : Marked) → MakesCounted namespace statement old (Err stopped) new → new.state.views ≡ old.state.views → StandBehind {B = Counted} namespace statement old (Err stopped) new.marks → new ≡ old
   unbegun new ends forms stand =
       let same = left new.state.namespaces ends in

@@ -130,7 +130,7 @@ module _ (text : List ℕ) where
   pub named_so : (made : List ℕ) → namespace_in text ≡ Ok made → made ≡ text
   named_so made is = by_parts (has_dot text) (is_database_name front) made refl is
 
--- ---- a load, and how views stand behind it
+-- ---- a load, and the marks after it
 
 few_put : (b : Bool) (d : List Field) → length (changes_of (if b then Err DuplicateKey else Ok (record { matched = 1; changes = put d ∷ [] }))) ≤ 1
 few_put true d = omega arith

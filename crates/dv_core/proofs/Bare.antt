@@ -1,4 +1,4 @@
--- A step without regard to how views stand.
+-- A step without regard to the marks of views.
 use Rattle.std.proofs.Common.{◌≡◌, ◌⊎◌, ℕ, false, Option, Some, None, Result, Ok, Err, inl, inr}
 use Rattle.dv_catalog.specs.Marks.{Marks}
 use Rattle.dv_catalog.specs.State.{is_view}
@@ -41,7 +41,7 @@ pub bare_wants : (old : State) (command : Command) (answer : Answer) (marks : Ma
 bare_wants old command answer marks (inl (refused, left)) = inl refused
 bare_wants old command answer marks (inr cut) = inr (bare_cut old (asked_by command) answer marks cut)
 
--- a step is one, where what stands is told as it stood
+-- each step is one, if the new state is given the old marks
 pub bare : (old new : State) (session : ℕ) (command : Command) (outcome : Outcome) → MemoryStep old session command outcome new → BareStep old session command outcome (standing old.marks new)
 bare old new session command (Reply reply) (is, marked) = is
 bare old new session command (Wanting reply) wants = bare_wants old command (record { reply = reply; state = standing old.marks new }) new.marks wants

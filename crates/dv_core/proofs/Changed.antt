@@ -30,7 +30,7 @@ use Rattle.dv_core.specs.Step.{Answer, answered, read_answer, write_answer, on_c
 use Rattle.dv_core.specs.Writes.{reply_by, write_by}
 use Rattle.dv_core.proofs.Bare.{BareCut, BareStep, BareWants, BareWriteCut}
 
--- what a write did, be it cut
+-- what a write did, whether it was cut or not
 abbrev pub Did : WriteSteps → State → Written → Type 0
 Did write old did = (did ≡ carry_out write old.catalog.namespaces) ⊎ IsCutWrite write old.catalog.namespaces did
 
@@ -44,11 +44,11 @@ pub record Writes (old : State) (asked : Result Asked Refusal) (answer : Answer)
   pub did_so : Did write old did
   pub answers : answer ≡ write_answer old write did
 
--- what stands under "ok"
+-- the value under "ok"
 abbrev pub told : List Field → Option Tree
 told reply = value_under (codes "ok") reply
 
--- what a command makes under a namespace, or leaves of what it takes out; one on cursors leaves what stands under namespaces
+-- the collections and views after a command that creates or drops something; one on cursors leaves these unchanged
 abbrev pub Made : State → Asked → State → Type 0
 Made old (create c) new = (created c.namespace c.view old.catalog ≡ Ok new.catalog) × (new.cursors ≡ old.cursors)
 Made old (drop d) new = (dropped d.namespace old.catalog ≡ Ok new.catalog) × (new.cursors ≡ old.cursors)
@@ -70,7 +70,7 @@ carried_may : (old : State) (what : Asked) (write : WriteSteps) → asked_write 
 carried_may old what write is true = inl refl
 carried_may old what write is false = inr (inl (record { what = what; write = write; did = carry_out write old.catalog.namespaces; asks = refl; is_write = is; did_so = inl refl; answers = refl }))
 
--- a reply that tells that the command was carried out
+-- a reply that says that the command was carried out
 abbrev IsTold : {S : Type 0} → Result (List Field × S) Refusal → Type 0
 IsTold {S} defined = (done : List Field × S) → defined ≡ Ok done → told done.0 ≡ Some (int32 (pos 1))
 
@@ -88,7 +88,7 @@ read_may : (old : State) (what : Asked) (result : Result (List Field) Refusal) �
 read_may old what (Ok reply) = inl refl
 read_may old what (Err refusal) = inl refl
 
--- a reply is all
+-- a task that only gives a reply
 abbrev OnlyTells : Task → Type 0
 OnlyTells (telling result) = Unit {0}
 OnlyTells work = ⊥
@@ -97,7 +97,7 @@ telling_may : (old : State) (what : Asked) (work : Task) → OnlyTells work → 
 telling_may old what (telling result) tells = read_may old what result
 telling_may old what work tells = absurd tells
 
--- what is made, with the reply that tells of it
+-- something that is made, with the reply to it
 module _ {S : Type 0} (reply : S → List Field) where
   made_of : (made : Result S Refusal) (done : List Field × S) → (made >>= λ left. Ok (reply left, left)) ≡ Ok done → made ≡ Ok done.1
   made_of (Ok left) done is = let same : (reply left, left) ≡ done = cc in ap (λ (d : List Field × S). Ok d.1) same
@@ -172,7 +172,7 @@ outcome_may old new session command NoReply (inr (answer, wants, stands)) = (ans
 
 -- ---- what may change
 
--- what a command makes that makes nothing under a namespace, and one that moves no cursors
+-- a command that creates and drops nothing leaves the catalog unchanged, and one that moves no cursors leaves the cursors unchanged
 made_catalog : (old new : State) (what : Asked) → Made old what new → makes what ≡ false → new.catalog ≡ old.catalog
 made_catalog old new (create c) made idle = absurd cc
 made_catalog old new (drop d) made idle = absurd cc
@@ -233,7 +233,7 @@ views_stay old new session command asked outcome asks idle steps =
     leave answer (inr (inl w)) = ap (λ (a : Answer). a.state.catalog.views) w.answers
     leave answer (inr (inr m)) = let same : m.what ≡ asked = cc (m.asks, asks) in ap (λ (s : stored.State). s.views) (made_catalog old answer.state m.what m.made (rw same idle))
 
--- what a command leaves that isn't a write: the state, or what it made
+-- what a command leaves that isn't a write: the old state, or what it made
 pub others_made : (old new : State) (session : ℕ) (command : Command) (asked : Asked) (outcome : Outcome) → asked_by command ≡ Ok asked → asked_write asked ≡ None → BareStep old session command outcome new
     → (new ≡ old) ⊎ Made old asked new
 others_made old new session command asked outcome asks none steps =
@@ -245,7 +245,7 @@ others_made old new session command asked outcome asks none steps =
     leave answer (inr (inl w)) stands = let same : w.what ≡ asked = cc (w.asks, asks) in let some : asked_write asked ≡ Some w.write = rw (← same) w.is_write in absurd cc
     leave answer (inr (inr m)) stands = let same : m.what ≡ asked = cc (m.asks, asks) in inr (rw (stands, ← same) m.made)
 
--- ---- what is told as refused
+-- ---- replies that say that the command was refused
 
 errors_told : (errors : List Tree) (n : Tree) → told (reply_of ((codes "n", n) ∷ errors_field errors)) ≡ Some (int32 (pos 1))
 errors_told [] n = refl

@@ -38,19 +38,19 @@ pub record CursorLaws : Type 0 where
 abbrev pub at : ℕ → ℕ → Cursors → Option Cursor
 at session id cursors = finite.get cursors.kept (session, id)
 
--- it is left as it is
+-- the cursor is left unchanged
 pub record Stays (session id : ℕ) (before after : Cursors) (told : Rows) (last : Bool) : Type 0 where
   pub same : at session id after ≡ at session id before
   pub none : told ≡ []
   pub more : last ≡ false
 
--- it is taken out
+-- the cursor is removed
 pub record Goes (session id : ℕ) (before after : Cursors) (told : Rows) (last : Bool) : Type 0 where
   pub gone : at session id after ≡ None
   pub none : told ≡ []
   pub more : last ≡ false
 
--- some of its rows are told, and taken from it
+-- some rows of the cursor are returned, and taken from it
 pub record Tells (session id : ℕ) (before after : Cursors) (told : Rows) (last : Bool) : Type 0 where
   pub cursor : Cursor
   pub count : ℕ
@@ -59,7 +59,7 @@ pub record Tells (session id : ℕ) (before after : Cursors) (told : Rows) (last
   pub tells : told ≡ batch count cursor.rows
   pub is_last : last ≡ is_nil (rows_behind count cursor.rows)
 
--- what a move does to it
+-- what an event does to the cursor
 pub record Moves (session id : ℕ) (before after : Cursors) (told : Rows) (last : Bool) : Type 0 where
   pub does : Stays session id before after told last ⊎ (Goes session id before after told last ⊎ Tells session id before after told last)
   pub next : before.next ≤ after.next
@@ -91,7 +91,7 @@ module _ (laws : CursorLaws) (session id : ℕ) where
           let same : (i, added other namespace (row ∷ left) before) ≡ told = cc in
           subst (λ (t : ℕ × Cursors). Moves session id before t.1 [] false) same (adds other namespace (row ∷ left) before new)
 
-  -- a command on cursors, by what it is defined to give
+  -- a command on cursors, by its defined result
   module _ (state : State) where
     abbrev Leaves : Result (List Field × Cursors) Refusal → Rows → Bool → Type 0
     Leaves defined told last = Moves session id state.cursors (answered state (on_cursors state defined)).state.cursors told last
@@ -104,7 +104,7 @@ module _ (laws : CursorLaws) (session id : ℕ) where
     first_moves namespace count rows (Ok told) moves = replied_moves namespace count rows (has_too_large rows) _ told.1 (moves told refl)
     first_moves namespace count rows (Err refusal) moves = unmoved session id state.cursors state.cursors refl
 
-    -- ---- more of a cursor is asked
+    -- ---- getMore
 
     record FoundCursor (namespace : List ℕ) (there : Option Cursor) (rows : Rows) : Type 0 where
       pub cursor : Cursor
@@ -161,9 +161,9 @@ module _ (laws : CursorLaws) (session id : ℕ) where
     more_moves other namespace (pos n) count (Some rows) is = found_moves other namespace n count rows is (is_cursor_place other n session id) refl
     more_moves other namespace (negsuc n) count (Some rows) is = absurd cc
 
-  -- ---- cursors are killed
+  -- ---- killCursors
 
-  -- it is left, or it is gone
+  -- the cursor is left unchanged, or is removed
   LeftOrGone : Cursors → Cursors → Type 0
   LeftOrGone before after = ((at session id after ≡ at session id before) ⊎ (at session id after ≡ None)) × (before.next ≤ after.next)
 
@@ -197,7 +197,7 @@ module _ (laws : CursorLaws) (session id : ℕ) where
   gone_moves before after (inl same, up) = record { does = inl (record { same = same; none = refl; more = refl }); next = up }
   gone_moves before after (inr gone, up) = record { does = inr (inl (record { gone = gone; none = refl; more = refl })); next = up }
 
-  -- ---- every move
+  -- ---- every event
 
   command_moves : (state : State) (other : ℕ) (asked : Result Asked Refusal) → id < state.cursors.next
       → Moves session id state.cursors (answered state (asked >>= answer_to state other)).state.cursors (asked_rows session id other asked state) (asked_last session id other asked state)
@@ -220,7 +220,7 @@ module _ (laws : CursorLaws) (session id : ℕ) where
 
   -- ---- a run
 
-  -- rows that are told of a cursor are a front of its rows, and all of them once it is told that none is left
+  -- rows that are returned from a cursor are a prefix of its rows, and all of them once a reply says that none is left
   pub record IsFront (rows told : Rows) (out : Bool) : Type 0 where
     pub rest : Rows
     pub front : told ++ rest ≡ rows

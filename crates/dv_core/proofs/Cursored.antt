@@ -1,4 +1,4 @@
--- A cursor from a find or a pipeline on.
+-- A cursor, from its find or aggregate on.
 use Rattle.std.proofs.Common.{◌≡◌, ◌≢◌, ◌⊎◌, inl, inr, ℕ, ℤ, pos, ◌<◌, ◌==◌, ◌&&◌, not, Bool, true, false, List, [], ◌∷◌, ◌++◌, map, Option, Some, None, Result, Ok, Err, if◌then◌else◌, refl, sym, ap, subst, ◌∙◌, append_assoc, append-nil, arith, eq-eqb}
 use Rattle.dv_value.specs.Tree.{Field}
 use Rattle.dv_command.specs.Asked.{Asked, Aggregate, Find, GetMore, find, aggregate, get_more, asked_by}
@@ -25,10 +25,10 @@ use Rattle.dv_core.specs.Step.{Answer, answered, answer_to, on_cursors, step, as
 use Rattle.dv_core.proofs.Bare.{BareCut, BareStep, BareWants, BareWriteCut}
 use Rattle.dv_core.proofs.CursorMoves.{CursorLaws, Rows, ToldOf, at, each_moves, run}
 
--- ---- from a find or a pipeline on
+-- ---- from a find or an aggregate on
 
 module _ (laws : CursorLaws) where
-  -- from the first command on an id is left that is above 0
+  -- if the next id is above 0, it stays above 0
   above_zero : (moves : List Move) (state : State) → 0 < state.cursors.next → 0 < (state_behind_all moves state).cursors.next
   above_zero [] state above = above
   above_zero (move ∷ moves) state above =
@@ -149,7 +149,7 @@ module _ (laws : CursorLaws) where
       (map document_of (if (session == session) && is_cursor_number id z then next_rows asked.batch_size (rows_asked session asked.namespace z state.cursors) else []))) (sym number)
       (found_reply state session id asked.batch_size asked.namespace rows (is_cursor_place session id session id) (own_place session id) (rows_to_come session asked.namespace id state.cursors) there))
 
--- ---- want of memory
+-- ---- running out of memory
 
 write_wants : (old : State) (write : Option WriteSteps) (answer : Answer) → BareWriteCut old write answer → (catalog : stored.State) × (answer.state ≡ state_after_move (wants catalog) old)
 write_wants old None answer cut = absurd cut

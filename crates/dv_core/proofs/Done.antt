@@ -8,12 +8,11 @@ use Rattle.dv_catalog.specs.State.{Collection}
 use Rattle.dv_refusal.specs.declared.refusal.Refusal.{Refusal}
 use Rattle.dv_keyed.specs.Index.{IndexForm}
 
--- ---- none of two
-
 -- ---- the changes of a statement
 
 module _ (c : Collection) (statement : Statement) where
-  -- what holds of those that it makes of the documents, and of none, holds of those to the collection
+  -- what holds of no changes, and of those that the statement makes of the documents, holds of those that it makes of the
+  -- collection
   pub changes_done : (P : List Change → Type 0) → P [] → P (changes_of (statement c.documents)) → P (changes_of (done_to c statement))
   changes_done P none has = either (done_changes c statement)
     where
@@ -21,7 +20,7 @@ module _ (c : Collection) (statement : Statement) where
       either (inl same) = subst P (sym same) has
       either (inr nothing) = subst P (sym nothing) none
 
-  -- they put no key of a unique index under two `_id`s
+  -- its changes put no key of a unique index under two `_id`s
   pub changes_unbroken : breaks c.indexes (changes_of (done_to c statement)) c.documents ≡ false
   changes_unbroken = by_result (done_to c statement) refl
     where
@@ -29,7 +28,7 @@ module _ (c : Collection) (statement : Statement) where
       by_result (Ok effect) is = (done_so c statement effect is).1
       by_result (Err refusal) is = refl
 
--- nor do the first so many of them
+-- if changes put no key of a unique index under two `_id`s, nor do the first `made` of them
 pub front_unbroken : (indexes : List IndexForm) (made : ℕ) (changes : List Change) (documents : List (List Field)) → breaks indexes changes documents ≡ false → breaks indexes (take made changes) documents ≡ false
 front_unbroken indexes zero [] documents is = refl
 front_unbroken indexes zero (change ∷ changes) documents is = refl

@@ -1,4 +1,4 @@
--- How commands end that may find no memory for their reply.
+-- How commands end for whose reply memory may run out.
 use Rattle.std.proofs.Common.{◌≡◌, ℕ, suc, ℤ, Bool, List, [], ◌∷◌, length, map, Result, Ok, Err, IfOk, OnErr, inl, inr, refl, sym, ap, subst}
 use Rattle.dv_value.specs.Tree.{Field}
 use Rattle.dv_catalog.specs.IndexMaking.{indexes_created, indexes_dropped}
@@ -15,7 +15,7 @@ use Rattle.dv_core.specs.Indexes.{form_asked, index_count, indexed, unindexed}
 use Rattle.dv_core.specs.More.{gone_ids, killed, missing_ids, went_each, without_cursor, without_cursors}
 use Rattle.dv_core.specs.Inner.StepParts.{Ends, Refuses, TellsOrNot}
 
--- a reply for which there is memory or isn't
+-- a reply is returned, or memory ran out for it
 pub told_so : {E : Type 0} (reply : List Field) (made : Result (List Field) E) (outcome : Outcome) → IfOk made (λ told. told ≡ reply) → IfOk made (λ told. outcome ≡ Reply told) → OnErr made (outcome ≡ NoReply) → TellsOrNot reply outcome
 told_so reply (Ok told) outcome is replies untold = subst (TellsOrNot reply) (sym replies) is
 told_so reply (Err fault) outcome is replies untold = subst (TellsOrNot reply) (sym untold) tt

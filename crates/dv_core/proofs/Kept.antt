@@ -1,4 +1,4 @@
--- What statements keep of the collection of each namespace.
+-- Properties of the collection of each namespace that statements keep.
 use Rattle.std.proofs.Common.{ℕ, zero, suc, Bool, true, false, cond, List, [], ◌∷◌, ◌++◌, length, map, not, take, Some, Result, Ok, Err, is_some, if◌then◌else◌, ◌≡◌, inl, inr, refl, subst}
 use Rattle.std.specs.List.{AllByRecursion}
 use Rattle.std.proofs.lemmas.Bool.{or_parts}
@@ -28,14 +28,14 @@ use Rattle.dv_core.proofs.Done.{changes_done, changes_unbroken, front_unbroken}
 use Rattle.dv_core.proofs.Standing.{IsKeptBy, Stands, made_stands, put_stands}
 use Rattle.dv_catalog.specs.Inner.EffectLaws.{IsGoodAfter, chosen_good, matching_good, all_changed_good}
 
--- changes keep a property of the collection of a namespace where they put no key of a unique index under two `_id`s
+-- changes keep a property of the collection of a namespace if they put no key of a unique index under two `_id`s
 abbrev pub ChangesKeep : (List ℕ → Collection → Type 0) → (Change → Type 0) → Type 0
 ChangesKeep P IsGood =
     (namespace : List ℕ) (c : Collection) (change : Change) → P namespace c → IsGood change → clashes_by c.indexes change c.documents ≡ false → P namespace (record c { documents = with_change c.documents change })
 
--- of such a property
+-- for such a property
 module _ (P : List ℕ → Collection → Type 0) (IsGood : Change → Type 0) (keeps : ChangesKeep P IsGood) where
-  -- a statement that makes no others
+  -- a statement that makes only good changes
   pub record Keeps (statement : Statement) : Type 0 where
     pub good : (namespace : List ℕ) (c : Collection) → P namespace c → AllByRecursion IsGood (changes_of (statement c.documents))
 
@@ -58,7 +58,7 @@ module _ (P : List ℕ → Collection → Type 0) (IsGood : Change → Type 0) (
       let c : Collection = collection_of namespace namespaces in
       put_stands P namespace (record c { documents = with_changes c.documents (change ∷ changes) }) namespaces h (changes_hold namespace c (change ∷ changes) (h namespace) good unbroken)
 
-  -- what a statement does to a collection
+  -- such a statement makes only good changes of a collection
   pub does_good : (namespace : List ℕ) (c : Collection) (statement : Statement) → Keeps statement → P namespace c → AllByRecursion IsGood (changes_of (done_to c statement))
   does_good namespace c statement keep h = changes_done c statement (AllByRecursion IsGood) tt (keep.good namespace c h)
 
@@ -104,7 +104,7 @@ module _ (P : List ℕ → Collection → Type 0) (IsGood : Change → Type 0) (
   may_hold old asked answer kept keep (inr (inl w)) h = rw w.answers (did_holds w.write old w.did (keep w.what w.write w.asks w.is_write) w.did_so h)
   may_hold old asked answer kept keep (inr (inr m)) h = made_stands P old answer.state m.what (kept m.what) m.made h
 
-  -- a step whose statements keep it does
+  -- a step keeps the property if its statements do
   pub step_holds : (old new : State) (session : ℕ) (command : Command) (outcome : Outcome) → ((what : Asked) → IsKeptBy P what)
       → ((what : Asked) (write : WriteSteps) → asked_by command ≡ Ok what → asked_write what ≡ Some write → AllByRecursion Keeps write.statements)
       → Stands P old.catalog.namespaces → BareStep old session command outcome new → Stands P new.catalog.namespaces
@@ -123,7 +123,7 @@ module _ (P : List ℕ → Collection → Type 0) (IsGood : Change → Type 0) (
   stored_good d (Ok stored) is good documents = new_good (is_some (found (id_key stored) documents)) stored (good stored is)
   stored_good d (Err refusal) is good documents = tt
 
-  -- one that puts what is stored
+  -- an insert keeps it if putting the stored document is a good change
   pub insert_keeps : (d : List Field) → ((stored : List Field) → storable d ≡ Ok stored → IsGood (put stored)) → Keeps (insert_one d)
   insert_keeps d good = record { good = λ namespace c h. stored_good d (storable d) refl good c.documents }
 
@@ -144,7 +144,7 @@ module _ (P : List ℕ → Collection → Type 0) (IsGood : Change → Type 0) (
 
   -- ---- the statements of an update
 
-  -- what becomes of a document is put
+  -- putting what the update makes of a document is a good change
   abbrev PutsGood : form.Update → List Field → Type 0
   PutsGood update d = IsGoodAfter (λ e. IsGood (put e)) update d
 
@@ -157,10 +157,10 @@ module _ (P : List ℕ → Collection → Type 0) (IsGood : Change → Type 0) (
   updated_good updating ds (Ok changed) is good = all_put changed (all_changed_good (λ e. IsGood (put e)) updating.update ds changed is good)
   updated_good updating ds (Err refusal) is good = tt
 
-  -- of updates of a sort
+  -- for updates of some kind
   module _ (IsGoodUpdate : form.Update → Type 0)
       (good_after : (update : form.Update) → IsGoodUpdate update → (namespace : List ℕ) (c : Collection) → P namespace c → AllByRecursion (PutsGood update) c.documents) where
-    -- an entry that asks one
+    -- an entry that asks for such an update
     abbrev pub AsksGood : List Field → Type 0
     AsksGood entry = (updating : Updating) → updating_of entry ≡ Ok updating → IsGoodUpdate updating.update
 

@@ -1,4 +1,4 @@
--- What making something under a namespace, or taking it out, leaves of documents.
+-- Which documents are left after something is made under a namespace, or removed.
 use Rattle.std.proofs.Common.{◌≡◌, ◌⊎◌, inl, inr, ℕ, Bool, true, false, cond, if◌then◌else◌, List, [], Option, Some, None, Result, Ok, Err, is_some, map, refl, sym, ap, subst, ◌∙◌}
 use Rattle.std.proofs.lemmas.Slice.Eq.{bytes_eq-Decides}
 use Rattle.std.specs.FinMap as finite
@@ -28,7 +28,7 @@ none_there (Some s) e = absurd cc
 abbrev emptied : List ℕ → Namespaces → Standing
 emptied namespace old = collection (record (collection_of namespace old) { documents = [] })
 
--- a collection without documents, put where none is
+-- a collection without documents, put where there is none
 empty_put : (old : Namespaces) (namespace : List ℕ) → is_collection namespace old ≡ false → (name : List ℕ) → documents_of name (with_documents namespace [] old) ≡ documents_of name old
 empty_put old namespace none name =
     ap (λ (there : Option Standing). (collection_at there).documents) (get-insert old namespace (emptied namespace old) name) ∙ by_name (bytes_eq namespace name) refl
@@ -40,7 +40,7 @@ empty_put old namespace none name =
 abbrev with_more : List ℕ → Namespaces → List IndexForm → Standing
 with_more namespace old indexes = collection (record (collection_of namespace old) { indexes = indexes })
 
--- indexes leave documents
+-- a change of indexes leaves the documents unchanged
 indexes_put : (old : Namespaces) (namespace : List ℕ) (indexes : List IndexForm) (name : List ℕ) → documents_of name (with_indexes namespace indexes old) ≡ documents_of name old
 indexes_put old namespace indexes name =
     ap (λ (there : Option Standing). (collection_at there).documents) (get-insert old namespace (with_more namespace old indexes) name) ∙ by_name (bytes_eq namespace name) refl
@@ -49,7 +49,7 @@ indexes_put old namespace indexes name =
     by_name true same = ap (λ (n : List ℕ). documents_of n old) ((bytes_eq-Decides namespace name).0 same)
     by_name false other = refl
 
--- and views
+-- the views and the documents are unchanged
 pub record LeavesDocuments (old new : State) : Type 0 where
   pub views : new.views ≡ old.views
   pub documents : (name : List ℕ) → documents_of name new.namespaces ≡ documents_of name old.namespaces
@@ -92,7 +92,7 @@ created_documents old new namespace view is name = by_there (is_there namespace 
     by_there true there is = absurd cc
     by_there false none is = as_made view none is
 
--- what is dropped leaves no documents, and the others as they are
+-- a drop leaves none or all of the documents under its namespace, and all of those under others
 pub dropped_documents : (old new : State) (namespace : List ℕ) → dropped namespace old ≡ Ok new → (name : List ℕ)
     → documents_of name new.namespaces ≡ (if bytes_eq namespace name then [] else documents_of name old.namespaces) ⊎ (documents_of name new.namespaces ≡ documents_of name old.namespaces)
 dropped_documents old new namespace is name = by_collection (is_collection namespace old.namespaces) is
@@ -125,7 +125,7 @@ dropped_others old new namespace name is other = either (dropped_documents old n
     either (inl is) = is ∙ rw other refl
     either (inr is) = is
 
--- ---- a create and a drop, and what makes and drops indexes, whatever they are answered
+-- ---- create, drop, createIndexes and dropIndexes, whatever their replies are
 
 pub create_leaves : (old new : core.State) (session : ℕ) (command : Command) (asked : Create) (outcome : Outcome) → asked_by command ≡ Ok (create asked) → BareStep old session command outcome new → (namespace : List ℕ)
     → documents_of namespace new.catalog.namespaces ≡ documents_of namespace old.catalog.namespaces

@@ -1,4 +1,4 @@
--- How views stand behind a step.
+-- The marks of views after a step.
 use Rattle.std.proofs.Common.{◌≡◌, ◌⊎◌, ℕ, suc, Bool, true, false, if◌then◌else◌, List, [], ◌∷◌, ◌++◌, length, Option, Some, None, Result, Ok, Err, pos, inl, inr, refl, sym, ap, subst, ◌∙◌, arith}
 use Rattle.std.proofs.lemmas.List.{length-append}
 use Rattle.std.specs.FinMap as finite
@@ -33,13 +33,13 @@ use Rattle.dv_core.proofs.Viewed.{loaded_leaves}
 use Rattle.dv_core.proofs.Marking.{counted_marked, cut_length, each_length, marked_length, partly_length, read_length, where_read, where_read_length, without_length, written_marked}
 use Rattle.dv_core.proofs.Works.{work_marks}
 
--- ---- the answer leaves them
+-- ---- the answer leaves the marks unchanged
 
 step_leaves : (old : State) (session : ℕ) (asked : Result Asked Refusal) → (answered old (asked >>= answer_to old session)).state.marks ≡ old.marks
 step_leaves old session (Ok asked) = work_marks old (task_of old session asked)
 step_leaves old session (Err refusal) = refl
 
--- ---- as they are counted
+-- ---- the marks if no view becomes stale
 
 module _ (old : State) where
   write_counted : (b : Bool) (write : WriteSteps) → AreMarkedByWrite b write old (if b then old.marks else marks_written write.namespace write.ordered old.catalog.views (nothing_written old.catalog.namespaces) write.statements old.marks)
@@ -71,7 +71,7 @@ counted_steps state session command =
       all_counted state (asked_by command),
     )
 
--- ---- one for each view
+-- ---- one mark for each view
 
 more_by : (fault : Option ViewFault) (v : ViewForm) (views after : List ViewForm) → with_view_by v views fault ≡ Ok after → length after ≡ suc (length views)
 more_by None v views after is = let same : views ++ v ∷ [] ≡ after = cc in ap length (sym same) ∙ length-append views (v ∷ []) ∙ omega arith
@@ -85,7 +85,7 @@ module _ (old : State) (each : length old.marks ≡ length old.catalog.views) wh
   write_each true write marks marked = ap length marked
   write_each false write marks marked = each_length write.namespace write.ordered old.catalog.views (nothing_written old.catalog.namespaces) write.statements old.marks marks marked
 
-  -- where views stay, so do as many marks
+  -- a command that keeps the views keeps the number of marks
   stay_each : (asked : Asked) (marks : Marks) → (makes asked ≡ false) ⊎ (indexes asked ≡ true) → AreMarked old asked marks → length marks ≡ length old.marks
   stay_each (asking.write w) marks stays marked = write_each (is_view w.namespace old.catalog.views) (write_by w) marks marked
   stay_each (drop d) marks (inl idle) marked = absurd cc
@@ -130,7 +130,7 @@ module _ (old : State) (each : length old.marks ≡ length old.catalog.views) wh
       let v : ViewForm = record { name = namespace; source = on.source; stages = on.stages } in
       with_each (with_view v old.catalog.views) (names_read on.stages on.source) reply (λ views is. one_more v old.catalog.views views is) marks marked
 
-  -- by whether a collection stands there, and a view, and whether a view reads it
+  -- by whether there is a collection, or a view, and whether another view reads it
   abbrev left_where : Bool → Bool → Bool → List ℕ → Result stored.State Refusal
   left_where b c read namespace =
       if b then Ok (record old.catalog { namespaces = finite.remove old.catalog.namespaces namespace })
@@ -182,7 +182,7 @@ pub each_loaded : (old new : State) (text : List ℕ) (d : List Field) → lengt
 each_loaded old new text d each is =
     marked_length text (lists_of old.catalog.namespaces) _ old.catalog.views old.marks new.marks is.marks ∙ each ∙ ap length (sym (loaded_leaves old (standing old.marks new) text d is.so).views)
 
--- ---- what is told as refused
+-- ---- replies that say that the command was refused
 
 module _ (old : State) where
   abbrev IsRefused : Answer → Type 0
@@ -240,7 +240,7 @@ wanting_left old new session command reply lacks refused =
     left_so old new (asked_by command) (want_leaves old (standing old.marks new) session command reply (bare old new session command (Wanting reply) lacks) refused)
     (wants_left old command (record { reply = reply; state = standing old.marks new }) new.marks refused lacks)
 
--- ---- a command that asks nothing
+-- ---- a command that is refused when it is parsed
 
 unasked : (old : State) (asked : Result Asked Refusal) (refusal : Refusal) (marks : Marks) → asked ≡ Err refusal → AreMarkedForWant old asked marks ⊎ AreMarkedAll old asked marks → marks ≡ old.marks
 unasked old (Ok asked) refusal marks is marked = absurd cc

@@ -1,4 +1,4 @@
--- How views stand behind changes, and behind the statements of a write.
+-- The marks of views after changes, and after the statements of a write.
 use Rattle.std.proofs.Common.{◌≡◌, ◌⊎◌, ℕ, suc, Bool, true, false, cond, not, List, [], ◌∷◌, ◌++◌, length, take, Result, Err, refl, sym, ap, subst, ◌∙◌, inl, inr}
 use Rattle.dv_catalog.specs.Changes.{Change, Effect, Statement}
 use Rattle.dv_catalog.specs.Marks.{AreMarkedBy, AreMarkedSo, ArePartlyNamed, ArePartlyRead, IsPartlyRead, Mark, Marked, Marks, all_counted, mark_read, marks_counted, marks_named, marks_read, marks_without, shares_told}
@@ -16,7 +16,7 @@ use Rattle.dv_core.specs.Statements.{AreCut, Written, is_due, next_changes, noth
 
 -- ---- changes
 
--- as when memory runs out for no view
+-- the marks if memory runs out for no view
 counted_so : (all : List Share) (marks : Marks) → AreMarkedSo all marks (all_counted all marks)
 counted_so [] marks = refl
 counted_so (share ∷ rest) [] = refl
@@ -49,13 +49,13 @@ module _ (namespace : List ℕ) (lists : Lists) where
   none_changed (v ∷ views) (mark ∷ before) [] marked = absurd marked
   none_changed (v ∷ views) (mark ∷ before) (now ∷ after) marked = λ i. one_unmarked mark now marked.0 i ∷ none_changed views before after marked.1 i
 
--- where there is no view
+-- if there is no view
 pub no_view_marked : (namespace : List ℕ) (changes : List Change) (lists : Lists) → AreMarkedBy namespace changes lists [] [] []
 unfolding shares
 no_view_marked namespace [] lists = refl
 no_view_marked namespace (change ∷ changes) lists = refl
 
--- behind a statement that stopped before its first change
+-- after a statement that stopped before its first change
 pub unmade_stands : {B : Type 0} (namespace : List ℕ) (does : Result Effect Refusal) (old : Marked) (result : Result B Stopped) (stopped : Stopped) → result ≡ Err stopped → stopped.done ≡ 0 → StandBy namespace does old result old.marks
 unmade_stands namespace does old result stopped is none =
     rw (is, none) (none_marked namespace (lists_of old.state.namespaces) old.state.views old.marks)
@@ -83,14 +83,14 @@ module _ (namespace : List ℕ) (ordered : Bool) (views : List ViewForm) where
       marked_length namespace (lists_of so_far.namespaces) (take cut.made (next_changes namespace ordered so_far cut.statement)) views mid after here
       ∙ each_length (nothing_written old) cut.before before mid each
 
-  -- the statements before, and those behind
+  -- the first statements, and those after them
   pub each_append : (so_far : Written) (front behind : List Statement) (before mid after : Marks) → AreMarkedByEach namespace ordered views so_far front before mid
       → AreMarkedByEach namespace ordered views (with_all namespace ordered so_far front) behind mid after → AreMarkedByEach namespace ordered views so_far (front ++ behind) before after
   each_append so_far [] behind before mid after is rest = subst (λ (m : Marks). AreMarkedByEach namespace ordered views so_far behind m after) is rest
   each_append so_far (statement ∷ front) behind before mid after (one, here, each) rest =
       (one, here, each_append (with_next namespace ordered so_far statement) front behind one mid after each rest)
 
-  -- where no statement is due, those behind leave each mark
+  -- if no statement is due, the rest leave each mark unchanged
   not_due : (b : Bool) → b ≡ false → (so_far : Written) (changes : List Change) (marks : Marks) → AreMarkedBy namespace (cond b changes []) (lists_of so_far.namespaces) views marks marks
   not_due true stopped so_far changes marks = absurd cc
   not_due false stopped so_far changes marks = none_marked namespace (lists_of so_far.namespaces) views marks
@@ -117,7 +117,7 @@ module _ (names : List (List ℕ)) where
   some_length (v ∷ views) (mark ∷ before) [] some = absurd some
   some_length (v ∷ views) (mark ∷ before) (now ∷ after) some = ap suc (some_length views before after some.1)
 
-  -- all of them
+  -- all of them may be recomputed
   all_some : (views : List ViewForm) (marks : Marks) → ArePartlyNamed names views marks (marks_named names views marks)
   all_some [] marks = refl
   all_some (v ∷ views) [] = refl
@@ -137,7 +137,7 @@ module _ (names : List (List ℕ)) (views : List ViewForm) where
   all_partly : (before after : Marks) → after ≡ marks_read names views before → ArePartlyRead names views before after
   all_partly before after read = subst (ArePartlyRead names views before) (sym read) (all_some (needed views names) views before)
 
--- behind a command
+-- after a command
 pub where_read_length : (names : List (List ℕ)) (old : State) → length (marks_where_read names old) ≡ length old.marks
 where_read_length [] old = refl
 where_read_length (name ∷ names) old = read_length (name ∷ names) old.catalog.views old.marks
@@ -146,7 +146,7 @@ pub where_read : (names : List (List ℕ)) (old : State) (marks : Marks) → mar
 where_read [] old marks read = inl read
 where_read (name ∷ names) old marks read = inr (all_partly (name ∷ names) old.catalog.views old.marks marks read)
 
--- ---- views that are taken out
+-- ---- views that are removed
 
 without_one : (b : Bool) (v : ViewForm) (views : List ViewForm) (mark : Mark) (marks : Marks) → length marks ≡ length views → length (cond b marks (mark ∷ marks)) ≡ length (cond (not b) (v ∷ views) views)
 without_one true v views mark marks same = same

@@ -1,4 +1,4 @@
--- More of cursors, and the end of cursors.
+-- getMore, and the end of cursors.
 use Rattle.std.proofs.Common.{◌≡◌, ℕ, zero, suc, ◌+◌, ◌<◌, ◌≤◌, ℤ, Bool, true, false, nat_lt, List, [], ◌∷◌, ◌++◌, take, drop, set, length, map, cond, if◌then◌else◌, Option, Some, is_some, Ok, refl, ap, sym, ◌∙◌, add-one, append_assoc, arith}
 use Rattle.std.proofs.Math.Seq.{take-suc-set}
 use Rattle.std.proofs.lemmas.Bool.Decides.{nat_tests}
@@ -16,7 +16,7 @@ Rows = List (List Field)
 longer : (n m : ℕ) → nat_lt n m ≡ nat_lt (suc n) (suc m)
 longer n m = grind (arith, nat_tests)
 
--- an id is told where rows are left behind so many
+-- the reply has the cursor's id if rows are left after the first `n`, and 0 otherwise
 pub id_behind-drop : (id n : ℕ) (rows : Rows) → id_behind id (drop n rows) ≡ cond (nat_lt n (length rows)) id 0
 id_behind-drop id zero [] = refl
 id_behind-drop id zero (row ∷ rows) = grind (arith, nat_tests)

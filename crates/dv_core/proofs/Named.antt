@@ -1,4 +1,4 @@
--- The indexes of each namespace keep names that can be told, and so the index by which a find is explained has one.
+-- The indexes of each namespace keep valid names, and so the index by which a find is explained has one.
 use Rattle.std.proofs.Common.{◌≡◌, inl, inr, ℕ, zero, suc, not, Bool, true, false, cond, if◌then◌else◌, List, [], ◌∷◌, ◌++◌, drop, map, take, Option, Some, None, Result, Ok, Err, nat_lt, length, refl, sym, ap, subst, ◌∙◌, arith}
 use Rattle.std.proofs.lemmas.Slice.Eq.{bytes_eq-Decides}
 use Rattle.std.specs.Prelude.{codes}
@@ -45,7 +45,7 @@ Named indexes = AllByRecursion (λ index. IsIndexName index.name) indexes
 id_named : Named (id_form ∷ [])
 id_named = ((IsUtf8-ascii (codes "_id_") refl, omega arith), tt)
 
--- ---- what changes documents leaves indexes
+-- ---- changes of documents leave indexes unchanged
 
 abbrev with_rows : List ℕ → Namespaces → List (List Field) → Standing
 with_rows namespace old documents = collection (record (collection_of namespace old) { documents = documents })
@@ -103,7 +103,7 @@ some_less : (name : List ℕ) (indexes : List IndexForm) → Named indexes → N
 some_less name [] named = tt
 some_less name (x ∷ indexes) named = kept_or_not (not (is_dropped name x)) x (without_index name indexes) named.0 (some_less name indexes named.1)
 
--- what is made, if it is
+-- the indexes that are made, if they are, have valid names
 abbrev IfMade : Result (List IndexForm) Refusal → Type 0
 IfMade (Ok indexes) = Named indexes
 IfMade (Err refusal) = Unit {0}
@@ -151,7 +151,7 @@ asked_named : (asked : List IndexAsked) → AreIndexes asked → Named (map form
 asked_named [] sound = tt
 asked_named (x ∷ asked) sound = (sound.0, asked_named asked sound.1)
 
--- ---- what stands under namespaces
+-- ---- what is under namespaces
 
 abbrev HasNames : List ℕ → Collection → Type 0
 HasNames namespace c = Named c.indexes
@@ -183,7 +183,7 @@ empty_named name = subst (λ (there : Option Standing). Named (collection_at the
 
 -- ---- the index by which a find is answered
 
--- a name, where there is one, that can be told
+-- the name is valid, if there is one
 abbrev pub IsNamed : Option (List ℕ) → Type 0
 IsNamed None = Unit {0}
 IsNamed (Some name) = IsIndexName name

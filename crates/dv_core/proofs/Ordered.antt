@@ -1,4 +1,4 @@
--- The documents of each namespace stay in the order of their `_id`s, and sound, and no key of a unique index stands in two of them.
+-- The documents of each namespace stay in the order of their `_id`s, and sound, and no key of a unique index is in two of them.
 use Rattle.std.proofs.Common.{◌≡◌, ℕ, Bool, true, false, cond, not, List, [], ◌∷◌, map, Option, Some, None, Result, Ok, Err, if◌then◌else◌, is_some, OnErr, OnOk, refl, sym, subst}
 use Rattle.std.specs.Prelude.{codes}
 use Rattle.std.specs.Cmp.Lexicographic.{slice_cmp}
@@ -56,7 +56,7 @@ none_ordered = (tt, tt)
 none_sound : AreSound []
 none_sound = (none_ordered, tt)
 
--- the documents of a collection are in order and within the limits, and no key of a unique index stands in two of them
+-- the documents of a collection are in order and within the limits, and no key of a unique index is in two of them
 pub record IsApart (namespace : List ℕ) (c : Collection) : Type 0 where
   pub documents : AreOrdered c.documents
   pub fits : AllByRecursion Fits c.documents
@@ -65,14 +65,14 @@ pub record IsApart (namespace : List ℕ) (c : Collection) : Type 0 where
 abbrev pub AreApart : State → Type 0
 AreApart state = Stands IsApart state.catalog.namespaces
 
--- which is what every store keeps
+-- which holds in every store
 pub apart : (state : State) → IsOrderly state → AreApart state
 apart state keeps = λ namespace. record { documents = keeps.ordered namespace; fits = keeps.fits namespace; unique = keeps.unique namespace }
 
 pub orderly : (state : State) → AreApart state → IsOrderly state
 orderly state are = record { ordered = λ namespace. (are namespace).documents; fits = λ namespace. (are namespace).fits; unique = λ namespace. (are namespace).unique }
 
--- the documents of a collection are sound, and no key of a unique index stands in two of them
+-- the documents of a collection are sound, and no key of a unique index is in two of them
 pub record IsWhole (namespace : List ℕ) (c : Collection) : Type 0 where
   pub documents : AreSound c.documents
   pub unique : are_broken c.indexes c.documents ≡ false
@@ -123,7 +123,7 @@ stored_id d stored is =
     subst GivesId is
     (within_limits (with_id_first d) (first_with_id (has_bad_name d) _ (id_given (codes "_id") refl (value_under (codes "_id") d) (without (codes "_id") d))))
 
--- ---- what becomes of a document that is updated begins with its `_id`, and is within the limits
+-- ---- an updated document begins with its `_id`, and is within the limits
 
 abbrev FitsAfter : Type 0
 FitsAfter = (update : form.Update) (d made : List Field) → applied update d ≡ Ok made → Fits made
@@ -159,7 +159,7 @@ abbrev pub IsSoundChange : Change → Type 0
 IsSoundChange (put d) = HasId d × IsSoundDocument d
 IsSoundChange (gone k) = Unit {0}
 
--- ---- what holds of all documents, and of one that is put, holds of all behind a change
+-- ---- what holds of all documents, and of one that is put, holds of all after a change
 
 module _ (P : List Field → Type 0) where
   by_order : (b : Bool) (d e : List Field) (ds after : List (List Field)) → P d → AllByRecursion P (e ∷ ds) → AllByRecursion P after → AllByRecursion P (cond b (d ∷ e ∷ ds) (e ∷ after))
@@ -230,7 +230,7 @@ module _ (laws : CollectionLaws) where
     steps_hold : ((what : Asked) → IsKeptBy P what) → (old new : State) (session : ℕ) (command : Command) (outcome : Outcome) → Stands P old.catalog.namespaces → BareStep old session command outcome new → Stands P new.catalog.namespaces
     steps_hold kept old new session command outcome h steps = step_holds P IsStored changes old new session command outcome kept (λ what write asks is. writes_hold what write is) h steps
 
--- a load keeps what its insert does
+-- a load keeps what its insert keeps
 module _ (P : List ℕ → Collection → Type 0) (Good : Change → Type 0) (changes : ChangesKeep P Good) where
   alone_holds : (old new : State) (namespace : List ℕ) (does : Result Effect Refusal) → AllByRecursion Good (changes_of does)
       → breaks (indexes_of namespace old.catalog.namespaces) (changes_of does) (documents_of namespace old.catalog.namespaces) ≡ false → Stands P old.catalog.namespaces → (does >>= λ effect. Ok (left_by namespace old effect)) ≡ Ok new → Stands P new.catalog.namespaces
@@ -249,7 +249,7 @@ module _ (P : List ℕ → Collection → Type 0) (Good : Change → Type 0) (ch
           alone_holds old new namespace (done_to (collection_of namespace old.catalog.namespaces) (insert_one d)) (does_good P Good changes namespace (collection_of namespace old.catalog.namespaces) (insert_one d) keeps (h namespace))
           (changes_unbroken (collection_of namespace old.catalog.namespaces) (insert_one d)) h is
 
--- ---- no key of a unique index comes into two documents, whatever these are
+-- ---- no key of a unique index gets into two documents, whatever these are
 
 module _ (laws : CollectionLaws) (unique_laws : UniqueLaws) where
   changes_apart : ChangesKeep IsApart IsStored
@@ -275,12 +275,12 @@ module _ (laws : CollectionLaws) (unique_laws : UniqueLaws) where
   pub loaded_apart : (old new : State) (text : List ℕ) (d : List Field) → AreApart old → loaded text d old ≡ Ok new → AreApart new
   loaded_apart old new text d h is = load_holds IsApart IsStored changes_apart old new (namespace_in text) d (inserts_hold laws IsApart apart_ordered changes_apart (d ∷ [])).0 h is
 
--- a load that is refused leaves the state
+-- a load that is refused leaves the state unchanged
 pub kept_by_load : {A B : Type 0} (text : List ℕ) (d : List Field) (old new : State) (result : Result A B) → (IsLoaded text d old new → IsOrderly new) → OnOk result (IsLoaded text d old new) → OnErr result (new ≡ old) → IsOrderly old → IsOrderly new
 kept_by_load text d old new (Ok done) keeps loads same orderly = keeps loads
 kept_by_load text d old new (Err refusal) keeps loads same orderly = subst IsOrderly (sym same) orderly
 
--- ---- and sound, if the documents of commands are, and no key of a unique index comes into two of them
+-- ---- documents stay sound, if those of commands are, and no key of a unique index gets into two of them
 
 module _ (laws : CollectionLaws) (unique_laws : UniqueLaws) where
   change_sound : (ds : List (List Field)) (change : Change) → AreSound ds → IsSoundChange change → AreSound (with_change ds change)
@@ -330,7 +330,7 @@ module _ (laws : CollectionLaws) (unique_laws : UniqueLaws) where
         subst KeepsSound same (statements_sound w.kind w.entries (soundly_asked asks command (asking.write w) sound asked).1)
     writes_sound command sound what write asked is = absurd cc
 
-    -- a collection without documents is whole, and a command leaves it with indexes that are
+    -- a collection without documents is whole, and stays so with the indexes that a command leaves it with
     whole_kept : (what : Asked) → IsKeptBy IsWhole what
     whole_kept what = record {
       none = none_whole;
@@ -341,6 +341,6 @@ module _ (laws : CollectionLaws) (unique_laws : UniqueLaws) where
     pub steps_sound : (old new : State) (session : ℕ) (command : Command) (outcome : Outcome) → IsSoundCommand command → AreWhole old → BareStep old session command outcome new → AreWhole new
     steps_sound old new session command outcome sound h steps = step_holds IsWhole IsSoundChange change_whole old new session command outcome whole_kept (writes_sound command sound) h steps
 
-  -- and so after a load of a sound document
+  -- collections stay whole after a load of a sound document
   pub loaded_sound : (old new : State) (text : List ℕ) (d : List Field) → IsSoundDocument d → AreWhole old → loaded text d old ≡ Ok new → AreWhole new
   loaded_sound old new text d sound h is = load_holds IsWhole IsSoundChange change_whole old new (namespace_in text) d (inserts_sound (d ∷ []) (sound.valid, tt)).0 h is

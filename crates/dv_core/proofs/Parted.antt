@@ -1,4 +1,4 @@
--- A text that is parted at its first dot.
+-- A text that is split at its first dot.
 use Rattle.std.proofs.Common.{◌≡◌, ◌<◌, ◌==◌, ◌&&◌, ◌+◌, ℕ, Bool, true, false, cond, not, List, [], ◌∷◌, take, length, Some, Bor, nat_lt, refl, arith}
 use Rattle.std.specs.List.{after_first, before_first, position_or_len}
 use Rattle.std.proofs.lemmas.Str.Pattern.{IsSplitOnceResult, split_once_first}
@@ -22,7 +22,8 @@ front_undotted : (bs : List ℕ) → has_dot (before_first (λ b. b == 46) bs) �
 front_undotted [] = refl
 front_undotted (b ∷ bs) = front_by (b == 46) b (dot_at bs) bs refl (front_undotted bs)
 
--- where what stands before the dot is a name but for dots, the text is a namespace if the rest is the name of a collection
+-- if the part before the first dot is not empty and has no zero byte, the text is a namespace if the rest is the name of a
+-- collection
 module _ (text : List ℕ) (database collection : Bor (List ℕ)) (split : IsSplitOnceResult 46 text (Some (database, collection))) (filled : true ≡ (nat_lt 0 (length database.now) && not (has_zero database.now))) where
   parts : (dot_at text < length text) × (database.now ≡ before_first (λ b. b == 46) text) × (collection.now ≡ after_first (λ b. b == 46) text)
   parts = split_once_first 46 text (Some (database, collection)) split (omega arith)

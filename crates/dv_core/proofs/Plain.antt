@@ -32,7 +32,7 @@ use Rattle.dv_path.specs.Names.{has_bad_name}
 use Rattle.dv_core.specs.Storable.{id_in, is_within_limits, with_id_first, storable}
 use Rattle.dv_core.specs.Writes.{insert_one, update_one, delete_one}
 
--- a refusal of a statement, which tells of no fault in bytes
+-- a refusal of a statement, which reports no fault in bytes
 abbrev pub IsPlain : Refusal → Type 0
 IsPlain (InvalidBson fault) = ⊥
 IsPlain refusal = Unit {0}
@@ -41,7 +41,7 @@ abbrev pub IsPlainly : {A : Type 0} → Result A Refusal → Type 0
 IsPlainly (Ok x) = Unit {0}
 IsPlainly (Err refusal) = IsPlain refusal
 
--- a statement that is refused so, whatever documents there are
+-- a statement that is refused only in this way, whatever documents there are
 pub record IsPlainStatement (statement : Statement) : Type 0 where
   pub plain : (documents : List (List Field)) → IsPlainly (statement documents)
 

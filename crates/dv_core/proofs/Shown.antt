@@ -1,4 +1,4 @@
--- The rows that are still to come of each cursor can be shown.
+-- The rows not yet returned by each cursor can be returned.
 use Rattle.std.proofs.Common.{◌≡◌, ◌⊎◌, inl, inr, ℕ, zero, suc, ℤ, ◌==◌, not, Bool, true, false, List, [], ◌∷◌, length, Option, Some, None, is_some, Result, Ok, Err, if◌then◌else◌, refl, sym, ap, subst}
 use Rattle.std.specs.FinMap as finite
 use Rattle.std.specs.List.{list_all}
@@ -40,7 +40,7 @@ use Rattle.dv_core.proofs.Works.{work_cursors}
 abbrev Rows : Type 0
 Rows = List (List Field)
 
--- the rows of a cursor, where it is one of the namespace
+-- the rows of a cursor can be returned, if it is one of the namespace
 abbrev IsShown : List ℕ → Option Cursor → Type 0
 IsShown namespace cursor = AreShown (cursor_rows namespace cursor)
 
@@ -59,7 +59,7 @@ left_shown : (count : ℕ) (single : Bool) (rows : Rows) → AreShown (Some rows
 left_shown count true rows shown = (tt, refl)
 left_shown count false rows shown = behind_shown (length (batch count rows)) rows shown
 
--- those of a cursor of a namespace, if it is this one
+-- the rows of a cursor, if it is over this namespace
 if_named : (b : Bool) (rows : Rows) → AreShown (Some rows) → AreShown (if b then Some rows else None)
 if_named true rows shown = shown
 if_named false rows shown = tt

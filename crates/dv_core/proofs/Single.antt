@@ -1,4 +1,4 @@
--- A find whose first batch is its only one needs no document of a collection behind those that it may have.
+-- A find whose first batch is its only one needs no document of a collection after those that the batch may have.
 use Rattle.std.proofs.Common.{◌≡◌, ℕ, Bool, true, cond, not, List, [], ◌∷◌, drop, map, Result, Ok, Err, refl, ap, sym, ◌∙◌}
 use Rattle.std.specs.List.{AllByRecursion, list_all}
 use Rattle.dv_value.specs.Spelling.{Fits}

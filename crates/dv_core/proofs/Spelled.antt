@@ -1,4 +1,4 @@
--- Every reply has a spelling.
+-- Every reply can be encoded.
 use Rattle.std.proofs.lemmas.Bool.{ltb-true}
 use Rattle.std.proofs.Common.{◌≡◌, ◌⊎◌, inl, inr, ℤ, ◌&&◌, ℕ, suc, ◌*◌, ◌≤◌, ◌<◌, ◌^◌, ◌-◌, min, Bool, true, false, not, Option, Some, None, nat_lt, List, [], ◌∷◌, ◌++◌, length, map, pos, negsuc, Result, Ok, Err, if◌then◌else◌, refl, sym, ap, subst, arith}
 use Rattle.std.proofs.lemmas.Bool.Decides.{nat_tests}
@@ -87,7 +87,7 @@ module _ (laws : BatchLaws) (count : ℕ) (rows : List (List Field)) where
   batch_within : has_too_large rows ≡ false → total_size (batch count rows) ≤ 16777216
   batch_within fit = within_limit_by (batch count rows) (rows_behind count rows) (subst (λ (rs : List (List Field)). has_too_large rs ≡ false) (sym (laws.front count rows)) fit) (laws.within count rows).1
 
--- what is told of a part of the state, or why it is refused
+-- the reply can be encoded; or, if the command is refused, the numbers in the refusal are bounded
 record IsSpelledSo {S : Type 0} (defined : Result (List Field × S) Refusal) : Type 0 where
   reply : (done : List Field × S) → defined ≡ Ok done → HasSpelling done.0
   refusal : (why : Refusal) → defined ≡ Err why → IsBounded why
@@ -125,7 +125,7 @@ module _ (laws : BatchLaws) (namespace : List ℕ) (named : IsNamespace namespac
   id_fits id [] fits = omega arith
   id_fits id (row ∷ left) fits = fits
 
--- an id that an int64 holds
+-- an id that fits in an int64
 number_small : (id : ℤ) → IsValue (int64 id) → cursor_number id < 2 ^ 63
 number_small (pos n) fits = omega arith
 number_small (negsuc n) fits = omega arith
@@ -191,7 +191,7 @@ write_or_refusal : (old : State) (b : Bool) (write : WriteSteps) (did : Written)
 write_or_refusal old true write did spelt = refusal_spelled OnView tt
 write_or_refusal old false write did spelt = spelt
 
--- what is made is answered, or why it can't be
+-- something is made, or the numbers in the refusal are bounded
 abbrev IsToldOf : {A : Type 0} → Result A Refusal → Type 0
 IsToldOf (Ok x) = Unit {0}
 IsToldOf (Err refusal) = IsBounded refusal
@@ -312,7 +312,7 @@ explained_spelled (by_index name) n named =
     staged (codes "IXSCAN") ((codes "index", string name) ∷ docs) n refl (omega arith) refl (more_valid (codes "index") (string name) docs refl refl refl named.0 (docs_valid n))
     (omega (arith, spelling-field (codes "index", string name) docs, length-string name, named.1, docs_size n))
 
--- how a view stands, which is one of two words
+-- the state of a view, which is one of two words
 stated : (word : List ℕ) (rows ticks : ℕ) → are_ascii word ≡ true → length word ≤ 8 → HasSpelling ((codes "state", string word) ∷ (codes "rows", long_count rows) ∷ (codes "ticks", long_count ticks) ∷ ok_fields)
 stated word rows ticks ascii short =
     let told : List Field = (codes "ticks", long_count ticks) ∷ ok_fields in
@@ -380,7 +380,7 @@ module _ (asks : AsksSoundly) (counts : CountsAreValid) (laws : BatchLaws) (pipe
       let carried : (step state session command).reply ≡ (answered state (answer_to state session asked)).reply = ap (λ (r : Result Asked Refusal). (answered state (r >>= answer_to state session)).reply) is in
       subst HasSpelling (sym carried) (asked_spelled state session (body_size command) asked (body_fits command sound) (soundly_asked asks command asked sound is) all)
 
--- ---- want of memory
+-- ---- running out of memory
 
 module _ (asks : AsksSoundly) (counts : CountsAreValid) where
   -- the reply of a write that is cut

@@ -1,4 +1,4 @@
--- The errors of statements have a spelling, and are told within what a reply may hold.
+-- The errors of statements can be encoded, and fit in a reply.
 use Rattle.std.proofs.Common.{◌≡◌, ℕ, suc, ◌+◌, ◌*◌, ◌≤◌, ◌<◌, ◌^◌, ◌/◌, ◌%◌, ◌-◌, min, decimal, Bool, true, false, nat_lt, List, [], ◌∷◌, ◌++◌, length, map, pos, Result, Ok, Err, if◌then◌else◌, length-append, refl, sym, subst, arith}
 use Rattle.std.proofs.lemmas.Bool.Decides.{nat_tests}
 use Rattle.std.proofs.lemmas.List.{length-map}
@@ -62,7 +62,7 @@ plain_short NamespaceExists plain = record { text = IsUtf8-ascii (codes "Namespa
 plain_short OnView plain = record { text = IsUtf8-ascii (codes "OnView") refl; few = omega arith; number = omega arith }
 plain_short ReadByView plain = record { text = IsUtf8-ascii (codes "ReadByView") refl; few = omega arith; number = omega arith }
 
--- a fault in bytes, whose numbers are told
+-- the text of a refusal, with the numbers of a fault in bytes
 abbrev pub IsShortText : List ℕ → Type 0
 IsShortText text = IsUtf8 text × (length text ≤ 60)
 
@@ -137,7 +137,7 @@ name_short ReadByView = ascii_short (codes "ReadByView") refl (omega arith)
 abbrev pub IsSmall : Tree → Type 0
 IsSmall e = IsValue e × (length (payload e) ≤ 140)
 
--- what is told in it behind its message
+-- the fields of an error after its message
 pub record IsBehind (behind : List Field) : Type 0 where
   pub valid : AreFields (fields_of behind)
   pub short : length (spelling behind) ≤ 19
@@ -171,7 +171,7 @@ error_small place refusal behind within plain is =
       size,
     )
 
--- what statements did so far, of which there are at most so many
+-- what was done by at most `count` statements
 pub record AreFew (count : ℕ) (w : Written) : Type 0 where
   pub statements : w.statements ≤ count
   pub errors : length w.errors ≤ count
@@ -257,11 +257,11 @@ update_spelled counts n changed (e ∷ es) few all =
       small_sizes (e ∷ es) all,
     ))
 
--- a reply that has a spelling whatever it counts, if its errors are few and small
+-- a reply that can be encoded whatever it counts, if its errors are few and small
 abbrev pub IsSpelled : (ℕ → ℕ → List Tree → List Field) → Type 0
 IsSpelled reply = (n changed : ℕ) (es : List Tree) → length es ≤ 100000 → AllByRecursion IsSmall es → HasSpelling (reply n changed es)
 
--- a write of so few statements, each refused plainly, whose reply has a spelling
+-- a write of few enough statements, each refused only plainly, whose reply can be encoded
 pub record IsTellable (write : WriteSteps) : Type 0 where
   pub within : length write.statements ≤ 100000
   pub plain : AllByRecursion IsPlainStatement write.statements
@@ -291,7 +291,7 @@ done_behind counts changes = record {
   message = refl;
 }
 
--- one that is cut: the errors of the statements before, and that of the one that found no memory
+-- a write that is cut: the errors of the statements before, and that of the one that ran out of memory
 pub cut_spelled : CountsAreValid → (write : WriteSteps) (old : Namespaces) (left : Written) → IsTellable write → IsCutWrite write old left → HasSpelling (write.reply left.n left.changed left.errors)
 cut_spelled counts write old left is c =
     let so_far : Written = with_all write.namespace write.ordered (nothing_written old) c.before in
@@ -308,7 +308,7 @@ statements_plain Insert entries = inserts_plain entries
 statements_plain Update entries = updates_plain entries
 statements_plain Delete entries = deletes_plain entries
 
--- the writes that are asked
+-- the writes that commands ask for
 module _ (counts : CountsAreValid) where
   reply_spelled : (kind : WriteKind) → IsSpelled (reply_by kind)
   reply_spelled Insert = λ n changed es. errors_spelled counts n es

@@ -1,4 +1,4 @@
--- The greeting and each refusal have a spelling.
+-- The replies to a greeting and to each refused command can be encoded.
 use Rattle.std.proofs.Common.{◌≡◌, true, false, List, [], ◌∷◌, length, pos, refl, arith}
 use Rattle.std.specs.Prelude.{codes}
 use Rattle.dv_value.specs.Spelling.{framed, element_spelling, counted, payload, spelling, AreFields}

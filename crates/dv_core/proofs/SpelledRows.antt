@@ -1,4 +1,4 @@
--- The documents that a find replies have a spelling.
+-- The documents in the reply to a find can be encoded.
 use Rattle.std.proofs.Common.{◌≡◌, ℕ, suc, ◌+◌, ◌*◌, ◌≤◌, ◌<◌, ◌^◌, ◌-◌, true, false, List, [], ◌∷◌, length, map, pos, refl, ap, arith}
 use Rattle.std.proofs.lemmas.Int.{fits_signed_from_abs}
 use Rattle.std.specs.Int.{w32, w64}
@@ -39,7 +39,7 @@ spelled d valid within = record { valid = valid; whole = refl; within = within }
 pub ping_spelled : Spells (reply_of []) (spelling (reply_of []))
 ping_spelled = spelled ok_fields ok_valid (omega (arith, ok_size))
 
--- ---- the documents that a find replies
+-- ---- the documents in the reply to a find
 
 documents_valid : (ds : List (List Field)) → AreSpellable ds → AreElements (elements_of (map document_of ds))
 documents_valid [] valid = tt
@@ -57,7 +57,7 @@ documents_count : (ds : List (List Field)) → 5 * length ds ≤ total_size ds
 documents_count [] = omega arith
 documents_count (d ∷ ds) = omega (arith, spelling-long d, documents_count ds)
 
--- a name under which a batch stands
+-- the name of a batch in a reply
 pub record IsBatchName (name : List ℕ) : Type 0 where
   pub ascii : are_ascii name ≡ true
   pub whole : has_zero name ≡ false

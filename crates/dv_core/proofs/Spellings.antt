@@ -1,4 +1,4 @@
--- How long spellings are.
+-- The lengths of encodings.
 use Rattle.std.proofs.Common.{◌≡◌, ℕ, suc, ◌+◌, ◌*◌, ◌≤◌, ◌<◌, ◌^◌, List, [], ◌∷◌, length, length-append, refl, arith}
 use Rattle.std.proofs.lemmas.Fmt.{length-decimal-le}
 use Rattle.dv_value.specs.Tree.{Tree, array, Field, fields_of, elements_of}

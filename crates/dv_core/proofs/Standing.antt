@@ -1,4 +1,4 @@
--- What holds of the collection of each namespace, where one is put or taken out, and where commands make and drop something.
+-- What holds of the collection of each namespace, if one is put or removed, and if commands make or drop something.
 use Rattle.std.proofs.Common.{◌≡◌, ℕ, Bool, true, false, cond, if◌then◌else◌, List, [], map, Option, Some, None, Result, Ok, Err, refl, sym, subst}
 use Rattle.std.proofs.lemmas.Slice.Eq.{bytes_eq-Decides}
 use Rattle.std.specs.FinMap as finite
@@ -44,7 +44,7 @@ module _ (P : List ℕ → Collection → Type 0) where
 
   -- ---- what is made, and what is left
 
-  -- the collection of a namespace keeps it with these indexes, if they are
+  -- the collection of a namespace keeps the property with these indexes, if they are made
   abbrev StandsWith : List ℕ → Namespaces → Result (List IndexForm) Refusal → Type 0
   StandsWith namespace namespaces indexes = (made : List IndexForm) → indexes ≡ Ok made → P namespace (record (collection_of namespace namespaces) { indexes = made })
 
@@ -93,7 +93,8 @@ module _ (P : List ℕ → Collection → Type 0) where
     dropped_stands namespace false true false none is = let same : record old { views = without_view namespace old.views } ≡ new = cc in as_made (record old { views = without_view namespace old.views }) same all
     dropped_stands namespace false false read none is = absurd cc
 
-  -- a collection keeps it where it is new, without its documents, and with the indexes that a command leaves it with
+  -- the property holds of a new collection; and a collection keeps it without its documents, and with the indexes that a command
+  -- leaves it with
   pub record IsKeptBy (what : Asked) : Type 0 where
     pub none : (name : List ℕ) → P name empty_indexed
     pub emptied : (name : List ℕ) (c : Collection) → P name c → P name (record c { documents = [] })
@@ -111,6 +112,6 @@ module _ (P : List ℕ → Collection → Type 0) where
       (λ indexes is. keeps.indexed d.namespace (collection_of d.namespace old.catalog.namespaces) indexes is (all d.namespace)) made.0
   made_stands old new what keeps made all = subst (λ (s : State). Stands s.namespaces) (sym made.1) all
 
--- what holds of the documents alone, and of none
+-- a property of the documents alone is kept, if it holds of no documents
 pub documents_kept : (Q : List ℕ → List (List Field) → Type 0) → ((name : List ℕ) → Q name []) → (what : Asked) → IsKeptBy (λ name c. Q name c.documents) what
 documents_kept Q none what = record { none = none; emptied = λ name c has. none name; indexed = λ name c indexes is has. has }

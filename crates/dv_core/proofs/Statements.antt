@@ -25,14 +25,14 @@ is_due-push ordered [] e = refl
 is_due-push ordered (x ∷ es) e = refl
 
 module _ (namespace : List ℕ) (ordered : Bool) (views : List ViewForm) where
-  -- how views stand behind changes of what stands so
+  -- the marks after changes to these collections
   abbrev StandBy : Written → List Change → Marks → Marks → Type 0
   StandBy so_far changes before after = AreMarkedBy namespace changes (lists_of so_far.namespaces) views before after
 
   -- ---- one statement
 
   module _ (so_far now : Written) (statement : Statement) (before after : Marks) where
-    -- it was carried out
+    -- the statement was carried out
     pub next_made : (matched : ℕ) (changes : List Change) → is_due ordered so_far.errors ≡ true → done_to (collection_of namespace so_far.namespaces) statement ≡ Ok (record { matched = matched; changes = changes })
         → now ≡ record { statements = suc so_far.statements; n = so_far.n + matched; changed = so_far.changed + length changes; errors = so_far.errors; namespaces = apply namespace changes so_far.namespaces }
         → StandBy so_far (next_changes namespace ordered so_far statement) before after → NextStep namespace ordered views so_far statement before (Ok Due) now after
@@ -55,11 +55,11 @@ module _ (namespace : List ℕ) (ordered : Bool) (views : List ViewForm) where
     abbrev noted_so : Refusal → ℕ → Written
     noted_so refusal done = with_stopped (record so_far { namespaces = new }) (record { refusal = refusal; done = done })
 
-    -- behind the first so many of its changes
+    -- the marks after the first `done` of its changes
     abbrev MarkedFor : ℕ → Type 0
     MarkedFor done = StandBy so_far (take done (changes_of does)) before after
 
-    -- one that is refused has no changes
+    -- a refused statement has no changes
     none_refused : (refusal : Refusal) (done : ℕ) → does ≡ Err refusal → done ≡ 0 → MarkedFor done → StandBy so_far (changes_of does) before after
     none_refused refusal done so none marked =
         subst (λ (changes : List Change). StandBy so_far changes before after) (sym (ap changes_of so)) (subst MarkedFor none marked)
@@ -98,28 +98,28 @@ module _ (namespace : List ℕ) (ordered : Bool) (views : List ViewForm) where
   counts_result so_far (Ok effect) = refl
   counts_result so_far (Err refusal) = refl
 
-  -- ---- where a write stands
+  -- ---- how far a write has got
 
   pub with_all-append : (w : Written) (xs ys : List Statement) → with_all namespace ordered w (xs ++ ys) ≡ with_all namespace ordered (with_all namespace ordered w xs) ys
   with_all-append w [] ys = refl
   with_all-append w (x ∷ xs) ys = with_all-append (with_next namespace ordered w x) xs ys
 
-  -- where no statement is due, those behind don't matter
+  -- if no statement is due, the rest don't matter
   pub with_all-stopped : (w : Written) (xs : List Statement) → is_due ordered w.errors ≡ false → with_all namespace ordered w xs ≡ w
   with_all-stopped w [] stopped = refl
   with_all-stopped w (x ∷ xs) stopped = rw stopped (with_all-stopped w xs stopped)
 
-  -- where the next statement is looked at, its changes are those that views are told
+  -- if the next statement is due, its changes are those that are passed on to views
   due_marked : (so_far : Written) (statement : Statement) (before after : Marks) → is_due ordered so_far.errors ≡ true → StandBy so_far (next_changes namespace ordered so_far statement) before after
       → StandBy so_far (due_changes namespace ordered views so_far statement) before after
   due_marked so_far statement before after due marked = rw due marked
 
   module _ (statements : List Statement) (old : Namespaces) (from : Marks) where
-    -- all statements were carried out, and views stand so
+    -- all statements were carried out, and led to these marks
     abbrev pub AreCarried : Written → Marks → Type 0
     AreCarried so_far marks = (so_far ≡ with_all namespace ordered (nothing_written old) statements) × AreMarkedByEach namespace ordered views (nothing_written old) statements from marks
 
-    -- the statements before the rest were carried out, and the rest is to be looked at
+    -- the statements before the rest were carried out, and the first of the rest is due
     pub record Reached (so_far : Written) (marks : Marks) (rest : List Statement) : Type 0 where
       pub before : List Statement
       pub stands : statements ≡ before ++ rest
@@ -159,7 +159,7 @@ module _ (namespace : List ℕ) (ordered : Bool) (views : List ViewForm) where
           (marks, reached.marked, subst (λ (w : Written). StandBy w (take cuts.made (next_changes namespace ordered w statement)) marks after) reached.carried_out cuts.marked),
         )
 
-        -- with those behind it, where it was carried out or refused
+        -- with the statements after it, if it was carried out or refused
         with_behind : (due : Bool) (now : Written) (after : Marks) (behind : List Statement) (last : Marks) → DoesNext namespace ordered views due so_far statement marks now after
             → AreMarkedByEach namespace ordered views now behind after last → AreMarkedByEach namespace ordered views (nothing_written old) (reached.before ++ statement ∷ behind) from last
         with_behind due now after behind last next marked =

@@ -33,11 +33,12 @@ abbrev answer_of : List Field → State → Answer
 answer_of reply state = record { reply = reply; state = state }
 
 module _ (old : State) (session : ℕ) (command : Command) where
-  -- how views stand where the command is refused so: as where it is carried out, unless memory runs out; and as where it is
+  -- the marks if the command is refused in this way: those of a command that is carried out, unless memory ran out; and those that
+  -- are allowed if memory ran out
   abbrev StandRefused : Result Asked Refusal → Refusal → Marks → Type 0
   StandRefused asked refusal marks = ((refusal ≡ WantOfMemory) ⊎ AreMarkedAll old asked marks) × AreMarkedForWant old asked marks
 
-  -- a command that is refused, be it for want of memory
+  -- a command that is refused, perhaps because memory ran out
   refused_steps : (new : State) (refusal : Refusal) (outcome : Outcome) → ((asked_by command >>= answer_to old session) ≡ Err refusal) ⊎ (refusal ≡ WantOfMemory) → Refuses refusal outcome → standing old.marks new ≡ old
       → StandRefused (asked_by command) refusal new.marks → MemoryStep old session command outcome new
   refused_steps new refusal (Reply reply) (inl e) (replies, known) same (inl want, stands) = absurd (known want)
@@ -46,7 +47,7 @@ module _ (old : State) (session : ℕ) (command : Command) where
   refused_steps new refusal (Wanting reply) why replies same stands = inl ((λ i. answer_of (replies i) (same i)), stands.1)
   refused_steps new refusal NoReply why told same stands = inr (answered old (Err WantOfMemory), inl (refl, stands.1), same)
 
-  -- all of it stands as it stood
+  -- the marks are unchanged
   same_stand : (asked : Result Asked Refusal) (refusal : Refusal) (marks : Marks) → marks ≡ old.marks → (asked ≡ Err refusal) ⊎ (refusal ≡ WantOfMemory) → StandRefused asked refusal marks
   same_stand (Ok asked) refusal marks same (inl e) = absurd cc
   same_stand (Ok asked) refusal marks same (inr want) = (inl want, inl same)
@@ -88,15 +89,15 @@ module _ (old : State) (session : ℕ) (command : Command) where
         by_outcome (Wanting told) tells = absurd tells
         by_outcome NoReply tells = inl (same ∙ ap (λ (a : Answer). a.state) (sym (ap (answered old) (does _ answers))), marks_so)
 
-    -- ---- a command that changes a part of the state, and how views stand
+    -- ---- a command that changes a part of the state, and the marks
 
-    -- it ends so, and views stand as where it is carried out or refused
+    -- it ends in this way, with the marks of a command that is carried out, or refused
     abbrev EndsSo : {S : Type 0} → Result (List Field × S) Refusal → S → Outcome → S → Marks → Type 0
     EndsSo {S} defined before outcome after marks =
         ((done : List Field × S) × (defined ≡ Ok done) × (after ≡ done.1) × TellsOrNot done.0 outcome × AreMarked old asked marks)
         ⊎ ((refusal : Refusal) × ((defined ≡ Err refusal) ⊎ (refusal ≡ WantOfMemory)) × Refuses refusal outcome × (after ≡ before) × StandRefused (Ok asked) refusal marks)
 
-    -- where it leaves them
+    -- if it leaves the marks unchanged
     ends_so : {S : Type 0} (defined : Result (List Field × S) Refusal) (before after : S) (outcome : Outcome) (marks : Marks) → Ends defined before outcome after → marks ≡ old.marks → (marks ≡ old.marks → AreMarked old asked marks)
         → EndsSo defined before outcome after marks
     ends_so defined before after outcome marks (inl (done, is, leaves, tells)) same left = inl (done, is, leaves, tells, left same)
@@ -111,13 +112,13 @@ module _ (old : State) (session : ℕ) (command : Command) where
     same_by (Ok reply) marks same left = left same
     same_by (Err refusal) marks same left = (inr (left same), inl same)
 
-    -- behind a reading
+    -- after reading
     pub read_by_so : (told : Result (List Field) Refusal) (marks : Marks) → StandRead asked old told marks → (marks ≡ marks_where_read (read_by asked) old → AreMarked old asked marks) → StandBy asked told marks
     read_by_so (Ok reply) marks read so = so read
     read_by_so (Err refusal) marks (inl read) so = (inr (so read), where_read (read_by asked) old marks read)
     read_by_so (Err refusal) marks (inr (want, some)) so = (inl want, inr some)
 
-    -- what stands under namespaces
+    -- a command that changes collections and views
     catalog_steps : (new : State) (defined : Result (List Field × stored.State) Refusal) (outcome : Outcome) → answer_to old session asked ≡ on_catalog old defined → new.cursors ≡ old.cursors
         → EndsSo defined old.catalog outcome new.catalog new.marks → MemoryStep old session command outcome new
     catalog_steps new defined outcome answers cursors (inl (done, is, leaves, tells, marks)) =
@@ -128,7 +129,7 @@ module _ (old : State) (session : ℕ) (command : Command) where
         refused_so (inl is) = inl (answers ∙ ap (on_catalog old) is)
         refused_so (inr want) = inr want
 
-    -- cursors
+    -- a command that changes cursors
     cursor_steps : (new : State) (defined : Result (List Field × Cursors) Refusal) (outcome : Outcome) → answer_to old session asked ≡ on_cursors old defined → new.catalog ≡ old.catalog
         → EndsSo defined old.cursors outcome new.cursors new.marks → MemoryStep old session command outcome new
     cursor_steps new defined outcome answers catalog (inl (done, is, leaves, tells, marks)) =
@@ -139,7 +140,7 @@ module _ (old : State) (session : ℕ) (command : Command) where
         refused_so (inl is) = inl (answers ∙ ap (on_cursors old) is)
         refused_so (inr want) = inr want
 
-    -- by what is given, and how views stand behind it; and by an end that leaves them
+    -- from a result, and the marks after it; and from an end that leaves the marks unchanged
     pub catalog_given : (new : State) (defined : Result (List Field × stored.State) Refusal) (told : Result (List Field) Refusal) (outcome : Outcome) → answer_to old session asked ≡ on_catalog old defined → new.cursors ≡ old.cursors
         → GivesAndLeaves defined old.catalog told new.catalog → TellsReply told outcome → StandBy asked told new.marks → MemoryStep old session command outcome new
     catalog_given new defined told outcome answers cursors gives tells stands =
@@ -158,7 +159,7 @@ module _ (old : State) (session : ℕ) (command : Command) where
         → Ends defined old.cursors outcome new.cursors → new.marks ≡ old.marks → (new.marks ≡ old.marks → AreMarked old asked new.marks) → MemoryStep old session command outcome new
     cursors_ended new defined outcome answers catalog ends same left = cursor_steps new defined outcome answers catalog (ends_so defined old.cursors new.cursors outcome new.marks ends same left)
 
-    -- nothing but, perhaps, how views stand
+    -- a command that changes at most the marks
     pub read_steps : (new : State) (defined told : Result (List Field) Refusal) (outcome : Outcome) → answer_to old session asked ≡ read_answer old defined → standing old.marks new ≡ old → UnlessWanting (λ reply. reply) defined told → TellsReply told outcome
         → StandBy asked told new.marks → MemoryStep old session command outcome new
     read_steps new defined (Ok reply) outcome answers same is tells marks =
@@ -168,7 +169,7 @@ module _ (old : State) (session : ℕ) (command : Command) where
 
   -- ---- a create, and a drop
 
-  -- what is refused leaves views as they stood, unless memory runs out
+  -- a refused create leaves the marks unchanged, unless memory runs out
   pub create_stands : (c : Create) (reply : List Field) (told : Result (List Field) Refusal) (before after : stored.State) (made : Result stored.State Refusal) (marks : Marks) → created c.namespace c.view old.catalog ≡ made → GivesAndLeaves (replying reply made) before told after
       → StandMade (names_of_new c.view) (marks_made c.view old.catalog.views old.marks) (marked old) told marks → StandBy (create c) told marks
   create_stands c reply (Ok told) before after (Ok state) marks is gives so = rw is so
@@ -233,7 +234,7 @@ pub on_collection : (write : WriteSteps) (old new : State) (outcome : Outcome) �
     → WritesOn write old outcome new
 on_collection write old new outcome on does views cursors = subst (λ (b : Bool). WritesWhere b write old outcome new) (sym on) (does, views, cursors)
 
--- ---- what is told of a batch
+-- ---- the result with a batch
 
 pub read_told : (old : State) (asked : Asked) (reply : Result Batch Refusal) (marks : Marks) → StandRead asked old reply marks → StandRead asked old (reply_told reply) marks
 read_told old asked (Ok batch) marks stand = stand

@@ -1,4 +1,4 @@
--- A document with one of its fields in front.
+-- A document with one of its fields moved to the front.
 use Rattle.std.specs.Prelude.{◌≡◌, ℕ, ◌≤◌, ◌&&◌, ◌↔◌, IsTrue, not, nat_lt, Bool, true, false, if◌then◌else◌, List, [], ◌∷◌, ◌++◌, length, slice_get, Option, Result, Ok, Err, Some, None, suc, refl, codes}
 use Rattle.std.specs.Str.{bytes_eq}
 use Rattle.std.proofs.Common.{ap, sym, ◌∙◌, subst, arith, append_assoc}
@@ -22,9 +22,9 @@ pub without-gone : (name : List ℕ) (fs : List Field) → AreNamed fs → has_n
 without-gone name [] named = refl
 without-gone name (f ∷ fs) named = grind (arith, without-gone name fs, (bytes_eq-Decides name f.0).0)
 
--- ---- the fields left to copy behind `_id`
+-- ---- the fields left to copy after `_id`
 
--- the copy so far, and what is left without `_id`, are the document with `_id` in front
+-- the copy so far, followed by the remaining fields without `_id`, is the document with `_id` as its first field
 pub record IsCopied (first : Field) (d copy left : List Field) : Type 0 where
   pub whole : copy ++ without (codes "_id") left ≡ first ∷ without (codes "_id") d
   pub apart : AreNamed (copy ++ without (codes "_id") left)
@@ -67,7 +67,7 @@ module _ {first : Field} {d copy left : List Field} (copied : IsCopied first d c
           let same : copy ++ without (codes "_id") left ≡ (copy ++ f ∷ []) ++ without (codes "_id") next = kept_here ∙ sym (append_assoc copy (f ∷ []) (without (codes "_id") next)) in
           record { whole = sym same ∙ copied.whole; apart = subst AreNamed same copied.apart; named = named_here.2 }
 
--- where `_id` stands in front, nothing is moved
+-- if `_id` is the first field, nothing is moved
 pub first_already : (d : List Field) (name : List ℕ) (value id : Tree) → Some (name, value) ≡ slice_get d 0 → true ≡ bytes_eq name (codes "_id") → value_under (codes "_id") d ≡ Some id
     → d ≡ (codes "_id", id) ∷ without (codes "_id") d
 first_already [] name value id here is under = absurd cc
@@ -75,13 +75,13 @@ first_already (f ∷ fs) name value id here is under =
     let same : f ≡ (name, value) = cc in
     grind (arith, ap (λ (g : Field). g.0) same, bytes_eq-symmetric (codes "_id") name, (bytes_eq-Decides (codes "_id") f.0).0)
 
--- ---- the limits, which don't see where a field stands
+-- ---- the limits, which don't depend on the order of fields
 
 record IsAsLarge (d e : List Field) : Type 0 where
   size : length (spelling d) ≡ length (spelling e)
   depth : fields_levels (fields_of d) ≡ fields_levels (fields_of e)
 
--- two fields in front, the other way round
+-- the first two fields, the other way round
 around : (f g : Field) (fs gs : List Field) → IsAsLarge (g ∷ fs) gs → IsAsLarge (g ∷ f ∷ fs) (f ∷ gs)
 around f g fs gs same = record {
   size = omega (arith, spelling-field g (f ∷ fs), spelling-field f fs, spelling-field g fs, spelling-field f gs, same.size);

@@ -1,4 +1,4 @@
--- Of a unique index no key stands in two documents of its collection.
+-- No key of a unique index is in two documents of its collection.
 use Rattle.std.proofs.Common.{◌≡◌, ◌||◌, not, ℕ, Bool, true, false, cond, if◌then◌else◌, List, [], ◌∷◌, ◌++◌, map, drop, length, nat_lt, Option, Some, None, Result, Ok, Err, is_some, refl, sym, ap, subst, ◌∙◌, append_assoc}
 use Rattle.std.proofs.lemmas.List.{append-nil}
 use Rattle.std.specs.List.{filter, list_any}
@@ -21,7 +21,7 @@ use Rattle.dv_keyed.specs.Index.{IndexForm, id_form}
 use Rattle.dv_index.specs.Indexed.{is_dropped, without_index}
 use Rattle.dv_index.specs.Unique.{are_broken, clashes}
 
--- what indexes are broken by
+-- what leaves unique indexes unbroken, by the laws of indexes
 pub record UniqueLaws : Type 0 where
   pub inserted_apart : (indexes : List IndexForm) (d : List Field) (ds : List (List Field)) → IsAscending ds → found (id_key d) ds ≡ None → are_broken indexes ds ≡ false → clashes indexes d ds ≡ false → are_broken indexes (inserted d ds) ≡ false
   pub replaced_apart : (indexes : List IndexForm) (d : List Field) (ds : List (List Field)) → IsAscending ds → IsSome (found (id_key d) ds) → are_broken indexes ds ≡ false → clashes indexes d ds ≡ false → are_broken indexes (replaced d ds) ≡ false
@@ -44,7 +44,7 @@ module _ (laws : UniqueLaws) where
 
 -- ---- indexes that are made and dropped
 
--- those that are made come behind the others
+-- the new indexes come after the others
 abbrev ComesBehind : List IndexForm → List IndexForm → Type 0
 ComesBehind indexes made = (more : List IndexForm) × (made ≡ indexes ++ more)
 

@@ -1,4 +1,4 @@
--- The stages of views stay sound, and so the rows that stand under each namespace are valid.
+-- The stages of views stay sound, and so the rows under each namespace are valid.
 use Rattle.std.proofs.Common.{◌≡◌, inl, inr, not, ℕ, Bool, true, false, cond, if◌then◌else◌, List, [], ◌∷◌, ◌++◌, map, Option, Some, None, Result, Ok, Err, refl, sym, ap, subst, ◌∙◌}
 use Rattle.std.specs.List.{AllByRecursion}
 use Rattle.std.specs.Str.{bytes_eq}
@@ -37,7 +37,7 @@ use Rattle.dv_views.specs.declared.fault.ViewFault.{ViewFault}
 abbrev Sound : List ViewForm → Type 0
 Sound views = AllByRecursion (λ v. IsSoundPipeline v.stages) views
 
--- ---- views that come and go
+-- ---- views that are created and dropped
 
 one_more : (views : List ViewForm) (v : ViewForm) → Sound views → IsSoundPipeline v.stages → Sound (views ++ v ∷ [])
 one_more [] v all sound = (sound, tt)
@@ -125,7 +125,7 @@ module _ (pipes : PipesStayValid) where
       by_name true = pipes sound.list v.stages v.source lists sound.valid sound.is valid
       by_name false = valid name
 
-  -- each view reads what the older ones make of the lists
+  -- each view reads the lists, with the rows of the older views over them
   over_valid : (views : List ViewForm) (lists : Lists) → Sound views → ValidLists lists → ValidLists (rows_over views lists)
   over_valid [] lists all valid = valid
   over_valid (v ∷ views) lists all valid = over_valid views (with_rows v lists) all.1 (with_valid v lists all.0 valid)
@@ -139,7 +139,7 @@ module _ (pipes : PipesStayValid) (state : State) (sound : AreSoundDocuments sta
 
 -- ---- a load
 
--- it leaves indexes, views and cursors
+-- a load leaves indexes, views and cursors unchanged
 pub record LeavesOthers (old new : State) : Type 0 where
   pub indexes : (name : List ℕ) → indexes_of name new.catalog.namespaces ≡ indexes_of name old.catalog.namespaces
   pub views : new.catalog.views ≡ old.catalog.views

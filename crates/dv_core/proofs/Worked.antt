@@ -32,7 +32,7 @@ use Rattle.dv_core.specs.Writes.{insert_one, write_by}
 use Rattle.dv_core.proofs.Marking.{no_view_marked}
 use Rattle.dv_index.specs.Indexed.{empty_indexed}
 
--- ---- what stands under t.c
+-- ---- the collection t.c
 
 abbrev pub t_c : List ℕ
 t_c = codes "t.c"
@@ -79,7 +79,7 @@ other_there =
 abbrev pub wrote_so : ℕ → ℕ → ℕ → List Tree → Namespaces → Written
 wrote_so statements n changed errors namespaces = record { statements = statements; n = n; changed = changed; errors = errors; namespaces = namespaces }
 
--- counted for as many documents as were changed
+-- statements that match as many documents as they change
 abbrev pub wrote : ℕ → ℕ → List Tree → Namespaces → Written
 wrote statements n errors namespaces = wrote_so statements n n errors namespaces
 
@@ -88,7 +88,7 @@ module _ (namespace : List ℕ) (ordered : Bool) (w : Written) (documents : List
   looked_at statement result gives =
       (λ i. cond (due i) (with_result namespace ordered w (done_to (are i) statement)) w) ∙ ap (with_result namespace ordered w) gives
 
-  -- it is put among the documents
+  -- the document is put among the others
   puts : (d stored : List Field) (after : List (List Field)) → insert_one d documents ≡ Ok (record { matched = 1; changes = put stored ∷ [] }) → with_put stored documents ≡ after
       → with_next namespace ordered w (insert_one d) ≡ wrote_so (suc w.statements) (w.n + 1) (w.changed + 1) w.errors (with_documents namespace after w.namespaces)
   puts d stored after gives leaves =
@@ -96,7 +96,7 @@ module _ (namespace : List ℕ) (ordered : Bool) (w : Written) (documents : List
       ∙ ap (λ (ds : List (List Field)). wrote_so (suc w.statements) (w.n + 1) (w.changed + 1) w.errors (with_documents namespace ds w.namespaces))
       (ap (λ (c : Collection). with_put stored c.documents) are ∙ leaves)
 
-  -- it is refused
+  -- the document is refused
   refuses : (d : List Field) (refusal : Refusal) → insert_one d documents ≡ Err refusal
       → with_next namespace ordered w (insert_one d) ≡ wrote_so (suc w.statements) w.n w.changed (w.errors ++ document_of (write_error w.statements refusal) ∷ []) w.namespaces
   refuses d refusal gives = looked_at (insert_one d) (Err refusal) (ap (λ (r : Result Effect Refusal). r >>= unless_it_breaks (with_only documents)) gives)
@@ -124,7 +124,7 @@ put_third =
     puts t_c false (wrote 2 1 (duplicate ∷ []) (holding (only 2 ∷ [])).catalog.namespaces) (only 2 ∷ []) (put_there (only 2 ∷ [])) refl (only 1) (only 1) (only 1 ∷ only 2 ∷ []) refl refl
     ∙ ap (wrote 3 2 (duplicate ∷ [])) (put_twice (only 1 ∷ only 2 ∷ []) (only 2 ∷ []) empty_store_state.catalog.namespaces)
 
--- an insert, whose reply is that of all inserts
+-- an insert; the replies of all inserts are built as its reply is
 abbrev two : asking.Write
 two = record { kind = Insert; namespace = t_c; entries = only 5 ∷ only 6 ∷ []; ordered = true }
 
@@ -192,7 +192,7 @@ refusals = record {
   namespace_too_long = λ state session. refl;
 }
 
--- ---- want of memory
+-- ---- running out of memory
 
 put_five : with_next t_c true nothing (insert_one (only 5)) ≡ wrote 1 1 [] (holding (only 5 ∷ [])).catalog.namespaces
 unfolding framed element_spelling payload counted
@@ -213,7 +213,7 @@ cut_second = record {
   left_so = ap (λ (w : Written). cut t_c true 0 w (insert_one (only 6))) (sym put_five);
 }
 
--- each view stands as it stood
+-- the marks may stay unchanged
 left_marked : (state : State) (asked : Result Asked Refusal) → AreMarkedForWant state asked state.marks
 left_marked state (Ok asked) = inl refl
 left_marked state (Err refusal) = refl

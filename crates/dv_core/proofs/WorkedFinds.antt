@@ -31,7 +31,7 @@ use Rattle.dv_core.specs.Step.{answered, on_cursors, write_answer}
 use Rattle.dv_core.specs.Writes.{delete_one, write_by}
 use Rattle.dv_core.proofs.Worked.{t_c, nothing_there, put_in, put_there, put_twice, with_only, wrote, wrote_so, looked_at}
 
--- one entry that takes documents out of c
+-- one entry that removes documents from c
 module _ (documents after : List (List Field)) (entry : List Field) (matched : ℕ) (change : Change) (changes : List Change) where
   deletes_there : done_to (with_only documents) (delete_one entry) ≡ Ok (record { matched = matched; changes = change ∷ changes }) → length (change ∷ changes) ≡ matched → with_changes documents (change ∷ changes) ≡ after
       → with_next t_c true (nothing_written (holding documents).catalog.namespaces) (delete_one entry) ≡ wrote 1 (0 + matched) [] (holding after).catalog.namespaces
@@ -42,11 +42,11 @@ module _ (documents after : List (List Field)) (entry : List Field) (matched : �
       (ap (λ (ds : List (List Field)). with_documents t_c (with_changes ds (change ∷ changes)) (holding documents).catalog.namespaces) (put_in documents)
       ∙ ap (λ (ds : List (List Field)). with_documents t_c ds (holding documents).catalog.namespaces) leaves ∙ put_twice after documents empty_store_state.catalog.namespaces)
 
--- the document with this number as its `_id` goes
+-- the document with this number as its `_id` is removed
 abbrev goes : ℕ → Change
 goes id = gone (id_key (only id))
 
--- a delete, whose reply is that of all deletes
+-- a delete; the replies of all deletes are built as its reply is
 abbrev no_entries : asking.Write
 no_entries = record { kind = Delete; namespace = t_c; entries = []; ordered = true }
 
@@ -61,7 +61,7 @@ deletes = record {
   two = λ session. refl;
 }
 
--- what stands under a meets these
+-- the value under a meets these conditions
 abbrev at_a : Conditions → Members
 at_a conditions = more_members (at_path (codes "a" ∷ []) conditions) no_members
 

@@ -18,7 +18,7 @@ module _ (old : State) (documents : List (List Field)) (are : collection_of t_c 
   abbrev left : Collection → Result State Refusal
   left c = done_to c (insert_one d) >>= λ effect. Ok (left_by t_c old effect)
 
-  -- what comes of what the statement does to these documents
+  -- the state after this effect on the documents, or the refusal
   abbrev left_of : Result Effect Refusal → Result State Refusal
   left_of does = does >>= unless_it_breaks (with_only documents) >>= λ effect. Ok (left_by t_c old effect)
 

@@ -38,7 +38,7 @@ use Rattle.dv_cursor.specs.Batch.{batch}
 use Rattle.dv_core.specs.Step.{answered, on_catalog, on_cursors, read_answer, replying}
 use Rattle.dv_core.proofs.Worked.{t_c, nothing_in, nothing_there, put_in}
 
--- ---- what stands where
+-- ---- what is under each namespace
 
 abbrev two_standing : Standing
 two_standing = collection (record (collection_of t_c empty_store_state.catalog.namespaces) { documents = two })
@@ -53,14 +53,14 @@ same_gone : (b : Bool) (there : Option Standing) → cond b None (cond b there N
 same_gone true there = refl
 same_gone false there = refl
 
--- what was put goes
+-- the collection that was put is removed again
 put_and_gone : finite.remove (holding two).catalog.namespaces t_c ≡ empty_store_state.catalog.namespaces
 put_and_gone =
     same_namespaces _ _ (λ q. get-remove (holding two).catalog.namespaces t_c q
     ∙ ap (cond (bytes_eq t_c q) None) (get-insert empty_store_state.catalog.namespaces t_c two_standing q ∙ ap (cond (bytes_eq t_c q) (Some two_standing)) (finite.get-empty (slice_cmp nat_cmp) q))
     ∙ same_gone (bytes_eq t_c q) (Some two_standing) ∙ sym (finite.get-empty (slice_cmp nat_cmp) q))
 
--- ---- commands, by whether a collection stands there
+-- ---- commands, by whether there is a collection
 
 module _ (old : State) (namespace : List ℕ) (b : Bool) (there : is_collection namespace old.catalog.namespaces ≡ b) where
   creates : (view : Option ViewOn) → answered old (on_catalog old (replying (reply_of []) (created namespace view old.catalog)))
@@ -80,7 +80,7 @@ module _ (old : State) (namespace : List ℕ) (b : Bool) (there : is_collection 
 abbrev on : List ℕ → Option ViewOn
 on source = Some (record { source = source; stages = [] })
 
--- what a view makes of the documents that c has, in the reply to a find, and in that to a pipeline without stages
+-- the rows of a view over the documents of c, in the replies to a find and to an aggregate without stages
 module _ (name : List ℕ) (makes : List (List Field) → List (List Field)) (old : State) (documents : List (List Field)) (session : ℕ) (are : documents_of t_c old.catalog.namespaces ≡ documents) where
   shows : answered old (on_cursors old (first_batch session name 101 false (scan no_members [] 0 0 (makes (documents_of t_c old.catalog.namespaces))) old.cursors))
       ≡ answered old (on_cursors old (first_batch session name 101 false (scan no_members [] 0 0 (makes documents)) old.cursors))
@@ -123,7 +123,7 @@ views = record {
   nothing_there = λ session. drops empty_store_state (codes "t.v") false (none_there (codes "t.v"));
 }
 
--- ---- how they stand
+-- ---- the marks of the views
 
 -- a stale view counts nothing of its share
 stale_counted : (all : List Share) → all_counted all (stale ∷ []) ≡ stale ∷ []
@@ -131,7 +131,7 @@ stale_counted [] = refl
 stale_counted (share ∷ []) = refl
 stale_counted (share ∷ other ∷ rest) = refl
 
--- a document comes into nothing, through both views
+-- a document is inserted where there is none; the change passes through both views
 five_put : next_changes t_c true (nothing_written empty_store_state.catalog.namespaces) (insert_one (only 5)) ≡ put (only 5) ∷ []
 unfolding payload framed element_spelling
 five_put = ap (λ (c : Collection). changes_of (done_to c (insert_one (only 5)))) (nothing_there t_c) ∙ refl

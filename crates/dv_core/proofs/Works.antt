@@ -1,4 +1,4 @@
--- What stays where something is done for a command, by what there is to do.
+-- What stays unchanged when a task is carried out for a command, by the kind of task.
 use Rattle.std.proofs.Common.{◌≡◌, Bool, true, false, if◌then◌else◌, List, Result, Ok, Err, refl}
 use Rattle.dv_value.specs.Tree.{Field}
 use Rattle.dv_catalog.specs.State.{is_view}
@@ -14,7 +14,7 @@ MovesNone (moving result) = ⊥
 MovesNone work = Unit {0}
 
 module _ (state : State) where
-  -- what a reply, a write, and what moves cursors or changes collections and views leave
+  -- what a reply alone, a write, and a change of cursors or of collections and views leave unchanged
   read_cursors : (result : Result (List Field) Refusal) → (answered state (read_answer state result)).state.cursors ≡ state.cursors
   read_cursors (Ok reply) = refl
   read_cursors (Err refusal) = refl

@@ -1,4 +1,4 @@
--- Definitions and lemmas that need not be believed: invariants, codings, and words of bodies and proofs.
+-- Definitions and lemmas that need not be believed: invariants, codings, and what only bodies and proofs use.
 pub mod Examples
 pub mod StateCode
 pub mod StepParts

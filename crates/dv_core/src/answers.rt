@@ -29,7 +29,7 @@ pub(crate) fn outcome_of(
     }
 }
 
-/// What is told of a command that replies with rows: its reply, or why it is refused.
+/// The result of a command that replies with rows: its batch, or why it is refused.
 pub(crate) fn batch_or_refusal(
     alloc: Global,
     reserve: &mut Reserve,
@@ -45,7 +45,7 @@ pub(crate) fn batch_or_refusal(
     }
 }
 
-/// The outcome of a command that was carried out, and whose reply may have found no memory.
+/// The outcome of a command that was carried out, and for whose reply memory may have run out.
 pub(crate) fn told(reply: Result<Document, NoMemory>) -> Outcome
     ensures ok { IfOk reply (λ told. result ≡ Reply told) }
     ensures err { OnErr reply (result ≡ NoReply) }
@@ -69,7 +69,7 @@ pub(crate) fn refuse(alloc: Global, reserve: &mut Reserve, refusal: Refusal) -> 
     }
 }
 
-/// The outcome of a command that is refused for want of memory. The reserve is given back for its reply.
+/// The outcome of a command that is refused because memory ran out. The reserve is given back for its reply.
 fn refuse_for_memory(alloc: Global, reserve: &mut Reserve) -> Outcome
     ensures { Refuses WantOfMemory result }
 {

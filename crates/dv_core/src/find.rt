@@ -1,4 +1,4 @@
-//! First batches of rows, and the cursors that keep what is left behind them.
+//! First batches of rows, and the cursors that keep the rows after them.
 
 ghost use Rattle.std.specs.Prelude.{◌≡◌, ◌<◌, ◌^◌, List as Sequence, IfOk, map};
 ghost use Rattle.std.specs.String.{string_bytes};
@@ -18,7 +18,7 @@ use dv_cursor::{Cursors, Rows};
 use dv_value::{Document, List, NoMemory, Value, fits};
 use std::alloc::Global;
 
-/// A first batch but for its rows.
+/// A first batch, except its rows.
 pub(crate) struct First {
     pub(crate) session: u32,
     pub(crate) namespace: String,
@@ -28,8 +28,8 @@ pub(crate) struct First {
     pub(crate) single: bool,
 }
 
-/// How many documents a find needs whose first batch is its only one: no more than may be in that, and than its limit, where 0 is
-/// none.
+/// How many documents a find needs if its first batch is the only one: the smaller of its batch size and its limit, where 0 means
+/// no limit.
 pub(crate) fn rows_needed(limit: u64, batch_size: u64) -> u64
     ensures { (rows : Sequence Row) → batch batch_size (limited result rows) ≡ batch batch_size (limited limit rows) }
 {
@@ -41,9 +41,9 @@ pub(crate) fn rows_needed(limit: u64, batch_size: u64) -> u64
     }
 }
 
-/// The reply with the first batch of these rows; where rows are left behind it, and it isn't the only one, a cursor keeps
-/// them. Refused with `LimitReached` where there is no room for one more cursor; then with `TooLarge` where one of the rows
-/// is over 16,777,216 bytes or 100 levels; and with `WantOfMemory`. Then nothing is changed.
+/// The reply with the first batch of these rows. If rows are left after it, and it isn't the only one, a cursor keeps them. Refused
+/// with `LimitReached` if there is no room for this cursor; then with `TooLarge` if one of the rows is over 16,777,216 bytes or 100
+/// levels; and with `WantOfMemory`. Then nothing is changed.
 pub(crate) fn first_batch(
     alloc: Global,
     cursors: &mut Cursors,
@@ -79,7 +79,7 @@ pub(crate) fn first_batch(
     if too_large {
         return Err(Refusal::TooLarge);
     }
-    // Behind the change nothing may want memory.
+    // After the change nothing may run out of memory.
     let told = String::from_str(alloc, &namespace)?;
     cursors.add(session, namespace, rows)?;
     Ok(Batch {
@@ -90,7 +90,7 @@ pub(crate) fn first_batch(
     })
 }
 
-/// The rows of the first batch, and those behind it. Fails when memory runs out.
+/// The rows of the first batch, and the rows after it. Fails when memory runs out.
 #[tactic(auto, using(crate::proofs::Firsts::few_are_all, crate::proofs::Firsts::none_behind))]
 fn first_rows(
     alloc: Global,

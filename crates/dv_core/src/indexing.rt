@@ -1,4 +1,4 @@
-//! What is asked of indexes.
+//! Commands on indexes.
 
 ghost use Rattle.std.specs.Prelude.{◌≡◌, IfOk, map};
 ghost use Rattle.dv_catalog.specs.Inner.IndexParts.{explained_seen};
@@ -15,7 +15,7 @@ use dv_index::NewIndex;
 use dv_value::{Document, NoMemory};
 use std::alloc::Global;
 
-/// The reply that tells how a find is answered. Refused when memory runs out.
+/// The reply that says how a find is answered. Refused when memory runs out.
 pub(crate) fn explained(alloc: Global, told: Explained) -> Result<Document, Refusal>
     ensures { UnlessWanting (λ reply. reply) (Ok (explained_reply (explained_seen told))) result }
 {

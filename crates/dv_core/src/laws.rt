@@ -37,10 +37,11 @@ pub fn a_refused_command_changes_nothing()
     ensures wanting { (reply : List Field) → SaysRefused reply → ChangesNothing (Wanting reply) }
 {}
 
-/// Only a write, a create, a drop, and what makes and drops indexes change what is under namespaces; no other command does,
-/// whatever its reply is. Only a find, a pipeline, and what asks more of cursors or ends them change cursors. A command that asks
-/// nothing changes nothing, as it is refused. Of the first a write and what makes and drops indexes leave the views, a create and
-/// indexes the documents of each namespace, and a drop those of each other namespace.
+/// Only insert, update, delete, create, drop, createIndexes and dropIndexes change collections, or which indexes and views there
+/// are; no other command does, whatever its reply is. Only find, aggregate, getMore and killCursors change cursors. A command that
+/// is refused when it is parsed changes nothing. Writes, createIndexes and dropIndexes leave the views unchanged. Create,
+/// createIndexes and dropIndexes leave the documents of each namespace unchanged, and a drop leaves those of every other namespace
+/// unchanged.
 pub fn only_writes_change_documents()
     ensures others { (asked : Asked) → asked_write asked ≡ None → makes asked ≡ false → Keeps (Ok asked) (λ state. state.catalog) }
     ensures cursors { (asked : Asked) → moves asked ≡ false → Keeps (Ok asked) (λ state. state.cursors) }
@@ -52,13 +53,13 @@ pub fn only_writes_change_documents()
         → Keeps (Ok asked) (λ state. state.catalog.views) × ((namespace : List ℕ) → KeepsDocuments (Ok asked) namespace) }
 {}
 
-/// If memory runs out for no view, a step leaves views as they are counted: so this is one of the steps that are allowed.
+/// The step in which memory never runs out, and live views count all of its work, is one of the steps that are allowed.
 pub fn the_counted_step_is_allowed()
     ensures { (state : State) (session : ℕ) (command : Command) → IsAllowed state session command (counted_step state session command) }
 {}
 
-/// Each view has its mark, and no other marks are there: so it is before the first command, and so after each command, each
-/// load and each end of a session.
+/// Each view has its mark, and there are no other marks. This holds before the first command, and after each command, each load and
+/// each end of a session.
 pub fn each_view_has_its_mark()
     ensures before { HasItsMarks empty_store_state }
     ensures after { (old new : State) (session : ℕ) (command : Command) (outcome : Outcome) → HasItsMarks old
@@ -67,14 +68,14 @@ pub fn each_view_has_its_mark()
     ensures ended { (session : ℕ) (state : State) → HasItsMarks state → HasItsMarks (end_session session state) }
 {}
 
-/// A delete leaves some of the documents of each namespace, in their order, whatever it is answered.
+/// A delete leaves some of the documents of each namespace, in their order, whatever its reply is.
 pub fn a_delete_leaves_a_part()
     ensures { (asked : asking.Write) → asked.kind ≡ Delete → EachStep (Ok (asking.write asked)) LeavesPart }
 {}
 
-/// What every store keeps, whatever commands and loads bring: the documents of each namespace are in the order of their `_id`s, no
-/// two of which are equal, whatever the width of their integers; each is within the limits for documents; and no key of a unique
-/// index is in two of them. So it is before the first command, and so after each command, each load and each end of a session.
+/// What holds in every store, whatever commands and loads bring: the documents of each namespace are in the order of their `_id`s,
+/// no two of which are equal, whatever the width of their integers; each is within the limits for documents; and no key of a unique
+/// index is in two of them. This holds before the first command, and after each command, each load and each end of a session.
 pub fn states_stay_orderly()
     ensures before { IsOrderly empty_store_state }
     ensures after { (old new : State) (session : ℕ) (command : Command) (outcome : Outcome) → IsOrderly old
@@ -98,10 +99,11 @@ pub fn states_stay_orderly()
     dv_index::laws::indexes_break_one_by_one();
 }
 
-/// Every state that is reached is sound, if the documents that commands bring, and those that are loaded, are: its documents, the
-/// names of its indexes, its unique indexes, of which no key is in two documents, its views, which were asked by valid values, and
-/// its cursors, whose rows that are still to come are valid and none of them over the limits. So it is before the first command,
-/// and so after each command, each load and each end of a session.
+/// Every state that is reached is sound, if the documents of commands and loads are. In a sound state the documents of each
+/// namespace are in the order of their `_id`s, valid and within the limits; the names of indexes are valid; no key of a unique
+/// index is in two documents; the stages of views were parsed from valid values; and the rows that cursors have not returned yet
+/// are valid and within the limits. This holds before the first command, and after each command, each load and each end of a
+/// session.
 pub fn states_stay_sound()
     ensures before { IsSound empty_store_state }
     ensures after { (old new : State) (session : ℕ) (command : Command) (outcome : Outcome) → IsSoundCommand command → IsSound old
@@ -131,9 +133,10 @@ pub fn states_stay_sound()
     dv_pipe::laws::what_comes_out_is_valid();
 }
 
-/// Replies can be written: that to a command that asks something, if the command's documents and the state are sound, as the rows
-/// under a namespace are valid then; that to one that ran out of memory, also if it was cut among its statements; and that to one
-/// that is refused.
+/// Replies can be encoded: the reply to a command that is not refused when it is parsed, if the command's documents and the state
+/// are sound, since the rows under each namespace are valid then; the reply to a command that ran out of memory, also if it was cut
+/// in one of its statements, if the command's documents are sound; and the reply to a refused one, if the place of a fault in bytes
+/// is below 2^64.
 pub fn replies_have_a_spelling()
     ensures answered { (state : State) (session : ℕ) (command : Command) (asked : Asked) → IsSoundCommand command → IsSound state
         → asked_by command ≡ Ok asked → HasSpelling (step state session command).reply }
@@ -149,17 +152,17 @@ pub fn replies_have_a_spelling()
     dv_pipe::laws::what_comes_out_is_valid();
 }
 
-/// An ordered write reports at most one error; and if it is cut, only that.
+/// An ordered write reports at most one error; and if it is cut, only the error of the statement that ran out of memory.
 pub fn an_ordered_write_ends_at_its_first_error()
     ensures whole { (write : WriteSteps) (old : Namespaces) → write.ordered ≡ true → length (carry_out write old).errors ≤ 1 }
     ensures cut { (write : WriteSteps) (old : Namespaces) (left : Written) → write.ordered ≡ true → IsCutWrite write old left → length left.errors ≡ 1 }
 {}
 
-/// What the replies of a run return of a cursor's rows, whether they are left out or not: the first batch and the batches of later
-/// getMores, joined, are a prefix of the rows at the moment of the find or the pipeline, whatever others do in between; and all of
-/// them once a reply said that none is left, by the id 0, unless the first batch was to be the only one. What a getMore returns of
-/// a cursor are the rows and the id of its reply; and what a command leads to, also if memory runs out, are moves of a run: its
-/// own, and the views' states afterwards.
+/// What the replies of a run return of a cursor's rows, even if a reply is missing: the first batch and the batches of later
+/// getMores, joined, are a prefix of the rows at the moment of the find or the aggregate, whatever other sessions do in between.
+/// They are all of these rows once a reply says, by the id 0, that none is left, unless the first batch was to be the only one.
+/// What counts here as the rows and the id of a getMore is what its reply has. What a command leads to, also if memory runs out, is
+/// what an event of a run leads to, once the marks of the views are set.
 pub fn a_cursors_batches_are_a_front()
     ensures find { (before : List Move) (asked : Find) → let state = state_of_run before in
         EachAnswer state (find asked) (ShowsFound asked state) }
@@ -179,9 +182,9 @@ pub fn the_end_of_a_session_leaves_documents()
     ensures { (session : ℕ) (state : State) → (end_session session state).catalog ≡ state.catalog }
 {}
 
-/// Loading a document is what an insert of only that document does, in whichever session: it leaves the same state; if it is
-/// refused, an insert on a view is refused for that, and any other one reports that error of its statement. The text that names a
-/// namespace is the namespace.
+/// Loading a document is what an insert of only that document does, in whichever session: it leaves the same state. If the load is
+/// refused because there is a view, so is the insert; if it is refused for another reason, the insert reports that error of its
+/// statement. The text that names a namespace is the namespace.
 pub fn a_load_is_an_insert_of_one_document()
     ensures stored { (state new : State) (asked : asking.Write) (d : List Field) → insert_alone asked.namespace d state ≡ Ok new
         → AnswersInsert state asked d (Ok new) }
@@ -247,8 +250,8 @@ pub fn wants_by_example()
     ensures { examples.WantExamples }
 {}
 
-/// A row over the limits refuses the command, wherever it is, also after the first batch; that there is no room for a cursor is
-/// reported before it.
+/// If a row is over the limits, the command is refused, wherever the row is, also after the first batch. If there is no room for
+/// the cursor that the command needs, that is reported first.
 pub fn each_row_is_within_the_limits()
     ensures refused { (count : ℕ) (single : Bool) (rows : List (List Field)) (cursors : Cursors) → has_too_large rows ≡ true → IsSome (free_id cursors)
         → FirstIsRefused TooLarge count single rows cursors }

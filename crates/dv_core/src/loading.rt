@@ -10,13 +10,13 @@ use dv_command::Refusal;
 use dv_command::namespaces::namespace;
 use std::alloc::Global;
 
-/// The namespace that a text is: the name of a database, a dot, and the name of a collection. Refused with `BadValue`
-/// where one of them is no such name, where there is no dot, and where the text is over 120 bytes; and with `WantOfMemory`.
+/// The namespace that a text names: the name of a database, a dot, and the name of a collection. Refused with `BadValue` if one of
+/// them is no such name, if there is no dot, or if the text is over 120 bytes; and with `WantOfMemory`.
 pub(crate) fn namespace_in(alloc: Global, text: &str) -> Result<String, Refusal>
     ensures { UnlessWanting string_bytes (defined.namespace_in text.now) result }
 {
     match text.split_once('.') {
-        // There is no dot in front of the first one.
+        // There is no dot before the first one.
         Some((database, collection)) if is_filled(database) => {
             namespace(alloc, database, collection)
         }

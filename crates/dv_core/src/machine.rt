@@ -24,13 +24,13 @@ use dv_views::laws::what_is_shown_is_right;
 use std::alloc::Global;
 use std::marker::Model;
 
-/// All that commands read and change. What is true of it at every moment, `Store` says.
+/// All that commands read and change. `Store` says what is true of it at every moment.
 #[derive(Debug, Drop)]
 pub(crate) struct Machine {
     alloc: Global,
     catalog: Catalog,
     cursors: Cursors,
-    /// Replies are made beside these.
+    /// Replies share these.
     names: ReplyNames,
 }
 
@@ -67,7 +67,7 @@ impl Machine {
     ghost use Rattle.dv_core.specs.Inner.WriteParts.{WritesOn};
     ghost use Rattle.dv_core.specs.Writes.{write_by};
 
-    /// One without any collection.
+    /// A machine without any collection.
     pub(crate) fn new(alloc: Global) -> Self
         ensures { result ≡ empty_store_state }
     {
@@ -135,8 +135,8 @@ impl Machine {
         body_of(self.alloc, &self.names, batch)
     }
 
-    /// Carries out a write. A statement one of whose changes, made one after the other, would find one of its keys of a
-    /// unique index under another `_id` is refused before the first of them.
+    /// Carries out a write. The changes of a statement are made one after the other. If one of them would put a key of a unique
+    /// index under a second `_id`, the statement is refused before its first change.
     fn write(&mut self, write: Write<'_>, reserve: &mut Reserve) -> Outcome
         ensures { WritesOn (write_by (write_seen write.entry)) self.old result self.new }
     {
@@ -171,8 +171,8 @@ impl Machine {
         first_batch(self.alloc, &mut self.cursors, first, rows)
     }
 
-    /// The find, of no more documents of a collection than its batch may have where that is the only one: none of them is over
-    /// the limits, for which the find would be refused.
+    /// The find. If its first batch is the only one and it reads a collection, its limit is lowered to what that batch may have. No
+    /// document of a collection is over the limits, so the find can't be refused for a document that is left out.
     fn with_rows_needed(&self, mut find: Find) -> Find
         requires { AreWithinLimits self.now }
         ensures reply { AreAnsweredAlike (find_seen result) (find_seen find) self.now.catalog }
@@ -228,7 +228,7 @@ impl Machine {
         ensures reply { GivesAndLeaves (reply_to_create (create_seen create) self.old.catalog) self.old.catalog result self.new.catalog }
         ensures marks { StandCreated (create_seen create).view (marked self.old) result self.new.marks }
     {
-        // Behind the change nothing may want memory.
+        // After the change nothing may run out of memory.
         let reply = reply_of(Document::new(self.alloc))?;
         self.catalog.create(create)?;
         Ok(reply)
@@ -240,7 +240,7 @@ impl Machine {
         ensures marks { StandSo (AreMarkedByDrop (drop_seen drop).namespace self.old.catalog self.old.marks) self.old.marks result self.new.marks }
     {
         let DropNamespace { namespace } = drop;
-        // Behind the change nothing may want memory.
+        // After the change nothing may run out of memory.
         let told = String::from_str(self.alloc, &namespace)?;
         let reply = drop_reply(self.alloc, told)?;
         self.catalog.remove(&namespace)?;
@@ -297,7 +297,7 @@ impl Machine {
         Ok(reply)
     }
 
-    /// Loads a document into the collection of a namespace, beside any session.
+    /// Loads a document into the collection of a namespace, outside any session.
     pub(crate) fn load(&mut self, namespace: &str, document: Document) -> Result<(), i32>
         ensures loaded { OnOk result (loading.IsLoaded namespace.now document self.old self.new) }
         ensures code { IfErr result (λ code. loading.IsCodeOf (loading.loaded namespace.now document self.old) code) }
@@ -309,7 +309,8 @@ impl Machine {
         }
     }
 
-    /// Inserts a document into the collection of the namespace that a text is. Refused as a load is; then nothing is changed.
+    /// Inserts a document into the collection of the namespace that a text names. Refused for the same reasons as a load; then
+    /// nothing is changed.
     fn insert_alone(&mut self, text: &str, document: &Document) -> Result<(), Refusal>
         ensures { LoadsOne text.now document.now self.old result self.new }
     {

@@ -1,4 +1,4 @@
-//! What is asked of cursors that are there.
+//! Commands on existing cursors.
 
 ghost use Rattle.std.specs.Prelude.{◌≡◌, ◌<◌, ◌^◌, Ok, IfOk, OnErr, OnOk, is_some, length};
 ghost use Rattle.std.specs.Option.{option_map};
@@ -16,8 +16,8 @@ use dv_cursor::{Cursors, Rows};
 use dv_value::{Document, List, NoMemory, Value};
 use std::alloc::Global;
 
-/// The reply with the next rows of a cursor, which goes when its rows are out. Refused with `CursorNotFound` where the
-/// session has no such cursor over the namespace, and with `WantOfMemory`; then nothing is changed.
+/// The reply with the next rows of a cursor, which is closed when no rows are left. Refused with `CursorNotFound` if the session
+/// has no such cursor over the namespace, and with `WantOfMemory`; then nothing is changed.
 pub(crate) fn next_batch(
     cursors: &mut Cursors,
     session: u32,
@@ -47,7 +47,8 @@ pub(crate) fn next_batch(
     })
 }
 
-/// Ends the cursors of a session over a namespace that have one of these ids, and tells which went and which weren't there.
+/// Ends the cursors of a session over a namespace that have one of these ids, and reports which ids had a cursor and which had
+/// none.
 pub(crate) fn kill_all(
     alloc: Global,
     reserve: &mut Reserve,
@@ -77,7 +78,7 @@ fn kill_each(
     ensures left { OnOk result (cursors.new ≡ more.without_cursors session namespace.now ids.now cursors.old) }
     ensures err { OnErr result (cursors.new ≡ cursors.old) }
 {
-    // Behind the first change nothing may want memory.
+    // After the first change nothing may run out of memory.
     let mut went = vec![in alloc; false; ids.len()]?;
     'ids: for (place, id) in ids.iter().enumerate() {
         went[place] = kill_one(cursors, session, namespace, *id);
@@ -96,7 +97,7 @@ fn kill_one(cursors: &mut Cursors, session: u32, namespace: &str, id: i64) -> bo
     }
 }
 
-/// The reply that tells which of the ids had a cursor. Fails when memory runs out.
+/// The reply that says which of the ids had a cursor. Fails when memory runs out.
 fn kill_reply(alloc: Global, ids: &[i64], went: &[bool]) -> Result<Document, NoMemory>
     requires { length went.now ≡ length ids.now }
     ensures { IfOk result (λ reply. reply ≡ replies.kill_cursors_reply (more.gone_ids ids.now went.now) (more.missing_ids ids.now went.now)) }
@@ -113,7 +114,7 @@ fn kill_reply(alloc: Global, ids: &[i64], went: &[bool]) -> Result<Document, NoM
     kill_cursors_reply(alloc, List::of(gone), List::of(missing))
 }
 
-/// The rows that are still to come of the cursor of a session and a namespace under an id, where there is one.
+/// The rows not yet returned by the cursor with this session, namespace and id, if there is one.
 fn rows_asked<'a>(cursors: &'a Cursors, session: u32, namespace: &str, id: i64) -> Option<&'a Rows>
     ensures { option_map (λ rows. rows.now) result ≡ more.rows_asked session namespace.now id cursors.now }
 {
@@ -131,7 +132,7 @@ fn number_of(id: i64) -> u64
     u64::try_from(id).unwrap_or(0)
 }
 
-/// How many rows may come in a batch; for 0 as many as the limit of bytes lets.
+/// How many rows a batch may have; for 0, as many as the limit of bytes allows.
 fn wanted(count: u64, rows: &Rows) -> u64
     ensures { result ≡ more.rows_wanted count rows.now }
 {

@@ -1,11 +1,11 @@
-//! What carrying out a command gives.
+//! The result of carrying out a command.
 
 ghost use Rattle.std.specs.Prelude.{◌≡◌};
 ghost use Rattle.dv_core.specs.Told.{batch_name};
 
 use dv_value::Document;
 
-/// What came of carrying out a command.
+/// The result of carrying out a command.
 #[derive(Debug, Drop)]
 pub enum Outcome {
     /// The reply's body.
@@ -23,7 +23,7 @@ pub struct Batch {
     /// Whether it is the first batch.
     pub is_first: bool,
     pub namespace: String,
-    /// The cursor that has the other rows; 0 where there is none.
+    /// The cursor that has the other rows; 0 if there is none.
     pub id: u64,
     pub rows: Vec<Document>,
 }
@@ -41,7 +41,7 @@ impl Batch {
     }
 }
 
-/// What carrying out a command gave, where the body of a reply with rows isn't made.
+/// The result of carrying out a command, before the body of a reply with rows is made.
 #[derive(Debug, Drop)]
 pub enum Told {
     /// The reply with a batch of rows.

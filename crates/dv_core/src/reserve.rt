@@ -11,11 +11,11 @@ const KEPT_BYTES: usize = 1_048_576;
 /// The fewest bytes of a piece.
 const SMALLEST_PIECE: usize = 1_024;
 
-/// How many bytes beside these are enough for a command that stores nothing.
+/// How many free bytes besides these are enough for a command that stores nothing.
 const ROOM_FOR_COMMAND: usize = 65_536;
 
-/// Bytes that nothing uses, in as few pieces as they can be had. They are given back if memory runs out for a command that stores
-/// nothing, for a message or for a reply, and taken again for the next command that stores something.
+/// Bytes that nothing uses, in as few pieces as possible. They are given back if memory runs out for a command that stores nothing,
+/// for a message or for a reply, and taken again for the next command that stores something.
 #[derive(Debug, Drop)]
 pub(crate) struct Reserve {
     alloc: Global,
@@ -26,7 +26,7 @@ pub(crate) struct Reserve {
 }
 
 impl Reserve {
-    /// As many of the bytes as can be had.
+    /// A reserve with as many of the bytes as can be allocated.
     pub(crate) fn new(alloc: Global) -> Self {
         let mut reserve = Reserve {
             alloc,
@@ -38,9 +38,10 @@ impl Reserve {
         reserve
     }
 
-    /// Makes ready for a command, and returns whether it may be carried out. For one that stores something all bytes are taken
-    /// that are missing; for another there is room beside them, or they are given back. A delete gives them back itself when
-    /// memory runs out; but not where it is wanting for a view alone, which is stale then.
+    /// Prepares for a command, and returns whether it may be carried out. For a command that stores something, all missing bytes
+    /// are taken again; if they can't be, it may not be carried out. For any other command, enough other bytes are free, or all
+    /// bytes are given back. A delete gives them back itself if memory runs out; but not if it runs out only for a view, which then
+    /// becomes stale.
     pub(crate) fn prepare(&mut self, command: &Command) -> bool {
         match need_of(command) {
             Need::Kept => return self.take(),
@@ -54,7 +55,7 @@ impl Reserve {
         true
     }
 
-    /// Takes those that are missing, and returns whether they could be had, but for less than a piece.
+    /// Takes the missing bytes again, and returns whether that succeeded, except for less than a piece.
     fn take(&mut self) -> bool {
         let mut size = self.missing;
         'pieces: while size >= SMALLEST_PIECE {
@@ -74,12 +75,12 @@ impl Reserve {
         self.missing = KEPT_BYTES;
     }
 
-    /// Gives all back, unless enough are left beside them.
+    /// Gives all back, unless enough other bytes are free.
     pub(crate) fn make_room(&mut self) {
         self.leave(ROOM_FOR_COMMAND);
     }
 
-    /// Gives all back, unless so many bytes are left beside them.
+    /// Gives all back, unless this many other bytes are free.
     fn leave(&mut self, size: usize) {
         if self.add(size) {
             let _ = self.pieces.pop();
@@ -88,8 +89,8 @@ impl Reserve {
         }
     }
 
-    /// Makes room behind a statement that was stopped, if it is one of a delete. Answers whether all was given back, so that the
-    /// statement may be carried out once more.
+    /// Makes room after a statement that was stopped, if it is one of a delete. Returns whether memory had run out for it: then all
+    /// is given back, and the statement may be carried out once more.
     pub(crate) fn makes_room_behind(&mut self, kind: WriteKind, refusal: &Refusal) -> bool {
         if !matches!(kind, WriteKind::Delete) {
             return false;
@@ -98,19 +99,19 @@ impl Reserve {
             self.give_back();
             return true;
         }
-        // The statement's error takes some.
+        // The statement's error needs some memory.
         self.make_room();
         false
     }
 
-    /// Gives all back where a refusal is for want of memory.
+    /// Gives all back if the refusal says that memory ran out.
     pub(crate) fn make_room_for(&mut self, refusal: &Refusal) {
         if matches!(refusal, Refusal::WantOfMemory) {
             self.give_back();
         }
     }
 
-    /// Adds a piece, and returns whether it could be had.
+    /// Adds a piece, and returns whether it could be allocated.
     fn add(&mut self, size: usize) -> bool
         ensures { self.new.missing ≡ self.old.missing }
     {
@@ -121,15 +122,15 @@ impl Reserve {
     }
 }
 
-/// What of the memory that is kept a command needs.
+/// What a command needs of the memory that is kept.
 enum Need {
-    /// That all of it is kept, since it stores something: documents, rows of views, an index or a cursor.
+    /// That all of it is kept, since the command stores something: documents, rows of views, an index or a cursor.
     Kept,
     /// The same; the command may make a view.
     KeptForView,
-    /// Enough beside it for a command that takes no memory for long.
+    /// Enough free memory besides, for a command that takes no memory for long.
     Room,
-    /// Enough beside it for a delete to be read.
+    /// Enough free memory besides for a delete to be read.
     RoomToRead,
 }
 
@@ -150,7 +151,7 @@ fn need_of(command: &Command) -> Need {
     }
 }
 
-/// The name of a command; empty where it can't be read.
+/// The name of a command; empty if it can't be read.
 fn name_of(command: &Command) -> &str {
     match command {
         Command::Sections { body, .. } => first_name(body),

@@ -16,9 +16,9 @@ use std::alloc::Global;
 /// The name of the field that a stored document begins with.
 const ID: &str = "_id";
 
-/// A copy of the document as it is stored, with `_id` in front. Refused with `BadValue` where there is no `_id` or it
-/// is an array, where a name begins with a dollar sign at the top level, and where a name holds a dot at any level;
-/// then with `TooLarge` where the document is over the limits; and with `WantOfMemory`.
+/// A copy of the document as it is stored, with `_id` as its first field. Refused with `BadValue` if there is no `_id` or it is an
+/// array, if a name at the top level begins with a dollar sign, or if a name at any level has a dot; then with `TooLarge` if the
+/// document is over the limits; and with `WantOfMemory`.
 pub(crate) fn storable(alloc: Global, document: &Document) -> Result<Document, Refusal>
     ensures stored { UnlessWanting (λ d. d) (stored.storable document.now) result }
     ensures identified { IfOk result HasId }
@@ -27,14 +27,14 @@ pub(crate) fn storable(alloc: Global, document: &Document) -> Result<Document, R
         return Err(Refusal::BadValue);
     }
     let id = id_of(document)?;
-    // In whichever order its fields stand, a document has the same size and levels: so what is refused isn't copied.
+    // A document has the same size and levels in any order of its fields. So one that is refused isn't copied.
     if !fits(document) {
         return Err(Refusal::TooLarge);
     }
     Ok(with_id_first(alloc, document, id)?)
 }
 
-/// The value under `_id`. Refused with `BadValue` where there is none or it is an array.
+/// The value under `_id`. Refused with `BadValue` if there is none, or if it is an array.
 fn id_of(document: &Document) -> Result<&Value, Refusal>
     ensures { Returns (λ id. tree id.now) (stored.id_in (value_under (codes "_id") document.now)) result }
 {
@@ -44,7 +44,7 @@ fn id_of(document: &Document) -> Result<&Value, Refusal>
     }
 }
 
-/// A copy of the document with its `_id`, which is given, in front.
+/// A copy of the document with its `_id`, which is passed in, as the first field.
 fn with_id_first(alloc: Global, document: &Document, id: &Value) -> Result<Document, NoMemory>
     requires { value_under (codes "_id") document.now ≡ Some (tree id.now) }
     ensures { IfOk result (λ copy. copy ≡ (codes "_id", tree id.now) ∷ without (codes "_id") document.now) }
@@ -55,7 +55,7 @@ fn with_id_first(alloc: Global, document: &Document, id: &Value) -> Result<Docum
     }
 }
 
-/// As `with_id_first`, wherever `_id` stands.
+/// As `with_id_first`, wherever `_id` is.
 fn with_id_moved(alloc: Global, document: &Document, id: &Value) -> Result<Document, NoMemory>
     requires { value_under (codes "_id") document.now ≡ Some (tree id.now) }
     ensures { IfOk result (λ copy. copy ≡ (codes "_id", tree id.now) ∷ without (codes "_id") document.now) }

@@ -65,7 +65,7 @@ impl Store {
     /// that report that memory ran out. While these can't be reserved again, a command that stores something is refused.
     pub fn execute(&mut self, session: u32, command: &Command) -> Outcome
         ensures step { MemoryStep self.old session command.now result self.new }
-        // A command for which memory ran out as it was read is told so.
+        // If memory ran out when the command was read, the outcome reports that, or there is no reply.
         ensures unread { command.now ≡ Invalid NoMemory → TellsOfWant result }
     {
         let told = self.carry_out(session, command);
@@ -87,8 +87,8 @@ impl Store {
         self.machine.carry_out(session, command, &mut self.reserve)
     }
 
-    /// The outcome that is told. If memory runs out for the body of a batch, with some of the reserve given back for it, there is
-    /// no reply.
+    /// The outcome of a command; for a batch, the reply with its body. For this body the reserve is given back, unless enough other
+    /// memory is free. If memory runs out even so, there is no reply.
     fn made_of(&mut self, outcome: Told) -> Outcome
         requires { HasLongId outcome }
         ensures made { IsMadeOf outcome result }
@@ -103,8 +103,8 @@ impl Store {
         }
     }
 
-    /// Frees the memory that is kept, until the next command: for the bytes of a message, or of its reply, for which there was no
-    /// memory.
+    /// Frees the memory that is kept, until the next command that stores something: for the bytes of a message, or of its reply,
+    /// for which there was no memory.
     pub fn give_back(&mut self)
         ensures { self.new ≡ self.old }
     {
@@ -142,7 +142,7 @@ impl Store {
         self.machine.law_live_read_no_stale();
     }
 
-    /// Ends the cursors of a session. Takes no memory, and costs the cursors that it has.
+    /// Ends the cursors of a session. Takes no memory, and time in proportion to the number of its cursors.
     pub fn end_session(&mut self, session: u32)
         ensures { self.new ≡ end_session session self.old }
     {

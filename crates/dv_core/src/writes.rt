@@ -21,8 +21,8 @@ use dv_command::{ReplyNames, Write, WriteKind, deletion_of, updating_of};
 use dv_value::{Document, NoMemory};
 use std::alloc::Global;
 
-/// Carries out the statements of a write one after the other. If memory runs out for one the command ends with it, and the
-/// reserve is given back for the reply; when memory runs out for that, there is none.
+/// Carries out the statements of a write one after the other. If memory runs out for a statement, the command ends with it, and the
+/// reserve is given back for the reply. If memory runs out for the reply too, there is no reply.
 pub(crate) fn write_all(
     alloc: Global,
     reserve: &mut Reserve,
@@ -78,8 +78,8 @@ fn write_each(
     Ok(Outcome::Reply(written.reply(alloc, reserve, names, kind)?))
 }
 
-/// Carries out the next statement, and notes what came of it. Answers what comes behind it; fails when memory runs out for the
-/// statement's error.
+/// Carries out the next statement, and notes its result. Returns what comes after it; fails if memory runs out for the statement's
+/// error.
 fn write_next(
     alloc: Global,
     reserve: &mut Reserve,
@@ -108,8 +108,9 @@ fn write_next(
     }
 }
 
-/// Carries out one statement, and returns what it is counted for. Where it is refused, nothing is changed; when memory runs out,
-/// it ends behind some of its changes. A delete takes of the reserve when memory runs out before the first of them.
+/// Carries out one statement, and returns how many documents it matched and changed. If it is refused, nothing is changed. If
+/// memory runs out, it ends after the first of its changes, or before them. If a delete runs out of memory before its first change,
+/// the reserve is given back, and the delete is carried out once more.
 fn write_one(
     alloc: Global,
     reserve: &mut Reserve,
@@ -134,7 +135,7 @@ fn write_one(
     }
 }
 
-/// The same with the memory that there is.
+/// Carries out one statement as `write_one` does, but not once more if memory runs out.
 fn write_once(
     alloc: Global,
     reserve: &mut Reserve,
@@ -159,7 +160,7 @@ fn write_once(
         WriteKind::Update => catalog.update(namespace, &updating_of(alloc, entry)?),
         WriteKind::Delete => {
             let deletion = deletion_of(alloc, entry)?;
-            // Of several documents only some may go when memory runs out.
+            // If memory runs out, a delete of several documents may remove only some of them.
             if !deletion.only_first {
                 reserve.make_room();
             }

@@ -12,15 +12,15 @@ use dv_command::{ReplyNames, WriteKind};
 use dv_value::{Document, NoMemory, Value};
 use std::alloc::Global;
 
-/// How many statements were looked at, how many documents those that were carried out are counted for, and the errors
-/// of the others, in order.
+/// How many statements were carried out or refused, how many documents the former matched and changed, and the errors of the
+/// latter, in order.
 #[derive(Drop)]
 pub(crate) struct Written {
     statements: usize,
     n: u128,
     changed: u128,
     errors: Vec<Value>,
-    // Each statement is counted for no more documents than a collection can have, and changes no more.
+    // Each statement matches no more documents than a collection can have, and changes no more.
     ghost few_counted: { n ≤ statements * 2 ^ 64 },
     ghost few_changed: { changed ≤ statements * 2 ^ 64 },
 }
@@ -54,8 +54,8 @@ impl Written {
         self.changed += counted.changed as u128;
     }
 
-    /// Notes a statement that was refused, and returns what comes behind it. Fewer than 100,000 statements came before. Fails
-    /// when memory runs out.
+    /// Notes a statement that was refused, and returns what comes after it. Fewer than 100,000 statements came before. Fails when
+    /// memory runs out.
     pub(crate) fn note(
         &mut self,
         alloc: Global,
@@ -71,8 +71,8 @@ impl Written {
         Ok(next_behind(ordered, &stopped.refusal))
     }
 
-    /// The reply of a write. If memory runs out and there are no errors, the reserve is given back for it. Fails when memory runs
-    /// out still.
+    /// The reply of a write. If memory runs out for it and there are no errors, the reserve is given back and the reply is made
+    /// again. Fails if memory still runs out.
     pub(crate) fn reply(
         self,
         alloc: Global,
@@ -99,7 +99,7 @@ impl Written {
     }
 }
 
-/// The reply of a write that was counted so, with these errors. Fails when memory runs out.
+/// The reply of a write with these counts and these errors. Fails when memory runs out.
 fn reply_with(
     alloc: Global,
     names: &ReplyNames,

@@ -9,7 +9,7 @@ use Rattle.dv_cursor.specs.Batch.{total_size, batch_limit, can_hold, longest_fro
 abbrev Rows : Type 0
 Rows = List (List Field)
 
--- a batch so far, with the rows that it can hold beside them, up to the first that it can't
+-- a batch so far, with the next rows that it can also hold, up to the first that it can't
 abbrev pub filled : ℕ → List (List Field) → List (List Field) → List (List Field)
 filled count taken [] = taken
 filled count taken (row ∷ rows) = cond (can_hold count (taken ++ row ∷ [])) (filled count (taken ++ row ∷ []) rows) taken
@@ -46,8 +46,8 @@ filled-more count taken row rows is = rw is refl
 pub filled-no_more : (count : ℕ) (taken : Rows) (row : List Field) (rows : Rows) → can_hold count (taken ++ row ∷ []) ≡ false → taken ≡ filled count taken (row ∷ rows)
 filled-no_more count taken row rows is = rw is refl
 
--- ---- what is filled so is the longest front
--- what holds rows holds their fronts
+-- ---- what is filled like this is the longest prefix
+-- what holds rows holds their prefixes
 fewer_held : (count n m some more : ℕ) → n ≤ m → some ≤ more → (nat_le m count && (nat_le m 1 || nat_le more batch_limit)) ≡ true → (nat_le n count && (nat_le n 1 || nat_le some batch_limit)) ≡ true
 fewer_held count n m some more long large held = grind (arith, nat_tests)
 
@@ -74,7 +74,7 @@ take_more [] rows row n long = (take n rows, refl)
 take_more (x ∷ xs) rows row zero long = absurd (omega arith)
 take_more (x ∷ xs) rows row (suc n) long = let more = take_more xs rows row n (omega arith) in (more.0, ap (λ (rs : Rows). x ∷ rs) more.1)
 
--- no front that goes on behind these rows is held
+-- no prefix that goes on after these rows is held
 module _ (count : ℕ) (taken rows : Rows) (row : List Field) (held : can_hold count taken ≡ true) (not : can_hold count (taken ++ row ∷ []) ≡ false) where
   ends : (n : ℕ) → length taken ≤ n → longest_front count n (taken ++ row ∷ rows) ≡ taken
   ends n long = at n long (equal_or_less (length taken) n long)
@@ -110,7 +110,7 @@ pub batch-filled : (count : ℕ) (rows : Rows) → batch count rows ≡ filled c
 unfolding batch
 batch-filled count rows = filled_longest count [] rows (none_held count)
 
--- ---- a batch needs no row behind those that it may have
+-- ---- a batch needs no row after those that it may have
 not_held : (n count : ℕ) (b : Bool) → count < n → (nat_le n count && b) ≡ false
 not_held n count b less = grind (arith, nat_tests)
 

@@ -15,7 +15,7 @@ both_gone : {X : Type 0} (b own : Bool) (x : Option X) → (b ≡ true → own �
 both_gone true own x is = rw (is refl) refl
 both_gone false own x is = refl
 
--- a cursor of the session is taken out first or with the others
+-- a cursor of the session is removed first or with the others
 pub without_session-closed : (session id : ℕ) (cursors : Cursors) → without_session session (closed session id cursors) ≡ without_session session cursors
 without_session-closed session id cursors =
     ap (λ (m : Kept). record cursors { kept = m }) (same_kept _ _ (λ q.
@@ -39,7 +39,7 @@ without_session-none session cursors none =
     get-apart cursors.kept session q
     ∙ none_gone (apart_from session q) (finite.get cursors.kept q) (λ own. subst (λ s. finite.get cursors.kept (s, q.1) ≡ None) (sym (eqb-true q.0 session (turned (q.0 == session) own))) (none q.1))))
 
--- there are fewer after one that is there is taken out
+-- there are fewer after one that is there is removed
 none_of_empty : (m : Kept) (p : CursorPlace) → finite.len m ≡ 0 → finite.get m p ≡ None
 none_of_empty m p none = ap (λ (n : Kept). finite.get n p) (finite.empty_of_len m none) ∙ finite.get-empty place_cmp p
 

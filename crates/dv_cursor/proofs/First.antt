@@ -14,7 +14,7 @@ none_of (Some x) not = absurd (not refl)
 meet : (a b : ℕ) → a ≤ b → b ≤ a → a ≡ b
 meet a b up down = omega arith
 
--- what stands in the map from a session's first place on
+-- the entries of the map from a session's first place on
 module _ (m : BTreeMap CursorPlace Cursor) (session : ℕ) (r : Entries) (range : IsRangeOf place_cmp (Included (session, 0)) Unbounded m r) where
   pub none_from_there : r ≡ [] → (id : ℕ) → finite.get (kept m.entries) (session, id) ≡ None
   none_from_there empty id = get-kept m.entries (session, id) ∙ range.5 empty (session, id) (first_place session id, tt)

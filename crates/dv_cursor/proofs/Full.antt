@@ -11,7 +11,7 @@ use Rattle.dv_cursor.proofs.Batches.{none_held}
 abbrev Rows : Type 0
 Rows = List (List Field)
 
--- the longest front can be held
+-- the longest prefix can be held
 longest_is_held : (count n : ℕ) (rows : Rows) → can_hold count (longest_front count n rows) ≡ true
 longest_is_held count zero rows = none_held count
 longest_is_held count (suc n) rows = at (can_hold count (take (suc n) rows)) refl (longest_is_held count n rows)
@@ -29,7 +29,7 @@ pub batch_within : (count : ℕ) (rows : Rows) → IsWithinBatch count (batch co
 unfolding batch
 batch_within count rows = let b = longest_front count (length rows) rows in within (length b) (total_size b) count (longest_is_held count (length rows) rows)
 
--- and no longer one
+-- and no longer one can
 longer_is_not : (count n k : ℕ) (rows : Rows) → k ≤ length rows → length (longest_front count k rows) < n → n ≤ k → can_hold count (take n rows) ≡ false
 longer_is_not count n zero rows there longer le = absurd (omega arith)
 longer_is_not count n (suc k) rows there longer le = at (can_hold count (take (suc k) rows)) refl longer (λ less below. longer_is_not count n k rows (omega arith) less below)
@@ -45,7 +45,7 @@ pub batch_longest : (count n : ℕ) (rows : Rows) → length (batch count rows) 
 unfolding batch
 batch_longest count n rows longer there = longer_is_not count n (length rows) rows (omega arith) longer there
 
--- where any can be held, one is
+-- if any row can be held, one is
 pub batch_some : (count : ℕ) (row : List Field) (rows : Rows) → 0 < count → batch count (row ∷ rows) ≢ []
 batch_some count row rows some none =
     let held : can_hold count (row ∷ []) ≡ true = rw (lt-ltb 0 count some) refl in

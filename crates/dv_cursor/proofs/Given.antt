@@ -18,7 +18,7 @@ free_next false n id is = cc
 pub free_id-next : (cursors : Cursors) (id : ℕ) → free_id cursors ≡ Some id → id ≡ cursors.next
 free_id-next cursors id is = free_next _ cursors.next id is
 
--- no event takes the next id back, and the one that gives it goes on
+-- an event that gives the next id raises it by 1, and the others leave it unchanged
 next-with_cursor : (place : CursorPlace) (cursor : Option Cursor) (cursors : Cursors) → (with_cursor place cursor cursors).next ≡ cursors.next
 next-with_cursor place None cursors = refl
 next-with_cursor place (Some cursor) cursors = refl
@@ -45,7 +45,7 @@ id_given-next (advance session i count) cursors id is = cc
 id_given-next (close session i) cursors id is = cc
 id_given-next (end session) cursors id is = cc
 
--- all ids are from n on
+-- all ids are at least n
 AreFrom : ℕ → List ℕ → Type 0
 AreFrom n ids = AllByRecursion (λ id. n ≤ id) ids
 

@@ -36,7 +36,7 @@ not_above a b c d Less ranked not = omega arith
 not_above a b c d Equal ranked not = omega arith
 not_above a b c d Greater ranked not = absurd cc
 
--- a place that isn't behind another has no later session
+-- a place that isn't after another has no later session
 pub session_order : (p q : CursorPlace) → is_gt (place_cmp p q) ≡ false → p.0 ≤ q.0
 session_order p q not = not_above p.0 p.1 q.0 q.1 (nat_cmp p.0 q.0) (ranks p.0 q.0) not
 
@@ -45,7 +45,7 @@ zero_first b Less ranked = refl
 zero_first b Equal ranked = refl
 zero_first b Greater ranked = absurd (omega arith)
 
--- a session's places begin with its first
+-- a session's places begin with id 0
 pub first_place : (session id : ℕ) → is_gt (place_cmp (session, 0) (session, id)) ≡ false
 first_place session id = rw (tied_itself nat_cmp_total session) (zero_first id (nat_cmp 0 id) (ranks 0 id))
 
@@ -112,7 +112,7 @@ len-kept (e ∷ es) ascending =
     ∙ ap (λ n. n + 1) (len-kept es ascending.1)
     ∙ add-one (length es)
 
--- ---- one cursor is taken out, or another put in its place
+-- ---- one cursor is removed, or replaced by another
 
 if_tied : {X : Type 0} (b : Bool) (x y : X) → (b ≡ true → x ≡ y) → cond b x y ≡ y
 if_tied true x y is = is refl

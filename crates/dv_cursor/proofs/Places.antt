@@ -1,4 +1,4 @@
--- What stands under places after a change of cursors.
+-- The cursors at places after a change of cursors.
 use Rattle.std.proofs.Common.{◌≡◌, ℕ, ◌<◌, ◌&&◌, ◌==◌, not, Bool, true, false, List, Option, Some, None, cond, refl, ap, ◌∙◌, arith}
 use Rattle.std.proofs.lemmas.Bool.Decides.{nat_tests}
 use Rattle.std.specs.Cmp.{ranks}
@@ -22,7 +22,7 @@ both Less c = refl
 both Equal c = refl
 both Greater c = refl
 
--- a place ties with the one that has its session and its id
+-- a place is equal in the order to the one that has its session and its id
 tied-is : (q p : CursorPlace) → eq_by_cmp place_cmp q p ≡ is_cursor_place p.0 p.1 q.0 q.1
 tied-is q p =
     both (nat_cmp q.0 p.0) (nat_cmp q.1 p.1)

@@ -1,3 +1,3 @@
--- Definitions and lemmas that need not be believed: invariants, codings, and words of bodies and proofs.
+-- Definitions and lemmas that need not be believed: invariants, codings, and what only bodies and proofs use.
 pub mod CursorsCode
 pub mod Runs

@@ -3,7 +3,7 @@
 use crate::rows::Rows;
 use std::marker::Model;
 
-/// Rows of a namespace that are still to come.
+/// Rows of a namespace that are not yet returned.
 #[derive(Debug, Drop)]
 pub(crate) struct Cursor {
     namespace: String,
@@ -35,7 +35,7 @@ impl Cursor {
         Cursor { namespace, rows }
     }
 
-    /// The rows, where they are of this namespace.
+    /// The rows, if they are of this namespace.
     pub(crate) fn rows(&self, namespace: &str) -> Option<&Rows>
         ensures { option_map (λ rows. rows.now) result ≡ cursor_rows namespace.now (Some self.now) }
     {
@@ -46,7 +46,7 @@ impl Cursor {
         }
     }
 
-    /// Takes the first rows away, and returns whether there is none left.
+    /// Removes the first rows, and returns whether none is left.
     pub(crate) fn skip(&mut self, count: usize) -> bool
         ensures skipped { self.new ≡ record self.old { rows = drop count self.old.rows } }
         ensures out { IsTrue result ↔ (self.new.rows ≡ []) }

@@ -12,7 +12,7 @@ use std::alloc::Global;
 use std::collections::BTreeMap;
 use std::marker::Model;
 
-/// How many cursors there are at most.
+/// The greatest number of cursors.
 const CURSOR_LIMIT: usize = 1_000;
 
 /// The least number that is no id.
@@ -20,7 +20,7 @@ const IDS_END: u64 = 1 << 63;
 
 /// The cursors of all sessions. They are numbered from 1 on, and no number is given twice.
 ///
-/// A cursor is found in time logarithmic in their number, and a session's end costs the cursors that it has.
+/// Finding a cursor takes time logarithmic in their number. Ending a session takes time for each of its cursors.
 #[derive(Debug, Drop)]
 pub struct Cursors {
     cursors: BTreeMap<(u32, u64), Cursor>,
@@ -83,14 +83,14 @@ impl Cursors {
         Ok(())
     }
 
-    /// The rows that are still to come of the cursor of a session and a namespace, if there is one. Takes no memory.
+    /// The rows not yet returned by the cursor of a session with this namespace and id, if there is one. Takes no memory.
     pub fn rows(&self, session: u32, namespace: &str, id: u64) -> Option<&Rows>
         ensures { option_map (λ rows. rows.now) result ≡ rows_to_come session namespace.now id self.now }
     {
         self.cursors.get(&(session, id))?.rows(namespace)
     }
 
-    /// Takes the first rows from a cursor, which goes when its rows are out. Takes no memory.
+    /// Removes the first rows of a cursor, and the cursor itself if no rows are left. Takes no memory.
     pub fn advance(&mut self, session: u32, id: u64, count: usize)
         ensures { self.new ≡ advanced session id count self.old }
     {
@@ -102,7 +102,7 @@ impl Cursors {
         }
     }
 
-    /// Takes out the cursor of a session and a namespace, and returns whether there was one. Takes no memory.
+    /// Removes the cursor of a session with this namespace and id, and returns whether there was one. Takes no memory.
     pub fn kill(&mut self, session: u32, namespace: &str, id: u64) -> bool
         ensures found { result ≡ is_some (rows_to_come session namespace.now id self.old) }
         ensures cursors { self.new ≡ (if result then closed session id self.old else self.old) }
@@ -114,7 +114,7 @@ impl Cursors {
         found
     }
 
-    /// Takes out the cursors of a session. Takes no memory, and costs the cursors that it has.
+    /// Removes the cursors of a session. Takes no memory, and time for each of these cursors.
     pub fn end_session(&mut self, session: u32)
         ensures { self.new ≡ without_session session self.old }
     {
@@ -123,14 +123,14 @@ impl Cursors {
         }
     }
 
-    /// Takes out the cursor of a session under an id.
+    /// Removes the cursor of a session under an id.
     fn close(&mut self, session: u32, id: u64)
         ensures { self.new ≡ closed session id self.old }
     {
         let _ = self.cursors.remove(&(session, id));
     }
 
-    /// The least id of a session's cursors, where it has one.
+    /// The least id of a session's cursors, if it has one.
     fn first_of(&self, session: u32) -> Option<u64>
         ensures some { IfSome result (λ id. IsSome (finite.get self.now.kept (session, id))) }
         ensures none { result ≡ None → (id : ℕ) → finite.get self.now.kept (session, id) ≡ None }

@@ -1,4 +1,4 @@
-//! The laws of batches and cursors, each the contract of a function that does nothing.
+//! Laws of batches and cursors. Each is the contract of a function that does nothing.
 
 ghost use Rattle.std.specs.FinMap as finite;
 ghost use Rattle.std.specs.Prelude.{◌≡◌, ◌≢◌, ◌++◌, ◌∷◌, ◌<◌, ◌≤◌, ◌==◌, ℕ, List, [], None, Some, false, length, take, if◌then◌else◌};
@@ -14,15 +14,15 @@ pub fn a_batch_is_a_front()
     ensures { (count : ℕ) (rows : Rows) → batch count rows ++ rows_behind count rows ≡ rows }
 {}
 
-/// A batch is within its bounds: no more rows than `count`, and if there is more than one no more bytes than the limit. No longer
-/// prefix is, and if any row may go into it, one does.
+/// A batch is within its bounds: no more rows than `count`, and if there is more than one, no more bytes than the limit. No longer
+/// prefix is within them. If `count` isn't 0 and there is a row, the batch has one.
 pub fn a_batch_is_full()
     ensures within { (count : ℕ) (rows : Rows) → IsWithinBatch count (batch count rows) }
     ensures longest { (count n : ℕ) (rows : Rows) → length (batch count rows) < n → n ≤ length rows → can_hold count (take n rows) ≡ false }
     ensures some { (count : ℕ) (row : List Field) (rows : Rows) → 0 < count → batch count (row ∷ rows) ≢ [] }
 {}
 
-/// A batch of at most so many rows needs no row after these.
+/// A batch of at most `count` rows needs no row after the first `count`.
 pub fn a_batch_needs_no_later_row()
     ensures { (count : ℕ) (rows : Rows) → batch count (take count rows) ≡ batch count rows }
 {}
@@ -37,8 +37,8 @@ pub fn ids_are_given_once()
     ensures { (events : List Event) (cursors : Cursors) → IsStrictlySortedBy nat_cmp (ids_given events cursors) }
 {}
 
-/// What is under a session and an id after cursors are changed: each change is of one cursor, or of a session's, and leaves the
-/// others.
+/// The cursor of a session under an id after a change: each change is of one cursor, or of those of one session, and leaves the
+/// others unchanged.
 pub fn a_change_leaves_other_cursors()
     ensures added { (session id other : ℕ) (namespace : List ℕ) (rows : Rows) (cursors : Cursors)
         → cursor_at session id (added other namespace rows cursors) ≡ changed_at other cursors.next (opened namespace rows) session id cursors }
@@ -52,7 +52,7 @@ pub fn a_change_leaves_other_cursors()
     ensures next { (session id count : ℕ) (cursors : Cursors) → (advanced session id count cursors).next ≡ cursors.next }
 {}
 
-/// A thousand cursors may be open, and their ids are those of positive int64s.
+/// A thousand cursors may be open, and their ids are positive int64s.
 pub fn a_thousand_cursors_may_be_open()
     ensures room { (cursors : Cursors) → finite.len cursors.kept ≡ 999 → cursors.next ≡ 9223372036854775807 → free_id cursors ≡ Some 9223372036854775807 }
     ensures full { (cursors : Cursors) → finite.len cursors.kept ≡ 1000 → free_id cursors ≡ None }

@@ -1,4 +1,4 @@
-//! Rows that are taken from the front.
+//! Rows, which are removed from the start.
 
 ghost use Rattle.std.specs.Prelude.{◌≡◌, ◌+◌, ◌≤◌, ◌&&◌, ◌||◌, ◌↔◌, [], drop, length, min, nat_le, nat_lt, IfOk, IsTrue};
 ghost use Rattle.dv_value.specs.Spelling.{spelling};
@@ -8,10 +8,10 @@ use dv_value::{Document, NoMemory, size};
 use std::collections::VecDeque;
 use std::marker::Model;
 
-/// How many bytes the rows of a batch are together at most, where it has more than one.
+/// The greatest size in bytes of a batch with more than one row.
 const BATCH_LIMIT: u32 = 16_777_216;
 
-/// Rows that are still to come, in order. They are shared with whoever else holds them, and never copied.
+/// Rows that are not yet returned, in order. They are shared with all that hold them, and never copied.
 #[derive(Debug, Drop)]
 pub struct Rows {
     rows: VecDeque<Document>,
@@ -53,8 +53,8 @@ impl Rows {
         self.rows.is_empty()
     }
 
-    /// The batch of the first rows: at most `count`, and at most 16,777,216 bytes if there is more than one. The rows stay. Fails
-    /// with `NoMemory` when memory runs out.
+    /// The batch of the first rows: at most `count`, and at most 16,777,216 bytes if there is more than one. No row is removed.
+    /// Fails with `NoMemory` when memory runs out.
     pub fn batch(&self, count: u64) -> Result<Vec<Document>, NoMemory>
         ensures { IfOk result (λ rows. rows.items ≡ batch count self.now) }
     {
@@ -72,7 +72,7 @@ impl Rows {
         Ok(taken)
     }
 
-    /// Takes the first rows away, as many as there are of them. Takes no memory.
+    /// Removes the first `count` rows, or all if there are fewer. Takes no memory.
     pub fn skip(&mut self, count: usize)
         ensures { self.new ≡ drop count self.old }
     {
@@ -82,14 +82,14 @@ impl Rows {
     }
 }
 
-/// Whether a row goes into a batch of at most `count` rows that has so many, with which it would have so many bytes.
+/// Whether one more row goes into a batch of at most `count` rows that has `taken` rows, and with this row `bytes` bytes.
 fn is_taken(taken: usize, count: u64, bytes: u32) -> bool
     ensures { result ≡ (nat_lt taken count && (nat_le taken 0 || nat_le bytes batch_limit)) }
 {
     (taken as u64) < count && (taken == 0 || bytes <= BATCH_LIMIT)
 }
 
-/// How many bytes there are with one row more; one over the limit of a batch where there are more. Takes no memory.
+/// The number of bytes with one more row; if they are over the limit of a batch, the limit plus 1. Takes no memory.
 fn bytes_with(bytes: u32, row: &Document) -> u32
     requires { bytes ≤ batch_limit + 1 }
     ensures { result ≡ min (bytes + length (spelling row.now)) (batch_limit + 1) }

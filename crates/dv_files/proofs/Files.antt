@@ -1,4 +1,4 @@
--- Documents whose spellings stand one behind the other.
+-- Documents whose encodings follow one another.
 use Rattle.std.proofs.Common.{◌≡◌, ℕ, ◌+◌, ◌<◌, ◌≤◌, List, [], ◌∷◌, ◌++◌, ◌∙◌, refl, sym, ap, subst, length, length-append, arith, append_assoc, append-nil}
 use Rattle.std.proofs.lemmas.List.{flat_map_more}
 use Rattle.std.specs.List.{AllByRecursion, flat_map}
@@ -6,7 +6,7 @@ use Rattle.dv_value.specs.Tree.{Field}
 use Rattle.dv_value.specs.Spelling.{payload, spelling, Spells, Fits}
 use Rattle.dv_files.specs.File.{Begins, Holds, IsStorable}
 
--- so many documents stand in front of the rest, and whatever documents the bytes are, as many fewer are the rest
+-- there are `count` documents before the rest; and whatever documents the bytes are, the rest are `count` fewer
 pub record Counts (bytes : List ℕ) (count : ℕ) (rest : List ℕ) : Type 0 where
   pub documents : List (List Field)
   pub front : List ℕ
@@ -16,7 +16,7 @@ pub record Counts (bytes : List ℕ) (count : ℕ) (rest : List ℕ) : Type 0 wh
   pub within : count + length rest ≤ length bytes
   pub others : (all : List (List Field)) → Holds all bytes → (behind : List (List Field)) × Holds behind rest × (length all ≡ count + length behind)
 
--- ---- spellings have bytes
+-- ---- an encoding has bytes
 
 -- how many, as the laws of documents state it
 pub record HasBytes : Type 0 where

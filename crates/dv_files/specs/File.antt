@@ -25,7 +25,7 @@ pub record Begins (bytes : List ℕ) (document : List Field) (behind : List ℕ)
   pub spells : Spells document front
   pub fits : Fits document
 
--- this holds of each document with whose encoding the bytes begin, and of the bytes behind it
+-- this holds of each document with whose encoding the bytes begin, and of the bytes after it
 abbrev pub EachBegun : List ℕ → (List Field → List ℕ → Type 0) → Type 0
 EachBegun bytes IsSo = (document : List Field) (behind : List ℕ) → Begins bytes document behind → IsSo document behind
 

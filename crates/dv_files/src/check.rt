@@ -25,7 +25,7 @@ pub enum CheckFault {
     Document {
         /// Which document it is, from 1.
         number: usize,
-        /// Where its first byte stands in the file, from 0.
+        /// The offset of its first byte in the file, from 0.
         at: usize,
         fault: BsonFault,
     },

@@ -16,7 +16,7 @@ pub enum LoadFault {
     Document {
         /// Which document it is, from 1.
         number: usize,
-        /// Where its first byte stands in the file, from 0.
+        /// The offset of its first byte in the file, from 0.
         at: usize,
         fault: BsonFault,
     },
@@ -24,7 +24,7 @@ pub enum LoadFault {
     Refused {
         /// Which document it is, from 1.
         number: usize,
-        /// Where its first byte stands in the file, from 0.
+        /// The offset of its first byte in the file, from 0.
         at: usize,
         /// The code of the refusal.
         code: i32,

@@ -1,4 +1,4 @@
--- The rows of two rows' elements, where those that both have are left out of both.
+-- The rows of two rows' elements, without those that both have.
 use Rattle.std.specs.Prelude.{◌≡◌, ◌<◌, ◌+◌, ℕ, suc, Bool, true, false, List, [], ◌∷◌, ◌++◌, None, Some, drop, length, slice_get, slice_index_or, refl}
 use Rattle.std.proofs.Common.{add-one, ap, arith, inl, inr, sym, ◌∙◌}
 use Rattle.std.proofs.lemmas.List.{at_drop_more, drop_more}
@@ -33,7 +33,7 @@ module _ (marked : List Bool) (p : PosTree) where
       by true m rest = rw m rest
       by false m rest = rw m (behind-exact p i x, rest)
 
-  -- where no row is marked, none is left out
+  -- if no row is marked, none is left out
   pub unmarked-all : (i : ℕ) (ds : List (List Field)) → ((j k : ℕ) → k ≡ i + j → slice_index_or marked k false ≡ true → slice_get ds j ≡ None) → rows_unmarked marked i p ds ≡ rows_numbered i p ds
   unmarked-all i [] none = refl
   unmarked-all i (d ∷ ds) none = by (slice_index_or marked i false) refl (unmarked-all (suc i) ds (λ j k e m. none (suc j) k (omega (arith, e)) m))
@@ -42,7 +42,7 @@ module _ (marked : List Bool) (p : PosTree) where
       by true m rest = let no : Some d ≡ None = none 0 i (omega arith) m in absurd cc
       by false m rest = rw m (ap (λ es. (p ++ At i ∷ [], d) ∷ es) rest)
 
-  -- the row at a place, in front of those behind it
+  -- the row at a place, before those after it
   pub unmarked-past : (rows : List (List Field)) (i : ℕ) → i < length rows → slice_index_or marked i false ≡ true → rows_unmarked marked i p (drop i rows) ≡ rows_unmarked marked (i + 1) p (drop (i + 1) rows)
   unmarked-past rows i within m = at_drop_more (rows_unmarked marked i p) rows i [] within ∙ rw m (ap (λ n. rows_unmarked marked n p (drop (i + 1) rows)) (sym (add-one i)))
 
@@ -54,7 +54,7 @@ module _ (marked : List Bool) (p : PosTree) where
       ∙ rw m (ap (λ n. put (p ++ At i ∷ []) d (in_row_order (rows_unmarked marked n p rest))) (sym (add-one i)))
 
   module _ (q : PosTree) where
-    -- a position with a number is none of those with the numbers behind it
+    -- a position with a number is none of those with higher numbers
     past-number : (i k : ℕ) (ds : List (List Field)) → is_eq (pos_order q (p ++ At i ∷ [])) ≡ true → i < k → at q (rows_unmarked marked k p ds) ≡ None
     past-number i k [] here less = refl
     past-number i k (d ∷ ds) here less = by (slice_index_or marked k false) refl (past-number i (suc k) ds here (omega (arith, less)))
@@ -88,7 +88,7 @@ module _ (marked : List Bool) (p : PosTree) where
         rw (at-in_order q (rows_numbered 0 p ds), at-in_order q (rows_numbered 0 p es), at-in_order q (rows_unmarked marked 0 p ds), at-in_order q (rows_unmarked marked 0 p es))
         (part 0 ds es (λ j k e m. let same : k ≡ j = omega (arith, e) in common j (ap (λ n. slice_index_or marked n false) (sym same) ∙ m)))
 
-  -- what leads from the ones to the others is what leads from all of the ones to all of the others
+  -- the difference of the unmarked rows is the difference of all rows
   pub told-unmarked : (u : Unwind) (d e : List Field) (ds es : List (List Field)) → IsExact p → ds ≡ unwound u d → es ≡ unwound u e → AreCommon ds es marked
       → diff_told (in_row_order (rows_unmarked marked 0 p ds)) (in_row_order (rows_unmarked marked 0 p es)) ≡ diff_told (unwound_at u ((p, d) ∷ [])) (unwound_at u ((p, e) ∷ []))
   told-unmarked u d e ds es x made others common =

@@ -1,4 +1,4 @@
--- How many changes a stage that goes row by row hands on for one of its rows.
+-- How many changes a stage that computes its rows from each row separately returns for a change of one row.
 use Rattle.std.specs.Prelude.{◌≡◌, ◌+◌, ◌≤◌, suc, ℕ, drop, Bool, true, false, cond, List, [], ◌∷◌, ◌++◌, length, map, Option, None, Some, is_none, refl}
 use Rattle.std.proofs.Common.{ap, arith}
 use Rattle.std.specs.Ordering.{is_eq, match_ordering}
@@ -34,7 +34,7 @@ use Rattle.dv_flow.proofs.Owed.{row-owed}
 
 -- ---- differences of short lists
 
--- at one position a row goes or comes
+-- at one position a row is removed or put
 pub diff-alone : (p : PosTree) (a b : Option (List Field)) → length (diff (alone p a) (alone p b)) ≤ 1
 diff-alone p None b = by b
   where

@@ -1,4 +1,4 @@
--- The first rows and the rest, kept by changes: where the rows stand that come and go.
+-- The first rows and the rest, updated by changes: where rows are inserted and removed.
 use Rattle.std.specs.Prelude.{◌≡◌, ◌+◌, ◌-◌, ◌<◌, ◌≤◌, ℕ, suc, Bool, true, false, cond, ◌&&◌, ◌↔◌, List, [], ◌∷◌, ◌++◌, length, None, Some, is_some, IsSome, slice_get, ⊤, zero, refl}
 use Rattle.std.proofs.Common.{ap, append-nil, append_assoc, arith, inr, sym, subst, take_at, ◌∙◌}
 use Rattle.std.proofs.lemmas.List.Elements.{recursion_from_All}
@@ -25,9 +25,9 @@ use Rattle.dv_change.specs.Inner.RowLaws.{positioned-none, positioned-tail, put-
 use Rattle.dv_flow.specs.Inner.Limiting.{is_past, last_place, limit_ordered, next_place}
 use Rattle.dv_flow.specs.Placed.{front_at}
 
--- ---- two lists of which the first is the front of both
+-- ---- two lists, the first of which is the front of both together
 
--- the first is no longer, and where there are others, no shorter
+-- the first has at most n rows, and exactly n if there are others
 pub cut-length : (n : ℕ) (xs ys : Positioned) → xs ≡ front_at n (xs ++ ys) → (length xs ≤ n) × (0 < length ys → length xs ≡ n)
 cut-length zero [] ys e = (omega arith, λ h. refl)
 cut-length zero (x ∷ xs) ys e = cc
@@ -38,7 +38,7 @@ cut-length (suc n) (x ∷ xs) ys e =
     let rest = cut-length n xs ys tail in
     (omega (arith, rest.0), λ h. ap suc (rest.1 h))
 
--- so long a front is the front of all
+-- a first list of n rows is the front of both
 pub cut-full : (n : ℕ) (xs ys : Positioned) → length xs ≡ n → xs ≡ front_at n (xs ++ ys)
 cut-full n xs ys e = sym (take_at xs ys n e)
 
@@ -48,12 +48,12 @@ cut-all zero (x ∷ xs) h = absurd (omega arith)
 cut-all (suc n) [] h = refl
 cut-all (suc n) (x ∷ xs) h = ap (λ es. x ∷ es) (cut-all n xs (omega arith))
 
--- with other rows behind it, of which there are none where there were none
+-- it stays the front with other rows after it, of which there are none if there were none
 pub cut-others : (n : ℕ) (xs ys zs : Positioned) → xs ≡ front_at n (xs ++ ys) → (0 < length zs → 0 < length ys) → xs ≡ front_at n (xs ++ zs)
 cut-others n xs ys [] e some = cut-all n xs (cut-length n xs ys e).0
 cut-others n xs ys (z ∷ zs) e some = cut-full n xs (z ∷ zs) ((cut-length n xs ys e).1 (some (omega arith)))
 
--- the first row behind the front
+-- the first row after the front
 pub next-is : (n : ℕ) (xs ys : Positioned) → xs ≡ front_at n (xs ++ ys) → next_place n (xs ++ ys) ≡ next_place 0 ys
 next-is zero [] ys e = refl
 next-is (suc n) [] [] e = refl
@@ -65,7 +65,7 @@ pub next-first : (ys : Positioned) (k : PosTree) (v : List Field) → slice_get 
 next-first [] k v e = cc
 next-first (y ∷ ys) k v e = ap (option_map (λ e. e.0)) e
 
--- where the front isn't full, no row is pushed out
+-- if the front isn't full, no row is pushed out
 pub last-none : (n : ℕ) (xs ys : Positioned) → xs ≡ front_at n (xs ++ ys) → length xs < n → last_place n (xs ++ ys) ≡ None
 last-none zero xs ys e h = absurd (omega arith)
 last-none (suc n) [] [] e h = refl
@@ -78,7 +78,7 @@ at-place i k v [] ys e = cc
 at-place zero k v (x ∷ xs) ys e = ap (option_map (λ e. e.0)) e
 at-place (suc i) k v (x ∷ xs) ys e = at-place i k v xs ys e
 
--- where it is full, its last one is
+-- if it is full, its last row is
 pub last-is : (n : ℕ) (k : PosTree) (v : List Field) (xs ys : Positioned) → xs ≡ front_at n (xs ++ ys) → n ≤ length xs → slice_get xs (length xs - 1) ≡ Some (k, v) → last_place n (xs ++ ys) ≡ Some k
 last-is zero k v [] ys e h there = cc
 last-is zero k v (x ∷ xs) ys e h there = cc
@@ -87,7 +87,7 @@ last-is (suc n) k v xs ys e h there =
     let place : length xs - 1 ≡ n = omega (arith, most) in
     at-place n k v xs ys (ap (slice_get xs) (sym place) ∙ there)
 
--- without a first or a last one there is none
+-- a list without a first or a last row has none
 pub no-length : (xs : Positioned) → IsSome {T = ⊤} None ↔ (0 < length xs) → length xs ≡ 0
 no-length [] some = refl
 no-length (x ∷ xs) some = let e = some.1 (omega arith) in cc
@@ -100,7 +100,7 @@ pub next-empty : (ys : Positioned) → length ys ≡ 0 → next_place 0 ys ≡ N
 next-empty [] e = refl
 next-empty (y ∷ ys) e = absurd (omega arith)
 
--- ---- whether a position stands behind all
+-- ---- whether a position is after all
 
 all-but : (p k q : PosTree) → pos_order p k ≡ Greater → is_lt (pos_order k q) ≡ false → is_gt (pos_order p q) ≡ true
 all-but p k q above e = by (pos_order k q) refl e
@@ -113,7 +113,7 @@ all-but p k q above e = by (pos_order k q) refl e
         let second : pos_order k p ≡ Less = pos_order_total.antisymm k p ∙ ap ordering_reverse above in
         ap is_gt (pos_order_total.antisymm p q ∙ ap ordering_reverse (pos_order_total.trans q k p first second))
 
--- what stands behind the last one stands behind all
+-- a position after the last one is after all
 past-last : (p k : PosTree) (xs : Positioned) → pos_order p k ≡ Greater → AllByRecursion (λ q. is_lt (pos_order k q) ≡ false) (keys_of xs) → is_past p xs ≡ true
 past-last p k [] above all = refl
 past-last p k (x ∷ xs) above all = ap (λ b. b && is_past p xs) (all-but p k x.0 above all.0) ∙ past-last p k xs above all.1
@@ -129,7 +129,7 @@ past-not p k v zero (x ∷ xs) below e =
     ap (λ b. b && is_past p xs) (ap (λ e. is_gt (pos_order p e.0)) same ∙ below)
 past-not p k v (suc i) (x ∷ xs) below e = ap (λ b. is_gt (pos_order p x.0) && b) (past-not p k v i xs below e) ∙ never (is_gt (pos_order p x.0))
 
--- so the last one tells
+-- so comparing with the last one is enough
 pub past-is : (p k : PosTree) (v : List Field) (i : ℕ) (xs : Positioned) → slice_get xs i ≡ Some (k, v) → All (λ q. is_lt (pos_order k q) ≡ false) (keys_of xs) → is_gt (pos_order p k) ≡ is_past p xs
 past-is p k v i xs there all = by (pos_order p k) refl
   where
@@ -138,7 +138,7 @@ past-is p k v i xs there all = by (pos_order p k) refl
     by Equal o = sym (past-not p k v i xs (ap is_gt o) there)
     by Greater o = sym (past-last p k xs o (recursion_from_All (λ q. is_lt (pos_order k q) ≡ false) (keys_of xs) all))
 
--- no row is there
+-- no row is at such a position
 past-apart : (p : PosTree) (xs : Positioned) → is_past p xs ≡ true → is_some (at p xs) ≡ false
 past-apart p [] past = refl
 past-apart p (x ∷ xs) past = by (pos_order p x.0) past (past-apart p xs)
@@ -148,9 +148,9 @@ past-apart p (x ∷ xs) past = by (pos_order p x.0) past (past-apart p xs)
     by Equal past rest = cc
     by Greater past rest = rest past
 
--- ---- rows that come
+-- ---- rows that are inserted
 
--- behind all of the front, a row comes among the others
+-- a row after all of the front is inserted among the others
 pub put-past : (p : PosTree) (r : List Field) (xs ys : Positioned) → is_past p xs ≡ true → put p r (xs ++ ys) ≡ xs ++ put p r ys
 put-past p r [] ys past = refl
 put-past p r (x ∷ xs) ys past = by (pos_order p x.0) past (put-past p r xs ys)
@@ -161,7 +161,7 @@ put-past p r (x ∷ xs) ys past = by (pos_order p x.0) past (put-past p r xs ys)
     by Equal past rest = cc
     by Greater past rest = ap (λ es. x ∷ es) (rest past)
 
--- else in the front, where that isn't full or the row isn't behind all of it
+-- otherwise in the front, if that isn't full or the row isn't after all of it
 pub put-within : (n : ℕ) (p : PosTree) (r : List Field) (xs ys : Positioned) → xs ≡ front_at n (xs ++ ys) → (n ≤ length xs → is_past p xs ≡ false) → put p r xs ++ ys ≡ put p r (xs ++ ys)
 put-within zero p r [] ys e within = let h = within (omega arith) in cc
 put-within zero p r (x ∷ xs) ys e within = cc
@@ -177,7 +177,7 @@ put-within (suc n) p r (x ∷ xs) ys e within =
     by Equal within rest = refl
     by Greater within rest = ap (λ es. x ∷ es) (rest (λ h. within (omega arith)))
 
--- ---- rows that go
+-- ---- rows that are removed
 
 pub gone-front : (p : PosTree) (xs ys : Positioned) → is_some (at p xs) ≡ true → gone p xs ++ ys ≡ gone p (xs ++ ys)
 gone-front p [] ys found = cc
@@ -198,7 +198,7 @@ gone-behind p (x ∷ xs) ys found = by (is_eq (pos_order p x.0)) found (gone-beh
 pub gone-none : (p : PosTree) (xs : Positioned) → is_some (at p xs) ≡ false → gone p xs ≡ xs
 gone-none p xs found = sym (ap (gone p) (append-nil xs)) ∙ sym (gone-behind p xs [] found) ∙ append-nil xs
 
--- ---- a change behind all of the front leaves that as it is
+-- ---- a change after all of the front leaves the front unchanged
 
 pub changed-past : (change : Change) (xs ys : Positioned) → is_past (position_changed change) xs ≡ true → with_change (xs ++ ys) change ≡ xs ++ with_change ys change
 changed-past (Put p r) xs ys past = put-past p r xs ys past
@@ -228,14 +228,14 @@ put-last p r (x ∷ xs) ys are =
     ap (λ o. match_ordering o ((p, r) ∷ x ∷ xs) ((x.0, r) ∷ xs) (x ∷ put p r xs)) above ∙ ap (λ es. x ∷ es) (put-last p r xs ys (positioned-tail x (xs ++ (p, r) ∷ ys) are))
 
 module _ (p : PosTree) (r : List Field) where
-  -- the last one of the front, to the others
+  -- the last row of the front, moved to the others
   pub spilled : (xs ys front rest : Positioned) → IsPositioned (xs ++ ys) → xs ≡ front ++ (p, r) ∷ [] → rest ≡ put p r ys → front ++ rest ≡ xs ++ ys
   spilled xs ys front rest are x y =
       let whole : xs ++ ys ≡ front ++ (p, r) ∷ ys = ap (λ es. es ++ ys) x ∙ append_assoc front ((p, r) ∷ []) ys in
       let behind = positioned-rest front ((p, r) ∷ ys) (subst (λ (es : Positioned). IsPositioned es) whole are) in
       ap (λ es. front ++ es) (y ∙ put-front p r ys (sorted_head pos_order p (keys_of ys) behind.ascending)) ∙ sym whole
 
-  -- the first one of the others, to the front
+  -- the first of the others, moved to the front
   pub pulled : (xs ys front rest : Positioned) → IsPositioned (xs ++ ys) → ys ≡ (p, r) ∷ rest → front ≡ put p r xs → front ++ rest ≡ xs ++ ys
   pulled xs ys front rest are y x =
       let last = put-last p r xs rest (subst (λ (es : Positioned). IsPositioned (xs ++ es)) y are) in
@@ -246,7 +246,7 @@ module _ (p : PosTree) (r : List Field) where
       let last = put-last p r xs rest (subst (λ (es : Positioned). IsPositioned (xs ++ es)) y are) in
       ap length (x ∙ last) ∙ length_push xs (p, r)
 
--- a row that comes makes one more at most
+-- inserting a row adds one at most
 pub at-most-one : (b : Bool) → cond b 0 1 ≤ 1
 at-most-one true = omega arith
 at-most-one false = omega arith

@@ -1,4 +1,4 @@
--- The first rows, kept by changes: how many changes they hand on.
+-- The first rows, updated by changes: how many changes are returned.
 use Rattle.std.specs.Prelude.{◌≡◌, ◌+◌, ◌≤◌, ℕ, suc, Bool, true, false, not, cond, List, [], ◌∷◌, length, filter, Option, None, Some, is_none, is_some, refl}
 use Rattle.std.proofs.Common.{ap, arith, inr, sym, ◌∙◌}
 use Rattle.std.proofs.lemmas.List.{length-append, length-map}
@@ -36,7 +36,7 @@ gone-length p (e ∷ es) = by (is_eq (pos_order p e.0)) (gone-length p es)
     by true rest = omega arith
     by false rest = omega (arith, rest)
 
--- at a position one row goes or one comes
+-- at a position one row is removed or one is put
 one-change : (a b : Option (List Field)) → cond (is_some (option_filter (λ v. is_none b) a)) 1 0 + cond (is_some (option_filter (λ v. not (stands_as a v)) b)) 1 0 ≤ 1
 one-change None None = omega arith
 one-change (Some v) None = omega arith

@@ -1,4 +1,4 @@
--- The first rows, kept by changes: what a change of the rows makes of them.
+-- The first rows, updated by changes: how a change of the rows changes them.
 use Rattle.std.specs.Prelude.{◌≡◌, ℕ, suc, Bool, true, false, cond, ◌||◌, List, [], ◌∷◌, take, Option, None, Some, ⊤, zero, refl}
 use Rattle.std.proofs.Common.{ap, inl, inr, sym, ◌∙◌}
 use Rattle.std.proofs.lemmas.List.{take-map}
@@ -25,7 +25,7 @@ use Rattle.dv_change.specs.Inner.RowLaws.{at-like, at-put, positioned-none, posi
 use Rattle.dv_flow.specs.Inner.Limiting.{at_either, edge_of, last_place, limit_ordered, next_place, with_limited_row}
 use Rattle.dv_flow.specs.Placed.{front_at}
 
--- ---- what a change makes of the first rows, at positions that stand beside neither its own nor the edge
+-- ---- the first rows after a change, at positions that are neither its own nor the edge
 
 abbrev pub is_beside : PosTree → Option PosTree → Bool
 is_beside q None = false
@@ -89,7 +89,7 @@ at-with-row q p None rows = by (is_eq (pos_order q p))
     by false = refl
 at-with-row q p (Some v) rows = at-put q p v rows
 
--- one position more at which the rows have what others have
+-- one more position at which the rows have what others have
 at-one-more : (q p : PosTree) (b : Bool) (rows some : Positioned) → at q some ≡ cond b (at q rows) None → at q (with_limited_row p (at p rows) some) ≡ cond (is_eq (pos_order q p) || b) (at q rows) None
 at-one-more q p b rows some there = at-with-row q p (at p rows) some ∙ by (is_eq (pos_order q p)) refl
   where
@@ -136,7 +136,7 @@ exact-edge : (n : ℕ) (row : Option (List Field)) (rows : Positioned) → AllBy
 exact-edge n (Some r) rows exact = exact-last n rows exact
 exact-edge n None rows exact = exact-next n rows exact
 
--- ---- the change that puts a row, or takes one away
+-- ---- the change that puts a row, or removes one
 
 pub place-to : (pos : PosTree) (row : Option (List Field)) → position_changed (change_to pos row) ≡ pos
 place-to pos None = refl
@@ -150,7 +150,7 @@ pub exact-to : (pos : PosTree) (row : Option (List Field)) → IsExact pos → I
 exact-to pos None exact = exact
 exact-to pos (Some r) exact = exact
 
--- ---- what the stage tells of a change: what changes at the position of the change and at the edge
+-- ---- what the stage returns for a change: the changes at the position of the change and at the edge
 
 module _ (n : ℕ) (rows : Positioned) (change : Change) (are : IsPositioned rows) (exact : IsExactChange change) where
   after : IsPositioned (with_change rows change)

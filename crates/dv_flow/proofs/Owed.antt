@@ -1,4 +1,5 @@
--- What a stage that makes its rows of each row by itself owes for a change of its rows: what it makes of the changed row alone.
+-- What a stage that computes its rows from each row separately has to return for a change: the changes of its rows for the changed
+-- row alone.
 use Rattle.std.specs.Prelude.{◌≡◌, Bool, true, false, cond, List, [], length, Option, None, refl}
 use Rattle.std.proofs.Common.{ap, sym, ◌∙◌, inl, inr}
 use Rattle.std.specs.declared.cmp.Ordering.TheVariants.{Equal}
@@ -22,7 +23,7 @@ use Rattle.dv_change.specs.Work.{owed_by}
 use Rattle.dv_flow.specs.Inner.Rows.{TellsApart}
 use Rattle.dv_flow.specs.declared.by_row.RowsApart.{RowsApart}
 
--- what stood at the position of a change that is told
+-- a change comes with the row that was at its position
 at-told : (taken : Taken) (rows : Positioned) (change : Change) → taken ≡ with_old rows change → at taken.pos rows ≡ taken.old
 at-told taken rows change told = ap (λ (t : Taken). at t.pos rows) told ∙ sym (ap (λ (t : Taken). t.old) told)
 
@@ -31,11 +32,11 @@ module _ (makes : Positioned → Positioned) (origin : PosTree → PosTree)
     (empty : makes [] ≡ [])
     (exact : (q : PosTree) → IsExact q → IsExact (origin q))
     (single : (rows : Positioned) (q p : PosTree) → IsPositioned rows → IsExact q → IsExact p → pos_order (origin q) p ≡ Equal → at q (makes rows) ≡ at q (makes (alone p (at p rows)))) where
-  -- what it makes of its own row
+  -- the row at a position is computed from the row at its origin
   at-own : (rows : Positioned) (q : PosTree) → IsPositioned rows → IsExact q → at q (makes rows) ≡ at q (makes (alone (origin q) (at (origin q) rows)))
   at-own rows q are x = single rows q (origin q) are x (exact q x) (tied_itself pos_order_total (origin q))
 
-  -- nothing of a row that isn't its own
+  -- and from no other row
   at-other : (p : PosTree) (row : Option (List Field)) (q : PosTree) → IsExact p → IsExact q → is_eq (pos_order (origin q) p) ≡ false → at q (makes (alone p row)) ≡ None
   at-other p row q px x other =
       at-own (alone p row) q (positioned-alone p row px) x
@@ -64,7 +65,7 @@ module _ (makes : Positioned → Positioned) (origin : PosTree → PosTree)
           at-own rows q are x ∙ ap (λ r. at q (makes (alone (origin q) r))) (sym same) ∙ sym (at-own (with_change rows change) q after x),
         )
 
-    -- what it owes for a change
+    -- what it has to return for a change
     pub row-owed : diff (makes rows) (makes (with_change rows change)) ≡ diff (makes (alone (position_changed change) (at (position_changed change) rows))) (makes (alone (position_changed change) (row_in change)))
     row-owed =
         let p = position_changed change in
@@ -72,7 +73,7 @@ module _ (makes : Positioned → Positioned) (origin : PosTree → PosTree)
         diff-parts (makes rows) (makes (with_change rows change)) (makes (alone p (at p rows))) (makes (alone p (row_in change))) (ordered rows are) (ordered (with_change rows change) after) (ordered (alone p (at p rows)) (positioned-alone p (at p rows) place)) (ordered (alone p (row_in change)) (positioned-alone p (row_in change) place)) (λ q x.
         part q (is_eq (pos_order (origin q) p)) x refl)
 
-    -- and that, told with what stood there
+    -- the same, with the rows that were there
     pub row-told : told_along (makes rows) (diff (makes rows) (makes (with_change rows change))) ≡ diff_told (makes (alone (position_changed change) (at (position_changed change) rows))) (makes (alone (position_changed change) (row_in change)))
     row-told =
         let p = position_changed change in
@@ -81,11 +82,11 @@ module _ (makes : Positioned → Positioned) (origin : PosTree → PosTree)
         ∙ told-parts (makes rows) (makes (with_change rows change)) (makes (alone p (at p rows))) (makes (alone p (row_in change))) (ordered rows are) (ordered (with_change rows change) after) (ordered (alone p (at p rows)) (positioned-alone p (at p rows) place)) (ordered (alone p (row_in change)) (positioned-alone p (row_in change) place)) (λ q x.
         part q (is_eq (pos_order (origin q) p)) x refl)
 
-    -- and how much
+    -- and how many changes these are
     pub row-count : length (diff (makes rows) (makes (with_change rows change))) ≡ length (diff_told (makes (alone (position_changed change) (at (position_changed change) rows))) (makes (alone (position_changed change) (row_in change))))
     row-count = sym (length-told (makes rows) (diff (makes rows) (makes (with_change rows change)))) ∙ ap length row-told
 
-    -- what it hands on and counts, of a change that is told, where two lists differ as what it makes of the changed row
+    -- what it returns and counts for a change, if two lists have the same difference as its rows for the old and the new row
     module _ (input : Input) (is : input ≡ Left) (taken : Taken) (others : List Positioned) (comes : ComesTo input taken change others rows) (kept : Option Positioned) (both : RowsApart) (apart : TellsApart makes kept taken both) (made : AreKept kept (makes rows)) where
       told : taken ≡ with_old rows change
       told = comes.told ∙ ap (λ i. with_old (input_rows i others rows) change) is

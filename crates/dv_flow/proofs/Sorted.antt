@@ -24,10 +24,10 @@ use Rattle.dv_change.specs.Inner.PositionLaws.{part_order_total, pos_order_total
 use Rattle.dv_change.specs.Positions.{PosTree, part_order, pos_order}
 use Rattle.dv_flow.specs.Placed.{part_at, sort_place, sorted_at}
 
--- ---- the first of some elements put in order is put in front of its ties
+-- ---- sorting puts the first element before its ties
 
 module _ {X : Type 0} (before : X → X → Bool) where
-  -- elements in order and one more, in front of all that don't stand before it
+  -- sorted elements and one more, put before all that are not ordered before it
   abbrev fronted : X → List X → List X
   fronted x [] = x ∷ []
   fronted x (y ∷ ys) = cond (before y x) (y ∷ fronted x ys) (x ∷ y ∷ ys)
@@ -54,7 +54,7 @@ module _ {X : Type 0} (before : X → X → Bool) (o : IsStrictWeakOrder before)
   ordered-first : (x : X) (xs : List X) → ordered before (x ∷ xs) ≡ fronted before x (ordered before xs)
   ordered-first x xs = folded-fronted x [] xs
 
--- ---- rows stand as their places do
+-- ---- rows are ordered as their places are
 
 first-is : (d : Direction) (k l : KeyTree) → stands_first d k l ≡ is_lt (part_order (part_at d k) (part_at d l))
 first-is Ascending k l = refl
@@ -78,7 +78,7 @@ before-is (part ∷ parts) d e =
 before-ranks : (parts : List Part) → IsStrictWeakOrder (stands_before parts)
 before-ranks parts = subst IsStrictWeakOrder (λ i d e. sym (before-is parts d e) i) (ranks_by pos_order_total (sort_place parts))
 
--- behind places these decide first
+-- the places decide first, then what follows them
 places-first : (parts : List Part) (d e : List Field) (p q : PosTree) → pos_order (sort_place parts d ++ p) (sort_place parts e ++ q) ≡ ordering_then (pos_order (sort_place parts d) (sort_place parts e)) (pos_order p q)
 places-first [] d e p q = refl
 places-first (part ∷ parts) d e p q = by (part_order (part_at part.1 (sort_key d part.0 part.1)) (part_at part.1 (sort_key e part.0 part.1))) (places-first parts d e p q)
@@ -108,7 +108,7 @@ module _ (parts : List Part) where
   abbrev comes_before : PosTree × List Field → PosTree × List Field → Bool
   comes_before e f = stands_before parts e.1 f.1
 
-  -- the later of two rows comes first only where it stands before the other one
+  -- the later of two rows comes first only if the sort orders it before the other one
   earlier-row : (e f : PosTree × List Field) → pos_order e.0 f.0 ≡ Less → pos_order (sort_place parts e.1 ++ e.0) (sort_place parts f.1 ++ f.0) ≡ cond (comes_before f e) Greater Less
   earlier-row e f less =
       let ones = sort_place parts e.1 in
@@ -145,7 +145,7 @@ module _ (parts : List Part) where
       by true rest = ap (λ ds. f.1 ∷ ds) rest
       by false rest = refl
 
-  -- rows put in order from the last one on
+  -- rows sorted one by one, beginning with the last
   abbrev fronts : Positioned → Positioned
   fronts [] = []
   fronts (e ∷ rows) = fronted comes_before e (fronts rows)

@@ -1,4 +1,4 @@
--- Without positions, what unwinding makes of rows at positions is what it makes of the rows.
+-- Without positions, unwinding returns for rows at positions what it returns for the rows.
 use Rattle.std.specs.Prelude.{◌≡◌, ◌<◌, ◌≤◌, ℕ, suc, List, [], ◌∷◌, ◌++◌, length, refl}
 use Rattle.std.proofs.Common.{ap, arith, lt-ltb, ◌∙◌}
 use Rattle.std.specs.declared.cmp.Ordering.{Ordering}
@@ -23,7 +23,7 @@ use Rattle.dv_change.specs.Inner.RowLaws.{put-front}
 use Rattle.dv_flow.specs.Inner.Gathered.{all-both}
 use Rattle.dv_flow.specs.Placed.{rows_numbered, unwound_at}
 
--- a position stands below all of some rows
+-- a position is before those of all these rows
 abbrev IsBelow : PosTree → Positioned → Type 0
 IsBelow p es = AllByRecursion (λ q. pos_order p q ≡ Less) (keys_of es)
 
@@ -37,20 +37,20 @@ in_order-stays : (es : Positioned) → Ascend es → in_row_order es ≡ es
 in_order-stays [] up = refl
 in_order-stays (e ∷ es) up = ap (put e.0 e.1) (in_order-stays es (sorted_tail pos_order e.0 (keys_of es) up)) ∙ put-front e.0 e.1 es (sorted_head pos_order e.0 (keys_of es) up)
 
--- some rows, and behind them others
+-- some rows, followed by others
 ascend-both : (es fs : Positioned) → Ascend es → Ascend fs → AllByRecursion (λ p. IsBelow p fs) (keys_of es) → Ascend (es ++ fs)
 unfolding IsStrictlySortedBy
 ascend-both [] fs some others below = others
 ascend-both (e ∷ es) fs some others below = (all-both (λ q. pos_order e.0 q ≡ Less) es fs some.0 below.0, ascend-both es fs some.1 others below.1)
 
--- ---- positions behind others
+-- ---- positions that continue others
 
--- behind one position the numbers decide
+-- if both continue one position, the numbers decide
 pub less-numbered : (p : PosTree) (i j : ℕ) → i < j → pos_order (p ++ At i ∷ []) (p ++ At j ∷ []) ≡ Less
 less-numbered [] i j less = rw (lt-ltb i j less) refl
 less-numbered (a ∷ p) i j less = ap (λ r. ordering_then r (pos_order (p ++ At i ∷ []) (p ++ At j ∷ []))) (tied_itself part_order_total a) ∙ less-numbered p i j less
 
--- behind two positions of one length these decide
+-- if they continue two different positions of one length, these decide
 less-behind : (p q s t : PosTree) → length p ≡ length q → pos_order p q ≡ Less → pos_order (p ++ s) (q ++ t) ≡ Less
 less-behind [] [] s t long less = cc
 less-behind [] (b ∷ q) s t long less = absurd (omega arith)

@@ -1,4 +1,4 @@
-//! Stages that make their rows of each row by itself, told which row was at the position of a change.
+//! Operators for stages that compute their rows from each row separately. Each change comes with the row that was at its position.
 
 ghost use Rattle.std.specs.Prelude.{◌≡◌, ◌≤◌, ◌∷◌, [], Some, IfOk, IfSome, OnErr, OnOk};
 ghost use Rattle.std.specs.Option.{option_map};
@@ -15,31 +15,32 @@ use dv_value::{Document, NoMemory};
 use std::alloc::Global;
 use std::collections::BTreeMap;
 
-/// What a stage makes of one row at a position, and what of another one there. Rows that both have may be left out of both.
+/// The rows that a stage returns for one row at a position, and those for another row there. Rows that both lists have may be left
+/// out of both.
 #[derive(Drop)]
 pub struct RowsApart {
-    /// The rows of the one.
+    /// The rows for the first row.
     pub old: Ordered<Document>,
-    /// The rows of the other.
+    /// The rows for the other row.
     pub new: Ordered<Document>,
 }
 
-/// A stage that makes its rows of each row by itself, at positions that say which row they are made of.
+/// A stage that computes its rows from each row separately, at positions that say from which row they were computed.
 pub trait ByRow {
-    /// What it makes of rows.
+    /// The rows that it returns for these rows.
     ghost makes: { Self → Positioned → Positioned };
 
-    /// The position of the row of which it makes one at the position.
+    /// The position of the row from which it computes the row at this position.
     ghost origin: { Self → PosTree → PosTree };
 
-    /// A copy of its own. Fails with `NoMemory` when memory runs out.
+    /// A copy of the stage. Fails with `NoMemory` when memory runs out.
     fn try_clone(&self) -> Result<Self, NoMemory>
     where
         Self: Sized,
         ensures { IfOk result (λ copy. copy ≡ self.now) };
 
-    /// What it makes of a row at a position. A row that it made before may lend its names. Fails with `NoMemory` when memory runs
-    /// out.
+    /// The rows that it returns for a row at a position. They may share names with `before`, a row that it returned earlier. Fails
+    /// with `NoMemory` when memory runs out.
     fn rows_of(
         &self,
         alloc: Global,
@@ -49,8 +50,9 @@ pub trait ByRow {
     ) -> Result<Ordered<Document>, NoMemory>
         ensures { IfOk result (λ rows. rows ≡ makes self.now ((pos.now, row.now) ∷ [])) };
 
-    /// What it made of the row at a position, where the rows that it made are kept in `made`: it may take them from there. A row
-    /// that it made before may lend its names. Fails with `NoMemory` when memory runs out.
+    /// The rows that it returned for the row at a position, if `made` has the rows that it returned for all its rows: it may take
+    /// them from there. They may share names with `before`, a row that it returned earlier. Fails with `NoMemory` when memory runs
+    /// out.
     fn rows_beside(
         &self,
         alloc: Global,
@@ -65,8 +67,8 @@ pub trait ByRow {
         self.rows_of(alloc, pos, row, before)
     }
 
-    /// What it makes of one row at a position, and what of another one there, where it can tell which rows both have before it
-    /// makes them; else none. Fails with `NoMemory` when memory runs out.
+    /// The rows that it returns for one row at a position, and those for another row there, if it can find out which rows both
+    /// lists have before it computes them; otherwise `None`. Fails with `NoMemory` when memory runs out.
     fn rows_apart(
         &self,
         alloc: Global,
@@ -83,28 +85,28 @@ pub trait ByRow {
         Ok(None)
     }
 
-    /// What it makes of rows at exact positions, in their order, stands at such.
+    /// For rows at exact positions, in ascending order, it returns rows at exact positions, in ascending order.
     ghost ordered: { (s : Self) (rows : Positioned) → IsPositioned rows → IsPositioned (makes s rows) };
 
-    /// Of rows at positions of one length it makes such rows.
+    /// For rows at positions of one length it returns rows at positions of one length.
     ghost even: { (s : Self) (rows : Positioned) → IsPositioned rows → HaveOneLength rows → HaveOneLength (makes s rows) };
 
-    /// It makes nothing of nothing.
+    /// For no rows it returns none.
     ghost empty: { (s : Self) → makes s [] ≡ [] };
 
-    /// The position of a row is exact.
+    /// If a position is exact, so is its origin.
     ghost exact: { (s : Self) (q : PosTree) → IsExact q → IsExact (origin s q) };
 
-    /// What stands at a position is made of one row alone.
+    /// The row at a position is computed from one row alone.
     ghost single: { (s : Self) (rows : Positioned) (q p : PosTree) → IsPositioned rows → IsExact q → IsExact p → pos_order (origin s q) p ≡ Equal → at q (makes s rows) ≡ at q (makes s (alone p (at p rows))) };
 }
 
-/// A stage that makes its rows of each row by itself. It keeps none of the rows that it takes in.
+/// The operator for a stage that computes its rows from each row separately. It keeps none of the rows that it takes in.
 #[derive(Drop)]
 pub struct RowOperator<S> {
     alloc: Global,
     stage: S,
-    /// A row that it made, which lends its names.
+    /// A row that it returned, with which later rows share names.
     last: Option<Document>,
 }
 
@@ -121,8 +123,9 @@ impl<S: ByRow> RowOperator<S> {
         })
     }
 
-    /// Takes in a change of an input, and appends what changes of its rows to `out`. Where the rows that it made are kept in `made`,
-    /// it may take from there what it made before the change. Counts 1 for the change and 1 for each that it tells.
+    /// Takes in a change of an input, and appends the changes of its rows to `out`. If `made` is given, it has the rows that the
+    /// stage returned before the change, and the old rows may be taken from there. Counts 1 for the change and 1 for each change
+    /// that it returns.
     fn take_change(
         &mut self,
         input: Input,
@@ -148,7 +151,7 @@ impl<S: ByRow> RowOperator<S> {
         }
     }
 
-    /// Keeps the first row that it made of a row, where it made any, so that it lends its names.
+    /// Keeps the first of these rows, if there is one, so that later rows can share its names.
     fn keep_last(&mut self, made: &Ordered<Document>) -> Result<(), NoMemory>
         ensures { self.new.stage ≡ self.old.stage }
     {
@@ -158,7 +161,7 @@ impl<S: ByRow> RowOperator<S> {
         Ok(())
     }
 
-    /// What it makes of the row at the position, where there is one.
+    /// The rows that it returns for the row at the position, if there is one.
     fn made(&self, pos: &Pos, row: &Option<Document>) -> Result<Ordered<Document>, NoMemory>
         ensures { IfOk result (λ rows. rows ≡ S.makes self.now.stage (alone pos.now row.now)) }
     {
@@ -168,8 +171,8 @@ impl<S: ByRow> RowOperator<S> {
         }
     }
 
-    /// What it made of the row at the position, where there is one. Where the rows that it made are kept, it may take them from
-    /// there.
+    /// The rows that it returned for the row at the position, if there is one. If `made` is given, it has all rows that it
+    /// returned, and these may be taken from there.
     fn made_before(
         &self,
         pos: &Pos,
@@ -187,8 +190,8 @@ impl<S: ByRow> RowOperator<S> {
         }
     }
 
-    /// What it made of the row that was at the position of a change, and what it makes of the one that is there now. Where the
-    /// rows that it made are kept, it may take from there what it made.
+    /// The rows that it returned for the row that was at the position of a change, and those that it returns for the row that is
+    /// there now. If `made` is given, it has all rows that it returned, and the old rows may be taken from there.
     fn apart(
         &self,
         taken: &Taken,

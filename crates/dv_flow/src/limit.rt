@@ -1,4 +1,4 @@
-//! `$limit`, told of each change.
+//! The operator for `$limit`.
 
 ghost use Rattle.std.specs.Prelude.{◌≡◌, ◌+◌, ◌++◌, ◌≤◌, false, [], length, IfOk, IsTrue, OnErr, OnOk};
 ghost use Rattle.dv_change.specs.Inner.Beginning.{BeginsWith};
@@ -14,12 +14,12 @@ use dv_value::{Document, NoMemory};
 use std::alloc::Global;
 use std::collections::BTreeMap;
 
-/// The first rows. Keeps all rows, and looks at the changed row and at those on both sides of the end.
+/// The first rows. Keeps all rows, and for a change reads the changed row and the rows on both sides of the end.
 #[derive(Drop)]
 pub struct LimitOperator {
     alloc: Global,
     count: u64,
-    /// The first rows, as many as are shown.
+    /// The rows that are shown: the first ones.
     front: BTreeMap<Pos, Document>,
     /// The rows after them.
     rest: BTreeMap<Pos, Document>,
@@ -40,7 +40,7 @@ impl LimitOperator {
         }
     }
 
-    /// Takes in which row is at the position from now on, if any, and tells what changes of the first ones.
+    /// Takes in which row is at the position from now on, if any, and appends the changes of the first rows to `out`.
     fn take_row(
         &mut self,
         pos: Pos,
@@ -71,7 +71,7 @@ impl LimitOperator {
         hand_over(&old, &new, ticks, out)
     }
 
-    /// Takes in which row is at the position from now on, if any, where it is none of the first ones.
+    /// Takes in which row is at the position from now on, if any. The position is after those of the first rows.
     fn change_rest(&mut self, pos: Pos, row: Option<Document>) -> Result<(), NoMemory>
         ensures count { self.new.count ≡ self.old.count }
         ensures front { self.new.front ≡ self.old.front }
@@ -89,7 +89,7 @@ impl LimitOperator {
         }
     }
 
-    /// The other position at which what is shown may change, where the row comes, or one goes.
+    /// The other position at which the shown rows may change when the row is inserted, or, if there is none, when one is removed.
     fn edge_of(&self, row: &Option<Document>) -> Result<Option<Pos>, NoMemory>
         requires { IsCut self.now }
         ensures { IfOk result (λ edge. edge ≡ edge_of self.now.count row.now (limit_rows self.now)) }
@@ -100,7 +100,7 @@ impl LimitOperator {
         }
     }
 
-    /// The position of the last row that is shown, where no further one is.
+    /// The position of the last row that is shown, if no more rows may be shown.
     fn last_place(&self) -> Result<Option<Pos>, NoMemory>
         requires { IsCut self.now }
         ensures { IfOk result (λ place. place ≡ last_place self.now.count (limit_rows self.now)) }
@@ -114,7 +114,7 @@ impl LimitOperator {
         }
     }
 
-    /// The position of the first row behind those that are shown.
+    /// The position of the first row after those that are shown.
     fn next_place(&self) -> Result<Option<Pos>, NoMemory>
         requires { IsCut self.now }
         ensures { IfOk result (λ place. place ≡ next_place self.now.count (limit_rows self.now)) }
@@ -136,7 +136,7 @@ impl LimitOperator {
         }
     }
 
-    /// The rows with the one that is shown at the position, where one is.
+    /// The rows with the row that is shown at the position, if there is one.
     fn with_shown(&self, rows: Ordered<Document>, pos: &Pos) -> Result<Ordered<Document>, NoMemory>
         ensures { IfOk result (λ more. more ≡ with_limited_row pos.now (at pos.now self.now.front.entries) rows) }
     {
@@ -146,7 +146,7 @@ impl LimitOperator {
         }
     }
 
-    /// Takes in which row is at the position from now on, if any, where it is one of the first ones.
+    /// Takes in which row is at the position from now on, if any. A row at this position is one of the first.
     fn change_front(&mut self, pos: &Pos, row: Option<Document>) -> Result<(), NoMemory>
         requires sound { IsCut self.old }
         requires within { IsWithinLimit self.old pos.now }
@@ -160,7 +160,7 @@ impl LimitOperator {
         }
     }
 
-    /// Sets the row at the position, at which it is one of the first.
+    /// Sets the row at the position, where it is one of the first.
     fn put(&mut self, pos: Pos, row: Document) -> Result<(), NoMemory>
         requires sound { IsCut self.old }
         requires within { IsWithinLimit self.old pos }
@@ -173,7 +173,7 @@ impl LimitOperator {
         self.spill()
     }
 
-    /// Whether a row at the position would be none of the first ones.
+    /// Whether a row at the position would not be one of the first.
     fn is_behind(&self, pos: &Pos) -> bool
         ensures behind { IsTrue result → IsBehind self.now pos.now }
         ensures within { result ≡ false → IsWithinLimit self.now pos.now }
@@ -181,7 +181,7 @@ impl LimitOperator {
         self.front.len() as u64 >= self.count && self.is_past(pos)
     }
 
-    /// Whether the position stands behind those of all rows that are shown.
+    /// Whether the position is after those of all rows that are shown.
     fn is_past(&self, pos: &Pos) -> bool
         ensures { result ≡ is_past pos.now self.now.front.entries }
     {
@@ -191,7 +191,7 @@ impl LimitOperator {
         }
     }
 
-    /// Shows the last row no more, where one too many is shown.
+    /// Stops showing the last row, if one too many is shown.
     fn spill(&mut self) -> Result<(), NoMemory>
         requires { IsOverfull self.old }
         ensures sound { OnOk result (IsCut self.new) }
@@ -206,7 +206,7 @@ impl LimitOperator {
         Ok(())
     }
 
-    /// Takes out the row at the position, where one stands there.
+    /// Removes the row at the position, if there is one.
     fn remove(&mut self, pos: &Pos) -> Result<(), NoMemory>
         requires { IsCut self.old }
         ensures sound { OnOk result (IsCut self.new) }
@@ -221,7 +221,7 @@ impl LimitOperator {
         }
     }
 
-    /// Shows one row more, where there are others.
+    /// Shows one row more, if there are others.
     fn pull(&mut self) -> Result<(), NoMemory>
         requires { IsUnderfull self.old }
         ensures sound { OnOk result (IsCut self.new) }

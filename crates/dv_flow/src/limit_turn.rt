@@ -1,4 +1,4 @@
-//! `$limit`, kept by changes.
+//! `$limit`, updated by changes.
 
 ghost use Rattle.std.specs.Prelude.{◌≡◌, []};
 ghost use Rattle.dv_flow.specs.Inner.Limiting.{IsSoundLimit, limit_count, limit_empty, limit_even, limit_left, limit_ordered, limit_positioned, limit_turning};
@@ -8,7 +8,7 @@ use dv_change::{Change, Input, Keeping, Ticks, Turn};
 use dv_value::NoMemory;
 use std::alloc::Global;
 
-/// The first rows, kept by changes. Looks at the changed row and at those on both sides of the end.
+/// The first rows, updated by changes. For a change it reads the changed row and the rows on both sides of the end.
 #[derive(Drop)]
 pub struct LimitTurn {
     keeping: Keeping<LimitOperator>,

@@ -1,4 +1,4 @@
-//! `$match`, kept by changes.
+//! `$match`, updated by changes.
 
 ghost use Rattle.std.specs.Prelude.{refl};
 ghost use Rattle.dv_flow.specs.Inner.Matching.{match_even, match_ordered, match_single};
@@ -11,7 +11,7 @@ use dv_match::Filter;
 use dv_value::{Document, NoMemory};
 use std::alloc::Global;
 
-/// The rows that match a filter, kept by changes.
+/// The rows that match a filter, updated by changes.
 pub type MatchTurn = RowTurn<Filter>;
 
 impl ByRow for Filter {

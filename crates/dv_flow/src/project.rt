@@ -1,4 +1,4 @@
-//! `$project`, kept by changes.
+//! `$project`, updated by changes.
 
 ghost use Rattle.std.specs.Prelude.{refl};
 ghost use Rattle.dv_flow.specs.Placed.{shown_at};
@@ -12,7 +12,7 @@ use dv_value::{Document, NoMemory};
 use std::alloc::Global;
 use std::collections::BTreeMap;
 
-/// Rows as they are shown, kept by changes.
+/// The rows after a `$project`, updated by changes.
 pub type ProjectTurn = RowTurn<Project>;
 
 impl ByRow for Project {

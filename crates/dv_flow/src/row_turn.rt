@@ -1,4 +1,4 @@
-//! Stages that make their rows of each row by itself, kept by changes.
+//! Stages that compute their rows from each row separately, updated by changes.
 
 ghost use Rattle.std.specs.Prelude.{◌≡◌, [], IfOk};
 ghost use Rattle.dv_flow.specs.Inner.Rows.{IsSoundRows, rows_left, rows_stage, rows_turning};
@@ -8,7 +8,7 @@ use dv_change::{Change, Input, Keeping, Ticks, Turn};
 use dv_value::NoMemory;
 use std::alloc::Global;
 
-/// A stage that makes its rows of each row by itself, kept by changes. Looks only at the changed row.
+/// A stage that computes its rows from each row separately, updated by changes. For a change it reads only the changed row.
 #[derive(Drop)]
 pub struct RowTurn<S> {
     keeping: Keeping<RowOperator<S>>,

@@ -1,4 +1,4 @@
-//! `$sort`, kept by changes.
+//! `$sort`, updated by changes.
 
 ghost use Rattle.std.specs.Prelude.{◌≡◌, ◌++◌, IfOk, drop, length};
 ghost use Rattle.dv_path.specs.SortKey as keys;
@@ -14,7 +14,7 @@ use dv_path::{Direction, SortPart, SortSpec, sort_key};
 use dv_value::{Document, NoMemory};
 use std::alloc::Global;
 
-/// Rows in the order of a sort, kept by changes.
+/// Rows in the order of a sort, updated by changes.
 pub type SortTurn = RowTurn<SortSpec>;
 
 impl ByRow for SortSpec {
@@ -49,7 +49,7 @@ impl ByRow for SortSpec {
     ghost single = { sort_single };
 }
 
-/// Where the sort places a row that is at the position: behind its sort keys. Fails when memory runs out.
+/// The position at which the sort places the row: its sort keys, followed by its own position. Fails when memory runs out.
 fn place_of(alloc: Global, spec: &SortSpec, pos: &Pos, row: &Document) -> Result<Pos, NoMemory>
     ensures { IfOk result (λ place. place ≡ defined.sort_place spec.now row.now ++ pos.now) }
 {

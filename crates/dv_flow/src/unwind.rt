@@ -1,4 +1,4 @@
-//! `$unwind`, kept by changes.
+//! `$unwind`, updated by changes.
 
 ghost use Rattle.std.specs.Prelude.{◌≡◌, false, slice_index_or, IfOk};
 ghost use Rattle.dv_change.specs.Changes.{in_row_order};
@@ -12,7 +12,7 @@ use dv_row::{Unwind, UnwoundRows};
 use dv_value::{Document, NoMemory};
 use std::alloc::Global;
 
-/// The rows of each row's elements, kept by changes.
+/// The rows of each row's elements, updated by changes.
 pub type UnwindTurn = RowTurn<Unwind>;
 
 impl ByRow for Unwind {
@@ -63,7 +63,7 @@ impl ByRow for Unwind {
     ghost single = { unwind_single };
 }
 
-/// The rows behind the position, each at its number, but for those whose places are marked.
+/// The rows, each at the position continued by its number, except those whose places are marked.
 fn place_rows(
     alloc: Global,
     pos: &Pos,

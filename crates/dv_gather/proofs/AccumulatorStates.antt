@@ -16,7 +16,7 @@ use Rattle.dv_gather.specs.Inner.AccumulatorStates.{with_value, with_value_at}
 use Rattle.dv_gather.specs.Inner.StateView.{state_seen, group_state_seen, groups_seen}
 use Rattle.dv_gather.proofs.GroupRows.{seen-inserted, seen-found}
 
--- a value more in the state at a place
+-- one more value in the state at a place
 pub value-added : (v : Tree) (place : ℕ) (ts : List memory.AccumulatorState) (none now : memory.AccumulatorState) → place < length ts → state_seen now ≡ with_value v (state_seen (get_or ts place none)) → map state_seen (slice_set ts place now) ≡ with_value_at place v (map state_seen ts)
 value-added v place [] none now within added = absurd (omega arith)
 value-added v zero (t ∷ ts) none now within added = ap (λ s. s ∷ map state_seen ts) added
@@ -32,7 +32,7 @@ pub rows-seen : (fields : List Accumulation) (es : List (KeyTree × stored.Group
 rows-seen fields [] = refl
 rows-seen fields (e ∷ es) = ap (λ (rs : List Row). row_of_state fields (group_state_seen e.1) ∷ rs) (rows-seen fields es)
 
--- a row more in the group of its key
+-- one more row in the group of its key
 module _ (g : Grouping) (d : Row) (k : KeyTree) (es final : List (KeyTree × stored.GroupState)) (none was now : stored.GroupState) where
   before : (o : Option stored.GroupState) → group_state_seen none ≡ without_rows → group_state_seen (unwrap_or o none) ≡ unwrap_or (option_map group_state_seen o) without_rows
   before None empty = empty

@@ -98,7 +98,7 @@ found-within count es k none was o empty there at h =
         here true rest = h.0
         here false rest = rest
 
--- a row more in the group of its key
+-- one more row in the group of its key
 pub put-within : (count : ℕ) (es final : List (KeyTree × stored.GroupState)) (k : KeyTree) (now : stored.GroupState) → final ≡ insert_entry key_order es k now → EachWithin count (groups_seen es) → AreWithin 0 (suc count) (group_state_seen now).1 → EachWithin (suc count) (groups_seen final)
 put-within count es final k now written h is =
     let seen : groups_seen final ≡ insert_entry key_order (groups_seen es) k (group_state_seen now) = ap groups_seen written ∙ seen-inserted group_state_seen key_order es k now in

@@ -1,4 +1,4 @@
--- The values by which a document is joined or found, by what its candidates are.
+-- The values by which a document is joined or found, given its candidates.
 use Rattle.std.proofs.Common.{◌≡◌, ℕ, List, [], ◌∷◌, map, refl, ap, sym, ◌∙◌, ◌||◌, false, Some, None, append-nil}
 use Rattle.std.proofs.Math.Bool.{or-false}
 use Rattle.std.specs.List.{flat_map}

@@ -1,4 +1,4 @@
--- What groups hold is what comes of the rows of each group.
+-- What groups hold is what is computed from the rows of each group.
 use Rattle.std.proofs.Common.{◌≡◌, ◌∙◌, ap, ap₂, sym, refl, Bool, true, false, not, ◌||◌, ◌&&◌, List, [], ◌∷◌, ◌++◌, ℕ, suc, ℤ, pos, ◌+ℤ◌, map, Option, Some, None, append_assoc, append-nil, arith, cond, codes}
 use Rattle.std.proofs.lemmas.Int.{ints}
 use Rattle.std.specs.List.{list_any}
@@ -83,7 +83,7 @@ each-sum (v ∷ vs) n narrow =
     plus-assoc : (a b c : ℤ) → (a +ℤ b) +ℤ c ≡ a +ℤ (b +ℤ c)
     plus-assoc a b c = omega (arith, ints)
 
--- what comes of values one after the other
+-- what is computed from values that are added one after the other
 value-each : (a : Accumulator) (vs : List Tree) → state_value (with_each_value vs (of_none a)) ≡ accumulated a vs
 value-each Sum vs =
     ap state_value (each-sum vs (pos 0) true) ∙ ap (λ n. state_value (sum_state n (not (list_any is_int64 vs)))) (nothing-more (total vs))
@@ -118,7 +118,7 @@ state-more a ds d = ap (λ vs. with_each_value vs (of_none a.accumulator)) (valu
     go None = ap (λ vs. with_each_value vs (of_none a.accumulator)) (append-nil (values_over a.argument ds))
     go (Some v) = each-more (values_over a.argument ds) v (of_none a.accumulator)
 
--- the places of a list begin with the first
+-- values added from a later place on leave the first state as it is
 from-next : (i : ℕ) (fields : List Accumulation) (d : Row) (t : AccumulatorState) (ts : List AccumulatorState) → with_values_from (suc i) fields d (t ∷ ts) ≡ t ∷ with_values_from i fields d ts
 from-next i [] d t ts = refl
 from-next i (a ∷ fields) d t ts = go (value_of a.argument d) (from-next (suc i) fields d t)
@@ -151,7 +151,7 @@ module _ (g : Grouping) where
   first_of [] = []
   first_of (d ∷ ds) = key_in g d ∷ []
 
-  -- what has come of the rows of a group
+  -- what a group holds after these rows
   abbrev so_far : List Row → GroupState
   so_far ds = (first_of ds, map (state_over ds) g.fields)
 

@@ -47,7 +47,7 @@ module _ (stands : (v w : Tree) → key_order (value (canon v)) (value (canon w)
         go Equal e rest = ap (λ l. entry k l ∷ entries f ks) (sym (own k (ap is_eq (back v k Equal e)))) ∙ ap (λ es. entry k (g k) ∷ es) (above-alike ks (above-same v k ks e h.0))
         go Greater e rest = ap (λ l. entry k l ∷ insert_entry key_order (entries f ks) (value (canon v)) all) (sym (others k (ap is_eq (back v k Greater e)))) ∙ ap (λ es. entry k (g k) ∷ es) rest
 
-  -- what stands under a key
+  -- what is under a key
   found : (v : Tree) (f : Tree → List (List Field)) → ((k : Tree) → is_eq (order v k) ≡ true → f k ≡ f v) → (ks : List Tree) → (list_any (λ k. is_eq (order v k)) ks ≡ false → f v ≡ []) → listed (value (canon v)) (entries f ks) ≡ f v
   found v f alike [] none = sym (none refl)
   found v f alike (k ∷ ks) none = ap (λ o. unwrap_or (if is_eq o then Some (f k) else lookup (is_at (key_order (value (canon v)))) (entries f ks)) []) (stands v k) ∙ go (is_eq (order v k)) refl (found v f alike ks)

@@ -1,4 +1,4 @@
--- The least and the greatest of values lead: each value that is passed by keeps it so.
+-- The least and the greatest of values lead: this stays true with each further value.
 use Rattle.std.proofs.Common.{◌≡◌, ◌≢◌, ◌∙◌, ap, sym, refl, Bool, true, false, not, ◌&&◌, ◌||◌, List, [], ◌∷◌, ◌++◌, append_assoc, append-nil, inl, inr, if◌then◌else◌}
 use Rattle.std.specs.List.{AllByRecursion}
 use Rattle.std.specs.Ordering.{ordering_reverse}
@@ -49,7 +49,7 @@ null-not v h is = absurd (let same : is_null v ≡ true = ap is_null is in cc)
 turned : (v w : Tree) (o : Ordering) → order v w ≡ o → order w v ≡ ordering_reverse o
 turned v w o e = order_total.antisymm w v ∙ ap ordering_reverse e
 
--- what stands ahead of a value stands ahead of each that isn't ahead of that
+-- a value that is ahead of another one is ahead of each value that isn't ahead of that one
 further : (e : Extreme) (v b w : Tree) → order v b ≡ ahead e → order w b ≢ ahead e → order v w ≡ ahead e
 further e v b w first none = go e (order w b) refl first none
   where
@@ -73,7 +73,7 @@ all-join P [] ws all more = more
 all-join P (v ∷ vs) ws all more = (all.0, all-join P vs ws all.1 more)
 
 module _ (e : Extreme) (vs : List Tree) (v : Tree) where
-  -- each value but null stands so to the new one
+  -- the new value is ahead of this one, unless this one is null
   abbrev Overtaken : Tree → Type 0
   Overtaken w = w ≢ null → order v w ≡ ahead e
 

@@ -9,7 +9,7 @@ use Rattle.dv_row.specs.Row.{Row}
 use Rattle.dv_gather.specs.Lookups.{set_field}
 use Rattle.dv_gather.specs.Inner.Alike.{BeginsAs, HasNamesOf, values_of}
 
--- the name behind those of the row
+-- the name after those of the row
 pub next-name : (d row : Row) (place : ℕ) (name next : List ℕ) (v : Tree) → BeginsAs d row → place ≡ length row → slice_get d place ≡ Some (next, v) → next ≡ name → HasNamesOf d row name
 next-name d row place name next v begins end here same =
     (begins, v, ap (slice_get d) (sym end) ∙ here ∙ ap (λ n. let f : Field = (n, v) in Some f) same)
@@ -40,7 +40,7 @@ module _ (name : List ℕ) (v w : Tree) where
       ap (λ b. if b then with_value_under name v row else with_field_behind name (Some v) row) new
       ∙ ap₂ (λ z h. if z || h then row else row ++ (name, v) ∷ []) clean new
 
--- the value behind those of the row
+-- the value after those of the row
 pub set-like : (name : List ℕ) (v : Tree) (d row : Row) → HasNamesOf d row name → AreNamed d → set_field name v row ≡ with_values d (values_of row ++ v ∷ [])
 set-like name v d row names named =
     set-at-end name v names.1 row (fresh name v names.1 d row names.0 named names.2) (whole name v names.1 d (length row) named names.2)

@@ -1,4 +1,4 @@
--- Groups are what rows are parted into by their keys; which values count in them.
+-- Rows are split into groups by their keys; which values count in groups.
 use Rattle.std.proofs.Common.{◌≡◌, ◌∙◌, ap, refl, Bool, true, false, not, ◌||◌, ◌&&◌, List, [], ◌∷◌, ◌++◌, ℤ, pos, ◌+ℤ◌, filter, map, arith, append-nil, Some, None, if◌then◌else◌}
 use Rattle.std.specs.List.{list_any, list_all}
 use Rattle.std.specs.Ordering.{is_eq, match_ordering}

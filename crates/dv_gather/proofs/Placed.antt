@@ -43,7 +43,7 @@ nothing-below k e = let low : k < 0 = ranked k 0 Less (sym e) in omega arith
 not-zero : (l : ℕ) → is_eq (nat_cmp 0 (suc l)) ≡ false
 not-zero l = grind (arith, nat_tests)
 
--- places above others, one less each
+-- places that are each 1 greater than those of another list
 record IsRaised (ks : List ℕ) : Type 0 where
   lower : List ℕ
   is : ks ≡ map suc lower
@@ -125,7 +125,7 @@ module _ {X : Type 0} where
       ∙ chosen-same (member ls) (λ i. member (suc k ∷ ks) (suc i)) (λ i. sym (ap (λ l. member l (suc i)) all ∙ member-raised ls i)) xs
       ∙ sym (ap (λ b. if b then x ∷ items_chosen (λ i. member (suc k ∷ ks) (suc i)) xs else items_chosen (λ i. member (suc k ∷ ks) (suc i)) xs) (ap (λ l. member l 0) all ∙ zero-raised ls))
 
-  -- the items at the places of those that pass
+  -- the items at the places of items that pass are the items that pass
   pub chosen-filter : (p : ℕ → Bool) (q : X → Bool) (xs : List X) → ((i : ℕ) → p i ≡ item_passes_at q xs i) → items_chosen p xs ≡ filter q xs
   chosen-filter p q [] h = refl
   chosen-filter p q (x ∷ xs) h =
@@ -138,7 +138,7 @@ module _ {X : Type 0} where
   any-passes test ks (x ∷ xs) zero = refl
   any-passes test ks (x ∷ xs) (suc i) = any-passes test ks xs i
 
-  -- one item more
+  -- one more item
   pub passes-more : (p : X → Bool) (xs : List X) (n : ℕ) (x : X) → slice_get xs n ≡ Some x → (i : ℕ) → item_passes_at p (take (suc n) xs) i ≡ item_passes_at p (take n xs) i || ((n == i) && p x)
   passes-more p [] n x e i = absurd cc
   passes-more p (y ∷ xs) zero x e zero = let same : y ≡ x = cc in ap p same
@@ -157,7 +157,7 @@ module _ {A : Type 0} (k l : KeyTree) (old : BTreeMap KeyTree (Vec ℕ A)) where
   kept-is none i empty None = sym (ap (λ ps. is_place ps i) empty)
   kept-is none i empty (Some ps) = refl
 
-  -- a place more under a key
+  -- one more place under a key
   pub placed-one : (new : Option (Vec ℕ A)) (w was none : Vec ℕ A) (place i : ℕ) → none.items ≡ [] → was ≡ unwrap_or (get key_order old l) none → w.items ≡ was.items ++ place ∷ [] → new ≡ cond (is_eq (key_order l k)) (Some w) (get key_order old k)
       → is_kept new i ≡ is_under old k i || ((place == i) && is_eq (key_order k l))
   placed-one new w was none place i empty before added update =
@@ -225,7 +225,7 @@ alone (x ∷ y ∷ xs) d low high = absurd (omega arith)
 same-place : (p i : ℕ) → is_eq (nat_cmp p i) ≡ (p == i)
 same-place p i = grind (arith, nat_tests)
 
--- a place more in a set
+-- one more place in a set
 pub place-added : (ps : List ℕ) (n i : ℕ) (was now : Bool) → n < length ps → now ≡ cond (is_eq (nat_cmp (get_or ps n 0) i)) true was → now || is_place (drop (n + 1) ps) i ≡ was || is_place (drop n ps) i
 place-added ps n i was now within update =
     let p = get_or ps n 0 in
@@ -244,7 +244,7 @@ slice-get_map f [] n = refl
 slice-get_map f (x ∷ xs) zero = refl
 slice-get_map f (x ∷ xs) (suc n) = slice-get_map f xs n
 
--- one document more
+-- one more document
 pub passes-referred : (p : List Field → Bool) (ds : List (Bor (List Field))) (n : ℕ) (d : Bor (List Field)) → n < length ds → d ≡ get_or ds n d → (i : ℕ) → item_passes_at p (referred (take (n + 1) ds)) i ≡ item_passes_at p (referred (take n ds)) i || ((n == i) && p d.now)
 passes-referred p ds n d within is i =
     let now = λ (r : Bor (List Field)). r.now in
@@ -261,12 +261,12 @@ under-nothing name v (f ∷ fs) e = go (bytes_eq name f.0) e (under-nothing name
     go true h rest = absurd (let same : true ≡ false = h in cc)
     go false h rest = ap (λ l. f ∷ l) (rest h)
 
--- the value that comes back, where nothing stands under the name
+-- if a value is returned, it is the new one, and nothing is under the name
 pub came-back : (b : Bool) (v w : Tree) → Some w ≡ (if b then None else Some v) → (b ≡ false) × (w ≡ v)
 came-back true v w e = absurd cc
 came-back false v w e = (refl, cc)
 
--- a value behind the others, where nothing stood under the name
+-- a value after the others, if nothing was under the name
 pub set-behind : (name : List ℕ) (v w : Tree) (d after : List Field) → Some w ≡ (if has_name name d then None else Some v) → after ≡ with_value_under name v d → set_field name v d ≡ with_field_behind name (Some w) after
 set-behind name v w d after back is =
     let came = came-back (has_name name d) v w back in
@@ -274,7 +274,7 @@ set-behind name v w d after back is =
     ∙ ap (λ u. with_field_behind name (Some u) d) (sym came.1)
     ∙ ap (with_field_behind name (Some w)) (sym (is ∙ under-nothing name v d came.0))
 
--- the documents at one place more
+-- the documents at one more place
 module _ (ds : List (Bor (List Field))) (p : ℕ) (rest : List ℕ) (vs : List Tree) where
   pub items-next : (d : Bor (List Field)) (new : List Tree) → p < length ds → d ≡ get_or ds p d → new ≡ vs ++ as_value d.now ∷ [] → new ++ map as_value (items_at rest (referred ds)) ≡ vs ++ map as_value (items_at (p ∷ rest) (referred ds))
   items-next d new within is added =

@@ -27,7 +27,7 @@ apart-more : (name : List ℕ) (v : Tree) (front d : Row) → has_name name d �
 apart-more name v front [] fresh apart = tt
 apart-more name v front (f ∷ d) fresh apart = grind (arith, apart-behind f.0 name v front apart.0, apart-more name v front d)
 
--- the fields that are left are put behind those that are there, each under its own name
+-- the fields that are left are put after those that are there, each under its own name
 named-like : (fields : List Accumulation) (d front : Row) (vs : List Tree) → keys_of d ≡ map (λ a. a.name) fields → AreNamed d → AreApart front d → length d ≡ length vs → with_named fields vs front ≡ front ++ with_values d vs
 named-like [] [] front [] same named apart all = sym (append-nil front)
 named-like [] (f ∷ d) front vs same named apart all = absurd cc

@@ -41,7 +41,7 @@ key-itself : (k : KeyTree) → is_eq (key_order k k) ≡ true
 key-itself k = (eq_by_cmp_equiv key_order_total).refl k
 
 module _ (stands : (v w : Tree) → key_order (value (canon v)) (value (canon w)) ≡ order v w) where
-  -- keys of some values have one of others exactly where one of the values is among them
+  -- one of the keys of some values is the key of another value exactly if one of the values equals one of the others
   pub any-key_is : (keys : List KeyTree) (vs ws : List Tree) → AreKeysOf keys vs → any_key keys ws ≡ list_any (is_equal_to_one ws) vs
   any-key_is keys vs ws is = same-truth (any_key keys ws) (list_any (is_equal_to_one ws) vs) there back
     where

@@ -1,6 +1,6 @@
-//! What comes of the values of a group's rows.
+//! What is computed from the values of a group's rows.
 
-/// What comes of the values of a group's rows.
+/// What is computed from the values of a group's rows.
 #[derive(Clone, Copy, Debug, PartialEq, Eq)]
 pub enum Accumulator {
     /// `$sum`: the sum of the numbers among them.

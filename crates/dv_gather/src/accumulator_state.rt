@@ -38,7 +38,7 @@ impl AccumulatorState {
         }
     }
 
-    /// Adds a value behind the others. Fails when memory runs out.
+    /// Adds a value after the others. Fails when memory runs out.
     pub(crate) fn add(&mut self, value: RowValue<'_>) -> Result<(), NoMemory>
         requires { IsWithinCount most (state_seen self.old) }
         ensures state { OnOk result (state_seen self.new ≡ defined.with_value (row_value value.entry) (state_seen self.old)) }
@@ -68,7 +68,7 @@ impl AccumulatorState {
     }
 }
 
-/// Adds a value to the state at the place, where there is one. Fails when memory runs out.
+/// Adds a value to the state at the place, if there is one. Fails when memory runs out.
 pub(crate) fn add_at(
     states: &mut [AccumulatorState],
     place: usize,

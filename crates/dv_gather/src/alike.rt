@@ -8,7 +8,7 @@ ghost use Rattle.dv_gather.specs.Inner.Alike.{BeginsAs, HasNamesOf, values_of};
 use dv_value::{Document, NoMemory, Value};
 use std::alloc::Global;
 
-/// Whether the document has the names of the row, in its order, and behind them this one.
+/// Whether the document has the names of the row, in its order, and after them this one.
 pub(crate) fn has_names_of(document: &Document, row: &Document, name: &str) -> bool
     ensures names { IsTrue result → HasNamesOf document.now row.now name.now }
     ensures named { AreNamed document.now }
@@ -38,7 +38,7 @@ fn begins_as(document: &Document, row: &Document) -> bool
     true
 }
 
-/// The row with the value behind its own, under the names of the document. Fails when memory runs out.
+/// The row with the value after its own, under the names of the document. Fails when memory runs out.
 pub(crate) fn row_like(
     alloc: Global,
     document: &Document,

@@ -20,12 +20,12 @@ use std::alloc::Global;
 use std::collections::BTreeMap;
 use std::marker::Model;
 
-/// A field of a group: what comes of the values of an expression over the group's rows.
+/// A field of a group: what is computed from the values of an expression over the group's rows.
 #[derive(Debug, Drop)]
 pub struct GroupField {
     /// The field's name.
     pub name: Str,
-    /// What comes of the values.
+    /// What is computed from the values.
     pub accumulator: Accumulator,
     /// The expression of a row's value.
     pub expr: Expr,
@@ -83,8 +83,8 @@ impl Group {
     }
 
     /// A row for each group of the rows, ascending by their keys. Rows whose keys compare equal are one group, and a missing key
-    /// counts as null. A group's row has `_id`, in the encoding of the group's first row, and then the fields. In time n log n for
-    /// each field. Fails with `NoMemory` when memory runs out.
+    /// counts as null. A group's row has `_id`, in the encoding of the group's first row, and then the fields. Takes n log n time
+    /// for each field. Fails with `NoMemory` when memory runs out.
     pub fn rows(&self, alloc: Global, rows: &[&Document]) -> Result<Vec<Document>, NoMemory>
         ensures { IfOk result (λ left. left.items ≡ defined.grouped self.now (referred rows.now)) }
     {

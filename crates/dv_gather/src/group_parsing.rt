@@ -18,7 +18,7 @@ use std::alloc::Global;
 impl Group {
     /// The grouping that the value is: a document with an expression under `_id`, at any place, and under each other name a
     /// document of one accumulator, `$sum`, `$min`, `$max` or `$push`, with an expression. Refused with `BadSpec` if it is none,
-    /// and with `NoMemory`.
+    /// and with `NoMemory` if memory runs out.
     #[tactic(auto, unfolding(crate::specs::GroupParsing::group_in))]
     pub fn parse(alloc: Global, value: &Value) -> Result<Group, PipelineFault>
         ensures { Gives no_memory (λ group. group) result (defined.group_in (tree value.now)) }

@@ -13,9 +13,9 @@ use dv_row::push_field;
 use dv_value::{Document, NoMemory, Value};
 use std::alloc::Global;
 
-/// The row of a group with these values: its key under `_id`, and one for each field under its name. What has a name that stands
-/// before it, or that no field may have, is left out. A document with the very names of the row, such as the row of another group,
-/// lends them. Fails with `NoMemory` when memory runs out.
+/// The row of a group with these values: its key under `_id`, and one for each field under its name. A value is left out if an
+/// earlier one has its name, or if no field may have that name. The row shares names with `lender`, such as the row of another
+/// group, if that has exactly the names of the row. Fails with `NoMemory` when memory runs out.
 pub fn row_of_values(
     alloc: Global,
     fields: &[GroupField],
@@ -30,7 +30,7 @@ pub fn row_of_values(
         }
         _ => named_row(alloc, fields, values)?,
     };
-    // Its length is asked more than once before it is written.
+    // Its size is needed more than once before it is written.
     row.keep_size();
     Ok(row)
 }

@@ -18,7 +18,7 @@ use std::alloc::Global;
 /// What a group holds: its key, and the state of the accumulator of each field, in its order.
 #[derive(Debug, Drop)]
 pub(crate) struct GroupState {
-    /// The key as the first row spells it, where there was a row.
+    /// The key in the encoding of the first row, if there was a row.
     key: Option<Value>,
     states: Vec<AccumulatorState>,
 }
@@ -50,7 +50,7 @@ impl GroupState {
         self.add_values(alloc, fields, row)
     }
 
-    /// Begins with the key and the states over no rows, where there was no row.
+    /// Begins with the key and the states over no rows, if there was no row yet.
     fn start(
         &mut self,
         alloc: Global,
@@ -81,7 +81,7 @@ impl GroupState {
         add_each(alloc, &mut self.states, fields, row)
     }
 
-    /// The group's row. That of another group, if there is one, lends its names. Fails when memory runs out.
+    /// The group's row. It shares names with the row of another group, if there is one. Fails when memory runs out.
     pub(crate) fn row(
         self,
         alloc: Global,
@@ -127,7 +127,7 @@ fn add_each(
     Ok(())
 }
 
-/// The key of a group, null where there was no row.
+/// The key of a group, or null if there was no row.
 fn key_or_null(key: Option<Value>) -> Value
     ensures { tree result ≡ defined.key_or_null (keys_seen key) }
 {

@@ -65,7 +65,7 @@ fn add_under(
     Ok(())
 }
 
-/// The documents that the row is joined with, in their order, each once, where their places are given.
+/// The documents that the row is joined with, in their order, each once, if `places` has the places of all documents.
 pub(crate) fn matches_of(
     alloc: Global,
     lookup: &Lookup,
@@ -84,7 +84,7 @@ pub(crate) fn matches_of(
     documents_at(alloc, documents, &found)
 }
 
-/// The same, without sets of keys and of places, where the row has one value and one document at most is found by it; else
+/// The same, without sets of keys and of places, if the row has one value and at most one document is found by it; otherwise
 /// `None`.
 fn matches_of_one(
     alloc: Global,
@@ -108,7 +108,7 @@ fn matches_of_one(
     }
 }
 
-/// The document at the place, where there is one.
+/// The document at the place, if there is one.
 fn document_at(alloc: Global, documents: &[&Document], place: usize) -> Result<List, NoMemory>
     ensures { IfOk result (λ list. list ≡ map as_value (item_at (slice_get (referred documents.now) place))) }
 {

@@ -42,7 +42,7 @@ impl Lookup {
     }
 }
 
-/// The key of the one value to which the path leads, on either side; `None` where there may be more. Fails when memory runs out.
+/// The key of the one value to which the path leads, on either side; `None` if there may be more. Fails when memory runs out.
 pub(crate) fn sole_key(document: &Document, path: &Path) -> Result<Option<Key>, NoMemory>
     ensures local { IfOk result (λ key. IfSome key (λ k. AreKeysOf (k ∷ []) (joined_by path.now document.now))) }
     ensures foreign { IfOk result (λ key. IfSome key (λ k. AreKeysOf (k ∷ []) (leaf_values path.now document.now))) }

@@ -1,4 +1,4 @@
-//! What holds of groups, sums and lookups, each the contract of a function that does nothing.
+//! What holds of groups, sums and lookups. Each law is the contract of a function that does nothing.
 
 ghost use Rattle.std.specs.Prelude.{◌≡◌, ◌++◌, ◌∷◌, ◌<◌, ◌^◌, ◌-ℤ◌, ℤ, pos, List, [], filter, length, map, Bool, true, Some, None, Ok, Err, codes};
 ghost use Rattle.std.specs.List.{list_all};
@@ -47,7 +47,7 @@ pub fn only_numbers_count()
     ensures { (vs : List Tree) → accumulated Accumulator.Sum vs ≡ accumulated Accumulator.Sum (filter is_number vs) }
 {}
 
-/// `$push` puts the value of each row after those of the rows before it, and a row without a value counts nowhere.
+/// `$push` puts the value of each row after those of the rows before it. A row without a value counts for no accumulator.
 #[tactic(auto, using(crate::proofs::Parted::pushed_last, crate::proofs::Parted::missing_left_out))]
 pub fn values_are_pushed_in_order()
     ensures pushed { (e : Expression) (rows : List Row) (row : Row) (v : Tree) → value_of e row ≡ Some v → array_pushed e (rows ++ row ∷ []) ≡ short.list (values_over e rows ++ v ∷ []) }
@@ -62,7 +62,7 @@ pub fn values_of_four_classes()
     ensures sum { accumulated Accumulator.Sum examples.mixed ≡ short.int 3 }
 {}
 
-/// A `$group` without `_id` is refused, and so is a `$lookup` with a member beside its four.
+/// A `$group` without `_id` is refused, and so is a `$lookup` with a fifth member.
 #[tactic(auto, using(crate::proofs::Worked::no_key, crate::proofs::Worked::a_fifth_option))]
 pub fn forms_that_are_refused()
     ensures no_key { group_in (short.doc (examples.by (codes "n") (codes "$sum") (short.int 1) ∷ [])) ≡ Err BadSpec }
@@ -75,8 +75,8 @@ pub fn a_sum_of_ones_counts()
     ensures { (rows : List Row) → length rows < 2 ^ 31 → accumulated Accumulator.Sum (values_over (constant (int32 (pos 1))) rows) ≡ int32 (pos (length rows)) }
 {}
 
-/// `$min` is the first of the least values and `$max` the first of the greatest, null left out; of only null, or of nothing, it is
-/// null.
+/// `$min` is the first of the least values and `$max` the first of the greatest, null left out. If all values are null, or there
+/// are none, it is null.
 #[tactic(auto, using(crate::proofs::Leaders::least_leads, crate::proofs::Leaders::greatest_leads))]
 pub fn extremes_lead()
     ensures least { (vs : List Tree) → IsLeader Less vs (accumulated Accumulator.Min vs) }
@@ -95,7 +95,7 @@ pub fn nothing_is_found_in_nothing()
     ensures { (lookup : lookups.Lookup) (rows : List Row) → looked_up lookup rows [] ≡ map (set_field lookup.target (array no_elements)) rows }
 {}
 
-/// What a group or a lookup makes of valid rows is valid, if it was read from a valid value.
+/// What a group or a lookup returns for valid rows is valid, if it was read from a valid value.
 #[tactic(auto, using(crate::proofs::GatherLaws::grouped_valid, crate::proofs::GatherLaws::looked_up_valid))]
 pub fn what_comes_of_valid_rows_is_valid()
     ensures grouped { (v : Tree) (group : Grouping) (rows : List Row) → IsValue v → group_in v ≡ Ok group → AreValid rows → AreValid (grouped group rows) }

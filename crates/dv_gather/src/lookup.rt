@@ -61,8 +61,8 @@ impl<'a> Model for Join<'a> {
 }
 
 impl Lookup {
-    /// The look-up into these documents, which are found by their values at `foreign`. Takes time of these values, times a
-    /// logarithm. Fails with `NoMemory` when memory runs out.
+    /// The look-up into these documents, which are found by their values at `foreign`. Takes time linear in the number of these
+    /// values, times a logarithm. Fails with `NoMemory` when memory runs out.
     pub fn join<'a>(
         &'a self,
         alloc: Global,
@@ -116,9 +116,9 @@ impl Lookup {
 
 impl<'a> Join<'a> {
     /// The row with the documents that it is joined with, an array in their order, each once, in place of the field of the target's
-    /// name or after the others. They share their memory with the documents. It shares names with what was made of the row before
-    /// it, if there is one. Takes time of the row's values and of the matches, times a logarithm. Fails with `NoMemory` when memory
-    /// runs out.
+    /// name or after the others. They share their memory with the documents. It shares names with `before`, the result for the row
+    /// before it, if there is one. Takes time linear in the number of the row's values and of the matches, times a logarithm. Fails
+    /// with `NoMemory` when memory runs out.
     pub fn row_behind(
         &self,
         alloc: Global,
@@ -132,8 +132,8 @@ impl<'a> Join<'a> {
     }
 }
 
-/// A copy of the row, in which a value is to be put under the name. A document to which that was done lends its names, unless
-/// the row has the name.
+/// A copy of the row, in which a value is to be put under the name. It shares names with `before`, a row in which that was done,
+/// if there is one, unless the row has the name.
 fn copy_for(
     alloc: Global,
     row: &Document,
@@ -148,7 +148,7 @@ fn copy_for(
     copy_beside(alloc, row, before)
 }
 
-/// Puts the value under the name: in place of the one that stands there, or behind the other fields.
+/// Puts the value under the name: in place of the one that is there, or after the other fields.
 fn set_field(document: &mut Document, name: &str, value: Value) -> Result<(), NoMemory>
     ensures { OnOk result (document.new ≡ defined.set_field name.now (tree value) document.old) }
 {

@@ -18,7 +18,7 @@ impl Lookup {
     /// The look-up that the value is: a document with the texts `from`, `localField`, `foreignField` and `as`, and nothing else.
     /// The name of a collection isn't empty, begins with no dollar sign and holds no zero byte, the name of a field begins with no
     /// dollar sign and holds no dot and no zero byte, and the others are paths. Refused with `BadSpec` if it is none, and with
-    /// `NoMemory`.
+    /// `NoMemory` if memory runs out.
     #[tactic(auto, unfolding(crate::specs::Lookups::lookup_in))]
     pub fn parse(alloc: Global, value: &Value) -> Result<Lookup, PipelineFault>
         ensures { Gives no_memory (λ lookup. lookup) result (defined.lookup_in (tree value.now)) }
@@ -74,7 +74,7 @@ fn as_option(alloc: Global, options: &Document) -> Result<Str, PipelineFault>
     Ok(Str::of(String::from_str(alloc, text)?))
 }
 
-/// Whether a zero byte stands in the text.
+/// Whether there is a zero byte in the text.
 fn has_zero(text: &str) -> bool
     ensures { result ≡ names.has_zero text.now }
 {

@@ -40,7 +40,7 @@ impl SumState {
         self.narrow = self.narrow && !is_int64(value);
     }
 
-    /// The sum as a value: an int32 where it fits and each number was one, 0 for none; else an int64 where it fits; else a
+    /// The sum as a value: an int32 if it fits and each number was one, 0 if there were none; else an int64 if it fits; else a
     /// document with its decimal digits under `$sum128`. Fails when memory runs out.
     pub(crate) fn value(&self, alloc: Global) -> Result<Value, NoMemory>
         ensures { IfOk result (λ sum. tree sum ≡ state_value (sum_state_seen self.now)) }

@@ -1,4 +1,5 @@
--- The state of each accumulator is that over the rows of a group, as one is added or removed, and its value is what is accumulated over them.
+-- The state of each accumulator is that over the rows of a group, also after one is added or removed, and its value is what is
+-- accumulated over them.
 use Rattle.std.specs.Prelude.{◌≡◌, ◌≤◌, suc, Bool, true, false, cond, List, [], ◌∷◌, ◌++◌, length, map, None, Some, refl}
 use Rattle.std.proofs.Common.{ap, arith, append_assoc, subst, sym, ◌∙◌}
 use Rattle.std.specs.declared.cmp.Ordering.{Ordering}

@@ -59,7 +59,7 @@ module _ (a b : PosTree) where
   abbrev IsOne : PosTree → Type 0
   IsOne p = is_eq (pos_order p a) || is_eq (pos_order p b) ≡ true
 
-  -- of three, two are one
+  -- of three, two are equal
   no-three : (xa xb ya yb za zb : Bool) → (xa ≡ true → ya ≡ true → ⊥) → (xb ≡ true → yb ≡ true → ⊥) → (xa ≡ true → za ≡ true → ⊥) → (xb ≡ true → zb ≡ true → ⊥) → (ya ≡ true → za ≡ true → ⊥) → (yb ≡ true → zb ≡ true → ⊥)
       → xa || xb ≡ true → ya || yb ≡ true → za || zb ≡ true → ⊥
   no-three true xb true yb za zb xya xyb xza xzb yza yzb x y z = xya refl refl

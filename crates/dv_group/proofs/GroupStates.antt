@@ -29,7 +29,7 @@ use Rattle.dv_group.proofs.AccumulatorStates.{all-added, all-with, all-without, 
 
 -- ---- rows at a position
 
--- a row is added in the place of one that is removed
+-- putting a row at a position is the same after the row there is removed
 pub put-over : (p : PosTree) (d : Row) (rows : Positioned) → IsPositioned rows → IsExact p → put p d (gone p rows) ≡ put p d rows
 put-over p d rows are x =
     same_rows (put p d (gone p rows)) (put p d rows) (positioned-put p d (gone p rows) (positioned-gone p rows are) x) (positioned-put p d rows are x)
@@ -39,11 +39,11 @@ put-over p d rows are x =
     ∙ cond-over (is_eq (pos_order q p)) (Some d) None (at q rows)
     ∙ sym (at-put q p d rows))
 
--- nothing stands where a row was removed
+-- there is no row where one was removed
 pub none-left : (p : PosTree) (rows : Positioned) → IsPositioned rows → at p (gone p rows) ≡ None
 none-left p rows are = at-gone p p rows are.ascending ∙ ap (λ o. cond (is_eq o) None (at p rows)) (tied_itself pos_order_total p)
 
--- where nothing stands, nothing is removed
+-- if there is no row, none is removed
 gone-none : (p : PosTree) (rows : Positioned) → at p rows ≡ None → gone p rows ≡ rows
 gone-none p [] none = refl
 gone-none p (e ∷ rows) none = by (is_eq (pos_order p e.0)) none (λ none. gone-none p rows none)
@@ -52,7 +52,7 @@ gone-none p (e ∷ rows) none = by (is_eq (pos_order p e.0)) none (λ none. gone
     by true none rest = cc
     by false none rest = ap (λ es. e ∷ es) (rest none)
 
--- what is set takes the place of what is removed
+-- setting a row, or none, is the same after the row there is removed
 pub set-over : (p : PosTree) (r : Option Row) (rows : Positioned) → IsPositioned rows → IsExact p → set_at p r (gone p rows) ≡ set_at p r rows
 set-over p None rows are x = gone-none p (gone p rows) (none-left p rows are)
 set-over p (Some d) rows are x = put-over p d rows are x
@@ -66,7 +66,7 @@ module _ (fields : List Accumulation) (p : PosTree) (x : IsExact p) (before : Gr
   may-be-removed : (d : Row) → length before.members ≤ most_rows → at p before.members ≡ Some d → HaveRoom Removed fields p d (map state_seen before.states.items)
   may-be-removed d few there = subst (λ ts. HaveRoom Removed fields p d ts) (sym sound.states) (all-may-be-removed p d before.members sound.positioned x few fields there sound.summable)
 
-  -- for what is put at the position, if anything, and without what stood there
+  -- for the row that is put at the position, if any, and without the row that was there
   pub room-for-some : (row : Option Row) → length before.members ≤ most_rows → IfSome row (λ d. HaveRoom Added fields p d (map state_seen before.states.items))
   room-for-some None few = tt
   room-for-some (Some d) few = may-be-added d few
@@ -107,12 +107,12 @@ module _ (fields : List Accumulation) (p : PosTree) (x : IsExact p) (before : Gr
       summable = removed-summable left;
     }
 
-    -- what stood at the position is removed, if anything did
+    -- the row that was at the position is removed, if there was one
     pub sound-without : (old : Option Row) → old ≡ at p before.members → after.members ≡ gone p before.members → map state_seen after.states.items ≡ states_after_some Removed p old fields (map state_seen before.states.items) → IsGroupState fields after
     sound-without None stood left after-is = none-removed (sym stood) left after-is
     sound-without (Some d) stood left after-is = removed-sound d (sym stood) left after-is
 
-    -- where nothing stands, a row is added, if there is one
+    -- at a position without a row, one is added, if there is one to add
     pub sound-with : (row : Option Row) → at p before.members ≡ None → after.members ≡ set_at p row before.members → map state_seen after.states.items ≡ states_after_some Added p row fields (map state_seen before.states.items) → IfSome row (λ d. AreSummableIn (map state_seen before.states.items) fields d)
         → IsGroupState fields after
     sound-with None none come after-is summable = none-removed none come after-is
@@ -123,7 +123,7 @@ module _ (fields : List Accumulation) (p : PosTree) (x : IsExact p) (before : Gr
 pub summable-seen : (t : memory.AccumulatorState) (s : SumState) (a : Accumulation) (d : Row) (v : Option Tree) → t ≡ Sum s → v ≡ field_value a d → IsSummableValue v → IsSummableIn (state_seen t) a d
 summable-seen t s a d v is same summable = subst (λ u. IsSummableIn (state_seen u) a d) (sym is) (subst (λ (o : Option Tree). IsSummableValue o) same summable)
 
--- the row of a group is made of its first row, and of the values of its states
+-- the row of a group is computed from its first row and the values of its states
 pub row-is-shown : (g : Grouping) (rows : Positioned) (e : PosTree × Row) (ts : List AccumulatorState) → IsPositioned rows → slice_get rows 0 ≡ Some e → ts ≡ map (λ a. state_over a rows) g.fields
     → Some (row_of_values g.fields (key_in g e.1 ∷ state_values g.fields ts)) ≡ row_shown g (forget rows)
 row-is-shown g [] e ts are first same = cc

@@ -1,4 +1,4 @@
--- What is owed for a change of a row: what changes of the rows of its two groups.
+-- What has to be returned for a change of a row: the changes of the rows of its two groups.
 use Rattle.std.specs.Prelude.{◌≡◌, ◌||◌, Bool, true, false, cond, List, [], ◌∷◌, Option, None, Some, Result, Ok, Err, IfOk, OnOk, refl}
 use Rattle.std.proofs.Common.{ap, sym, ◌∙◌, inl, inr}
 use Rattle.std.specs.declared.cmp.Ordering.{Ordering}
@@ -30,7 +30,7 @@ use Rattle.dv_group.specs.Inner.Grouped.{IsKeyPlace, at-grouped, beside, group_o
 use Rattle.dv_group.specs.Inner.Members.{AreMembers, LiveGroups, row_has_key, is_key, group_members, moved, moved_all, moved_as, put_some, row_key, rows_in, rows_with, set_at, shown_as, shown_of, with_shown}
 use Rattle.dv_group.specs.Placed.{grouped_at}
 
--- ---- a row more, where there is one
+-- ---- one more row, if there is one
 
 at-put_some : (q p : PosTree) (r : Option Row) (rows : Positioned) → at q (put_some p r rows) ≡ cond (is_eq (pos_order q p)) (or_else r (at q rows)) (at q rows)
 at-put_some q p None rows = by (is_eq (pos_order q p))
@@ -69,7 +69,7 @@ longer Less = refl
 longer Equal = refl
 longer Greater = refl
 
--- ---- what goes and what comes
+-- ---- what is removed and what is added
 
 nothing-else : (a : Option Row) → or_else a None ≡ a
 nothing-else None = refl
@@ -83,7 +83,7 @@ either-same : (b : Bool) (m : Option Row) → cond b m m ≡ m
 either-same true m = refl
 either-same false m = refl
 
--- what passes is taken out where it stood, and put in where it comes
+-- a row that passes is taken out where it was, and put in where it is now
 settled : (h : Row → Bool) (b c here : Bool) (old new there : Option Row) → (b ≡ false → option_filter h old ≡ None) → (c ≡ false → option_filter h new ≡ None) → (c ≡ true → option_filter h new ≡ new) → (here ≡ true → there ≡ old)
     → (left : Option Row) → left ≡ cond b (cond here None (option_filter h there)) (option_filter h there) → cond c (cond here new left) left ≡ option_filter h (cond here new there)
 settled h b c true old new there goes none stays same left is =
@@ -173,7 +173,7 @@ module _ (g : Grouping) where
           ∙ ap (λ a. cond (is_any k ks) (or_else r a) a) (with_shown-at under rows kept k (Some l) so_far)
           ∙ shown-twice (is_eq (key_order k l)) (is_any k ks) r (at (Up k ∷ []) so_far)
 
-      -- where under other keys nothing stands, they are the rows of all groups
+      -- if there are no rows under other keys, they are the rows of all groups
       pub all-grouped : (ks : List KeyTree) → ((k : KeyTree) → is_any k ks ≡ false → under k ≡ []) → IsPositioned rows → IsPositioned (with_each ks []) → with_each ks [] ≡ grouped_at g rows
       all-grouped ks none are made = same_rows (with_each ks []) (grouped_at g rows) made (group_ordered g rows are) (λ q exact. there q)
         where
@@ -220,7 +220,7 @@ module _ (g : Grouping) where
     changed : IsPositioned after
     changed = positioned-changed rows change are exact
 
-    -- the rows with a key after it
+    -- the rows with a key after the change
     at-with : (k : KeyTree) (q : PosTree) (es : Positioned) → IsPositioned es → at q (rows_with g k es) ≡ option_filter (row_has_key g k) (at q es)
     at-with k q es these = at-filter (λ e. row_has_key g k e.1) q (row_has_key g k) (λ p v e. refl) es these
 
@@ -276,7 +276,7 @@ module _ (g : Grouping) where
           by false true apart = cc
           by false false apart = refl
 
-    -- the groups have their rows after it
+    -- the groups have their rows after the change
     pub still-members : (was is : KeyTree → Positioned) → AreMembers g was rows → ((k : KeyTree) → is k ≡ moved pos key other (row_in change) k (was k)) → AreMembers g is after
     still-members was is kept are-moved k = are-moved k ∙ ap (moved pos key other (row_in change) k) (kept k) ∙ now-is k
 
@@ -322,7 +322,7 @@ module _ (g : Grouping) where
           along-diff (grouped_at g rows) (grouped_at g after) (group_ordered g rows are) (group_ordered g after changed)
           ∙ told-parts (grouped_at g rows) (grouped_at g after) before_rows after_rows (group_ordered g rows are) (group_ordered g after changed) (shown-are was) (shown-are is) (λ q x. part q)
 
-  -- ---- the same in memory: a change that is told, and the groups before and after
+  -- ---- the same in memory: a change with the row that was there, and the groups before and after
 
   module _ (rows : Positioned) (change : Change) (are : IsPositioned rows) (exact : IsExactChange change) (kept still : LiveGroups) (taken : Taken) (told : taken ≡ with_old rows change)
       (are-kept : AreMembers g (λ k. group_members k kept) rows)
@@ -350,7 +350,7 @@ module _ (g : Grouping) where
 pub members-same : (g h : Grouping) (es fs : LiveGroups) (left : Positioned) → h ≡ g → fs ≡ es → AreMembers g (λ k. group_members k es) left → AreMembers h (λ k. group_members k fs) left
 members-same g h es fs left same groups members = λ k. ap (group_members k) groups ∙ members k ∙ ap (λ (i : Grouping). rows_with i k left) (sym same)
 
--- under a key that no group has stands nothing
+-- there are no rows under a key that no group has
 pub none-under : (k : KeyTree) (es : LiveGroups) → list_any (λ l. is_eq (key_order k l)) (keys_of es) ≡ false → group_members k es ≡ []
 none-under k [] none = refl
 none-under k (e ∷ es) none = by (is_eq (key_order k e.0)) none (none-under k es)
@@ -359,7 +359,7 @@ none-under k (e ∷ es) none = by (is_eq (key_order k e.0)) none (none-under k e
     by true none rest = cc
     by false none rest = rest none
 
--- where all goes well
+-- if the result is `Ok`
 pub ok-any : {A E P : Type 0} (r : Result A E) → P → OnOk r P
 ok-any (Ok a) p = p
 ok-any (Err e) p = tt

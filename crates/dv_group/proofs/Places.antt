@@ -16,7 +16,7 @@ drop-one zero xs = refl
 drop-one (suc n) [] = refl
 drop-one (suc n) (x ∷ xs) = drop-one n xs
 
--- the place that a loop is at, and those behind it
+-- the place that a loop is at, and those after it
 pub place-left : {X Y : Type 0} (f : X → Y) (xs : List X) (n : ℕ) (x : X) → n < length xs → x ≡ get_or xs n x → map f (drop n xs) ≡ f x ∷ map f (drop (n + 1) xs)
 place-left f xs n x within is = ap (map f) (drop_more xs n x within) ∙ ap (λ y. f y ∷ map f (drop (n + 1) xs)) (sym is)
 
@@ -74,7 +74,7 @@ module _ (a : Accumulation) (d : Row) where
 
 -- ---- one step
 
--- a field's turn among all: its state changes, and the others are left
+-- the state of one field changes, and the fields after it are left
 module _ (change : RowChange) (a : Accumulation) (p : PosTree) (d : Row) (fields : List Accumulation) (place : ℕ) (first so_far after all : List AccumulatorState) (R : Type 0)
     (same : drop place so_far ≡ drop place first) (followed : after ≡ states_after_at change p d place a so_far) where
   pub step-after : states_after_from change p d place (a ∷ fields) so_far ≡ all → states_after_from change p d (place + 1) fields after ≡ all
@@ -92,7 +92,7 @@ module _ (change : RowChange) (a : Accumulation) (p : PosTree) (d : Row) (fields
 
 -- ---- the values of states
 
--- where one of the two ends, no more values come
+-- if one of the two lists ends, there are no more values
 pub values-ended : (fields : List Accumulation) (ts : List AccumulatorState) → (length fields ≡ 0) ⊎ (length ts ≡ 0) → state_values fields ts ≡ []
 values-ended [] ts over = refl
 values-ended (a ∷ fields) [] over = refl

@@ -27,7 +27,7 @@ module _ {V W : Type 0} (f : V → W) where
   abbrev pub each_seen : List (PosTree × V) → List (PosTree × W)
   each_seen es = map (λ e. (e.0, f e.1)) es
 
-  -- one is added, or removed, as it is seen
+  -- adding or removing an entry is the same before and after `f` is applied
   pub seen-put : (p : PosTree) (v : V) (es : List (PosTree × V)) → each_seen (put p v es) ≡ put p (f v) (each_seen es)
   seen-put p v [] = refl
   seen-put p v (e ∷ es) = by (pos_order p e.0) (seen-put p v es)
@@ -69,12 +69,12 @@ module _ (a : Accumulation) where
   unfolding IsStrictlySortedBy
   first-less r rows are = are.ascending.0
 
-  -- below all rows, a value comes in front
+  -- a value before all others comes first
   put-below : (p : PosTree) (o : Option Tree) (vs : Values) → AllByRecursion (λ q. pos_order p q ≡ Less) (keys_of vs) → with_first p o vs ≡ with_pushed p o vs
   put-below p None vs below = refl
   put-below p (Some v) vs below = sym (put-front p v vs below)
 
-  -- a value behind the first one
+  -- a value after the first one
   put-behind : (p : PosTree) (o : Option Tree) (q : PosTree) (there : Option Tree) (vs : Values) → pos_order p q ≡ Greater → with_first q there (with_pushed p o vs) ≡ with_pushed p o (with_first q there vs)
   put-behind p None q there vs h = refl
   put-behind p (Some v) q None vs h = refl
@@ -88,7 +88,7 @@ module _ (a : Accumulation) where
   gone-behind p q None vs h = refl
   gone-behind p q (Some w) vs h = ap (λ b. cond b vs ((q, w) ∷ gone p vs)) (sym h)
 
-  -- a row is added where none stands
+  -- a row is added where there is none
   pub pushed-put : (p : PosTree) (d : Row) (rows : Positioned) → IsPositioned rows → IsExact p → at p rows ≡ None → pushed_over a (put p d rows) ≡ with_pushed p (of d) (pushed_over a rows)
   pushed-put p d [] are x none = put-below p (of d) [] tt
   pushed-put p d (r ∷ rows) are x none = by (pos_order p r.0) refl (pushed-put p d rows (positioned-tail r rows are) x)
@@ -102,7 +102,7 @@ module _ (a : Accumulation) where
           let behind : at p rows ≡ None = ap (λ o. cond (is_eq o) (Some r.1) (at p rows)) (sym h) ∙ none in
           ap (with_first r.0 (of r.1)) (rest behind) ∙ put-behind p (of d) r.0 (of r.1) (pushed_over a rows) h
 
-  -- where no row stands, no value is removed
+  -- if there is no row, no value is removed
   none-gone : (p : PosTree) (rows : Positioned) → at p rows ≡ None → gone p (pushed_over a rows) ≡ pushed_over a rows
   none-gone p [] none = refl
   none-gone p (r ∷ rows) none = by (is_eq (pos_order p r.0)) refl none (none-gone p rows)

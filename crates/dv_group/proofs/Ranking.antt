@@ -1,4 +1,5 @@
--- The rows of a group, ranked by a value: what stands among them after a change of a row, and that the first has the least value, or the greatest.
+-- The rows of a group, ranked by a value: which they are after a change of a row, and that the first has the least value, or the
+-- greatest.
 use Rattle.std.specs.Prelude.{◌≡◌, ◌||◌, ◌&&◌, not, Bool, true, false, cond, List, [], ◌∷◌, Option, None, Some, refl}
 use Rattle.std.proofs.Common.{ap, sym, ◌∙◌}
 use Rattle.std.specs.declared.cmp.Ordering.{Ordering}
@@ -51,7 +52,7 @@ module _ (p : PosTree) (d : Row) (rows : Positioned) (are : IsPositioned rows) (
       same_rows (put p d (gone p rows)) rows (positioned-put p d (gone p rows) (positioned-gone p rows are) exact) are
       (λ q x. at-put q p d (gone p rows) ∙ ap (cond (is_eq (pos_order q p)) (Some d)) (at-gone q p rows are.ascending ∙ ap (λ b. cond b None (at q rows)) (at_back p q)) ∙ over (is_eq (pos_order q p)) (Some d) None (at q rows) (same-there (Some d) some q))
 
--- ---- a row more, by its rank
+-- ---- one more row, by its rank
 
 either : {A : Type 0} (P : A → Type 0) (b : Bool) (x y : A) → P x → P y → P (cond b x y)
 either P true x y p q = p
@@ -60,7 +61,7 @@ either P false x y p q = q
 either-same : {A : Type 0} (b : Bool) (x : A) → x ≡ cond b x x
 either-same b x = either (λ y. x ≡ y) b x x refl refl
 
--- the second of two tests decides first
+-- two tests, the second of which is made first
 in-two : {A : Type 0} (o c : Ordering) (x y : A) → cond (is_eq (ordering_then o c)) x y ≡ cond (is_eq c) (cond (is_eq o) x y) y
 in-two Less c x y = either-same (is_eq c) y
 in-two Equal c x y = refl
@@ -122,12 +123,12 @@ module _ (a : Accumulation) where
   none-ranked [] = refl
   none-ranked (r ∷ rows) = none-with a.accumulator r.0 r.1 (ranked_over a rows) (field_value a r.1) ∙ none-ranked rows
 
-  -- what passes comes where nothing stood
+  -- a row that passes is added where there was none
   comes : (f : Row → Bool) (b : Bool) (d : Row) (there : Option Row) → (b ≡ true → there ≡ None) → cond b (cond (f d) (Some d) (option_filter f there)) (option_filter f there) ≡ option_filter f (cond b (Some d) there)
   comes f true d there none = ap (λ s. cond (f d) (Some d) (option_filter f s)) (none refl)
   comes f false d there none = refl
 
-  -- at a part and a position stands the row of the position, where it ranks at the part
+  -- at a part and a position is the row of the position, if it ranks at the part
   at-ranked : (part : Part) (q : PosTree) (rows : Positioned) → IsPositioned rows → at (part ∷ q) (ranked_over a rows) ≡ option_filter (ranks_at part) (at q rows)
   at-ranked part q [] are = refl
   at-ranked part q (r ∷ rows) are =
@@ -135,7 +136,7 @@ module _ (a : Accumulation) where
       ∙ ap (λ s. cond (is_eq (pos_order q r.0)) (cond (ranks_at part r.1) (Some r.1) s) s) (at-ranked part q rows (positioned-tail r rows are))
       ∙ comes (ranks_at part) (is_eq (pos_order q r.0)) r.1 (at q rows) (past q r rows are)
 
-  -- a row more, at a position where none stands
+  -- one more row, at a position where there is none
   pub ranked-put : (p : PosTree) (d : Row) (rows : Positioned) → IsPositioned rows → IsExact p → at p rows ≡ None → ranked_over a (put p d rows) ≡ with_ranked a.accumulator (field_value a d) p d (ranked_over a rows)
   ranked-put p d rows are exact none = same_rows (ranked_over a (put p d rows)) (with_ranked a.accumulator (field_value a d) p d (ranked_over a rows)) (ranked-positioned (put p d rows) after) (positioned-with a.accumulator p d (ranked_over a rows) (field_value a d) (ranked-positioned rows are) exact) by
     where
@@ -151,7 +152,7 @@ module _ (a : Accumulation) where
           ∙ ap (λ s. cond (is_eq (pos_order q p)) (cond (ranks_at part d) (Some d) s) s) (at-ranked part q rows are)
           ∙ comes (ranks_at part) (is_eq (pos_order q p)) d (at q rows) (same-there p d rows are exact None none q))
 
-  -- a row that stands at a position is removed
+  -- a row that is at a position is removed
   pub ranked-gone : (p : PosTree) (d : Row) (rows : Positioned) → IsPositioned rows → IsExact p → at p rows ≡ Some d → ranked_over a (gone p rows) ≡ without_ranked a.accumulator (field_value a d) p (ranked_over a rows)
   ranked-gone p d rows are exact some =
       let left : IsPositioned (gone p rows) = positioned-gone p rows are in
@@ -186,7 +187,7 @@ module _ (accumulator : Accumulator) where
       let total = rank_order_total in
       ap is_gt (total.antisymm x z ∙ ap ordering_reverse (total.trans z y x (total.antisymm z y ∙ is-turned (rank_order y z) second) (total.antisymm y x ∙ is-turned (rank_order x y) first)))
 
-  -- the value that ranks before the best before it, or else that one; null never
+  -- the value if it ranks before the best one so far, otherwise that one; null is never better
   abbrev better : Tree → Tree → Tree
   better v b = cond (not (is_null v) && (is_null b || behind b v)) v b
 
@@ -207,7 +208,7 @@ module _ (accumulator : Accumulator) where
   both-better : (v b : Tree) → is_null v ≡ false → is_null b ≡ false → better v b ≡ cond (behind b v) v b
   both-better v b some is = λ i. cond (not (some i) && (is i || behind b v)) v b
 
-  -- it doesn't matter which two come first
+  -- it doesn't matter which two are compared first
   better-both : (w v b : Tree) → is_null v ≡ false → better w (better v b) ≡ better (better w v) b
   better-both w v b some = by (is_null w) refl (is_null b) refl
     where
@@ -240,7 +241,7 @@ module _ (a : Accumulation) where
     abbrev others : Positioned
     others = ranked_over a rows
 
-    -- what stands behind the first row
+    -- a row after the first one
     stands-behind : (q : PosTree) (d : Row) → at q rows ≡ Some d → pos_order r.0 q ≡ Less
     stands-behind q d there = pos_order_total.antisymm r.0 q ∙ ap ordering_reverse (by (pos_order q r.0) refl)
       where
@@ -249,7 +250,7 @@ module _ (a : Accumulation) where
         by Equal is = absurd (let none = past q r rows are (ap is_eq is) in cc)
         by Greater is = refl
 
-    -- a ranked row behind it has a value, and the first stands to it as their ranks do
+    -- a ranked row after it has a value; the ranks of both rows decide their order, and if they are equal, the first row is first
     abbrev Stands : Tree → PosTree → Row → Type 0
     Stands v q d = (w : Tree) × (field_value a d ≡ Some w) × (is_null w ≡ false) × (pos_order (rank_of v ∷ r.0) q ≡ ordering_then (part_order (rank_of v) (rank_of w)) Less)
 
@@ -304,7 +305,7 @@ module _ (a : Accumulation) where
 
 -- ---- the least and the greatest
 
--- an extreme is what ranks best, where it stands as ranks do
+-- an extreme is the value that ranks best, if values are ordered as ranks are
 extreme-best : (e : _) (accumulator : Accumulator) → of_none accumulator ≡ extreme_state e null → ((v w : Tree) → is_gt (part_order (rank accumulator v) (rank accumulator w)) ≡ extreme_stands_so e (order w v)) → (vs : List Tree) (b : Tree) → best_from accumulator b vs ≡ extreme_from e b vs
 extreme-best e accumulator of so [] b = refl
 extreme-best e accumulator of so (v ∷ vs) b = ap (λ s. best_from accumulator (cond (not (is_null v) && (is_null b || s)) v b) vs) (so b v) ∙ extreme-best e accumulator of so vs (cond (not (is_null v) && (is_null b || extreme_stands_so e (order v b))) v b)

@@ -20,7 +20,7 @@ use Rattle.dv_group.specs.Inner.AccumulatorStates.{adds, sum_over, sum_state, fi
 
 -- ---- one row more, and one less
 
--- which row stands at the first position
+-- which row is at the first position
 first-there : (b : Bool) (d e : Row) (r : Option Row) → b ≡ true → cond b (Some e) r ≡ Some d → e ≡ d
 first-there true d e r is there = cc
 first-there false d e r is there = cc
@@ -62,7 +62,7 @@ module _ (a : Accumulation) (p : PosTree) (d : Row) where
           omega (arith, ints, same)
       by false here rest = let behind = rest here in omega (arith, ints, behind)
 
-  -- a row that stands there was counted
+  -- a row that is there was counted
   pub counted : (rows : Positioned) → at p rows ≡ Some d → int64s_in (field_value a d) ≤ int64s_over a rows
   counted [] there = cc
   counted (e ∷ rows) there = by (is_eq (pos_order p e.0)) refl (λ here. counted rows (some-there (is_eq (pos_order p e.0)) d e.1 (at p rows) here there))

@@ -1,4 +1,4 @@
--- What is shown of the groups of two keys.
+-- The rows that are shown for the groups of two keys.
 use Rattle.std.specs.Prelude.{◌≡◌, true, false, cond, [], ◌∷◌, Option, None, Some, refl}
 use Rattle.std.proofs.Common.{ap, sym, ◌∙◌}
 use Rattle.dv_order.specs.Key.{KeyTree}
@@ -16,7 +16,7 @@ use Rattle.dv_group.specs.declared.transition.RowsWanted.TheVariants.{Unwanted, 
 use Rattle.dv_group.specs.Inner.Members.{AreTransitions, IsTransitionAt, LiveGroups, are_one, group_members, is_key, put_some, rows_after, rows_before, set_at, with_row, with_shown}
 use Rattle.dv_group.proofs.Under.{shown-once}
 
--- where two keys aren't equal, neither is that of the other
+-- if two keys aren't equal, neither is equal to the other
 other-apart : (key other : Option KeyTree) → are_one key other ≡ false → (l : KeyTree) → other ≡ Some l → is_key l key ≡ false
 other-apart None other apart l is = refl
 other-apart (Some k) other apart l is = equal-back l k ∙ ap (is_key k) (sym is) ∙ apart
@@ -37,7 +37,7 @@ module _ (g : Grouping) where
   shown-like was now None rows same = refl
   shown-like was now (Some k) rows same = ap (λ (es : Positioned). put_some (Up k ∷ []) (row_shown g (forget es)) rows) (same k refl)
 
-  -- where the keys are equal, of one group
+  -- if the keys are equal, the rows of one group
   pub one-shown : (wish : RowsWanted) (es fs : LiveGroups) (key other : Option KeyTree) (transition : Transition) (transitions : Transitions) → are_one key other ≡ true
       → IsTransitionAt wish g (λ k. group_members k es) (λ k. group_members k fs) key transition
       → rows_before transitions ≡ with_row key transition.before [] → rows_after transitions ≡ with_row key transition.after []
@@ -48,7 +48,7 @@ module _ (g : Grouping) where
       let now : KeyTree → Positioned = λ k. group_members k fs in
       (before ∙ before-shown lender was now key transition [] shown ∙ shown-once g es key other one, after ∙ after-shown lender was now key transition [] shown ∙ shown-once g fs key other one)
 
-  -- where they aren't, of one after the other
+  -- if they aren't, the rows of one group after the other
   module _ (es ms fs : LiveGroups) (pos : PosTree) (key other : Option KeyTree) (new : Option Row) (apart : are_one key other ≡ false)
       (left : (k : KeyTree) → group_members k ms ≡ cond (is_key k key) (gone pos (group_members k es)) (group_members k es))
       (added : (k : KeyTree) → group_members k fs ≡ cond (is_key k other) (set_at pos new (group_members k ms)) (group_members k ms)) where

@@ -1,4 +1,4 @@
--- What stands under each key, where rows under one key change.
+-- The rows under each key, when the rows under one key change.
 use Rattle.std.specs.Prelude.{◌≡◌, Bool, true, false, cond, List, [], ◌∷◌, Option, None, Some, slice_get, refl}
 use Rattle.std.proofs.Common.{ap, subst, sym, ◌∙◌}
 use Rattle.std.specs.declared.cmp.Ordering.{Ordering}
@@ -28,7 +28,7 @@ use Rattle.dv_group.specs.Inner.Members.{AreLiveGroups, IsLiveGroup, IsRowIfMade
 use Rattle.dv_group.proofs.GroupStates.{set-over}
 use Rattle.dv_value.specs.Inner.ListLaws.{cond-over}
 
--- under equal keys stands the same
+-- equal keys have the same rows
 pub members-alike : (k l : KeyTree) → key_order k l ≡ Equal → (es : LiveGroups) → group_members k es ≡ group_members l es
 members-alike k l e es = ap rows_in (found es)
   where
@@ -36,13 +36,13 @@ members-alike k l e es = ap rows_in (found es)
     found [] = refl
     found (x ∷ es) = λ i. cond (beside k l x.0 e i) (Some x.1) (found es i)
 
--- where there is no first one, there is none
+-- a list without a first element is empty
 pub none-first : {A : Type 0} (xs : List A) → slice_get xs 0 ≡ None → xs ≡ []
 none-first [] e = refl
 none-first (x ∷ xs) e = absurd cc
 
 module _ (es fs : LiveGroups) (key : KeyTree) where
-  -- one key's rows become others
+  -- the rows under one key are changed
   pub changed-under : (change : Positioned → Positioned) (new : Option LiveGroup) → rows_in new ≡ change (group_members key es) → ((k : KeyTree) → lookup (is_at (key_order k)) fs ≡ cond (is_at (key_order key) k) new (lookup (is_at (key_order k)) es))
       → (k : KeyTree) → group_members k fs ≡ cond (is_eq (key_order k key)) (change (group_members k es)) (group_members k es)
   changed-under change new is written k = ap rows_in (written k ∙ ap (λ b. cond b new (lookup (is_at (key_order k)) es)) (equal-back key k)) ∙ by (is_eq (key_order k key)) refl
@@ -51,7 +51,7 @@ module _ (es fs : LiveGroups) (key : KeyTree) where
       by true here = is ∙ ap change (sym (members-alike k key ((Equal-is (key_order k key)).0 here) es))
       by false here = refl
 
--- what is written under a key twice stands as it was written last
+-- if a key is written twice, the last value stays
 pub written-over : (es ms fs : LiveGroups) (key : KeyTree) (first last : Option LiveGroup)
     → ((k : KeyTree) → lookup (is_at (key_order k)) ms ≡ cond (is_at (key_order key) k) first (lookup (is_at (key_order k)) es))
     → ((k : KeyTree) → lookup (is_at (key_order k)) fs ≡ cond (is_at (key_order key) k) last (lookup (is_at (key_order k)) ms))
@@ -59,13 +59,13 @@ pub written-over : (es ms fs : LiveGroups) (key : KeyTree) (first last : Option 
 written-over es ms fs key first last before behind k =
     behind k ∙ ap (cond (is_at (key_order key) k) last) (before k) ∙ cond-over (is_at (key_order key) k) last first (lookup (is_at (key_order k)) es)
 
--- what is written under a copy of a key stands under the key
+-- what is written under a copy of a key is under the key
 pub written-under : (es fs : LiveGroups) (key own : KeyTree) (new : Option LiveGroup) → own ≡ key
     → ((k : KeyTree) → lookup (is_at (key_order k)) fs ≡ cond (is_at (key_order own) k) new (lookup (is_at (key_order k)) es))
     → (k : KeyTree) → lookup (is_at (key_order k)) fs ≡ cond (is_at (key_order key) k) new (lookup (is_at (key_order k)) es)
 written-under es fs key own new same written k = written k ∙ ap (λ (l : KeyTree). cond (is_at (key_order l) k) new (lookup (is_at (key_order k)) es)) same
 
--- what is written in the slot of a group stands under its key
+-- what is written in the slot of a group is under its key
 pub written-there : (m n : BTreeMap KeyTree LiveGroup) (key : KeyTree) (old new : LiveGroup) → Some old ≡ get key_order m key → WritesThrough key_order (key_order key) m new n
     → (k : KeyTree) → lookup (is_at (key_order k)) n.entries ≡ cond (is_at (key_order key) k) (Some new) (lookup (is_at (key_order k)) m.entries)
 written-there m n key old new there writes = (writes.3 (rw (← there) refl)).0
@@ -75,13 +75,13 @@ found-there m n key old new there writes = sym (writes.3 (rw (← there) refl)).
 
 -- ---- two keys
 
--- where they are equal, the groups of the one are those of the other
+-- if they are equal, a key equals both or neither
 one-key : (key other : Option KeyTree) → are_one key other ≡ true → (k : KeyTree) → is_key k key ≡ is_key k other
 one-key None other one k = cc
 one-key (Some a) None one k = cc
 one-key (Some a) (Some b) one k = equal-back k a ∙ beside a b k ((Equal-is (key_order a b)).0 one) ∙ equal-back b k
 
--- the row of the group of a key comes once, where another key is equal
+-- if they are equal, the row of their group is shown once
 pub shown-once : (g : Grouping) (es : LiveGroups) (key other : Option KeyTree) → are_one key other ≡ true → with_shown g (λ k. group_members k es) key [] ≡ shown_of g (λ k. group_members k es) key other
 shown-once g es None other one = cc
 shown-once g es (Some k) None one = cc
@@ -99,14 +99,14 @@ shown-once g es (Some k) (Some l) one =
 -- ---- sound groups
 
 module _ (g : Grouping) where
-  -- one whose row isn't made
+  -- one whose row isn't computed
   pub live-of : (b : GroupState) (live : LiveGroup) → live.state ≡ b → live.row ≡ None → IsGroupState g.fields b → IsLiveGroup g live
   live-of b live is none sound = record {
     state = subst (λ (x : GroupState). IsGroupState g.fields x) (sym is) sound;
     row = subst (IsRowIfMade g live.state.members) (sym none) tt;
   }
 
-  -- one whose row is made
+  -- one whose row is computed
   row-if-made : (rows : Positioned) (row : Option Row) → row ≡ row_shown g (forget rows) → IsRowIfMade g rows row
   row-if-made rows None is = tt
   row-if-made rows (Some d) is = is
@@ -115,7 +115,7 @@ module _ (g : Grouping) where
   shown-row Unwanted rows row is = subst (IsRowIfMade g rows) (sym is) tt
   shown-row (Wanted lender) rows row is = row-if-made rows row is
 
-  -- one whose row is what is shown of it
+  -- one whose row is the row that is shown
   pub live-shown : (wish : RowsWanted) (before : LiveGroup) (row : Option Row) → IsShownIfWanted wish g before.state.members row → IsLiveGroup g before → IsLiveGroup g (record { state = before.state; row = row })
   live-shown wish before row is sound = record { state = sound.state; row = shown-row wish before.state.members row is }
 
@@ -168,7 +168,7 @@ module _ (g : Grouping) where
       by true rest = all.0.state.positioned
       by false rest = rest
 
-  -- what is set in a group takes the place of what is removed
+  -- the row that is set in a group replaces the row that is removed
   pub stays-one : (pos : PosTree) (key other : Option KeyTree) (new : Option Row) → are_one key other ≡ true → (es : LiveGroups) → IsExact pos → AreLiveGroups g es → (k : KeyTree)
       → cond (is_key k key) (set_at pos new (group_members k es)) (group_members k es) ≡ moved pos key other new k (group_members k es)
   stays-one pos key other new one es exact all k =

@@ -32,8 +32,8 @@ pub(crate) enum RowChange {
 pub(crate) enum AccumulatorState {
     /// For `$sum`: the sum of the numbers among them.
     Sum(SumState),
-    /// For `$min` and `$max`: the rows with a value that isn't null, by it and then by their positions. The least value is the
-    /// first for `$min`, the greatest for `$max`.
+    /// For `$min` and `$max`: the rows with a value that isn't null, ordered by the value and then by their positions. The least
+    /// value is the first for `$min`, the greatest for `$max`.
     Extreme(Ordered<Document>),
     /// For `$push`: the values, by the positions of their rows.
     Array(Ordered<Value>),
@@ -51,7 +51,7 @@ impl AccumulatorState {
         }
     }
 
-    /// Adds the row at the position, or removes it. Fails when memory runs out; then it is spent.
+    /// Adds the row at the position, or removes it. Fails when memory runs out; then the state may only be dropped.
     pub(crate) fn apply(
         &mut self,
         alloc: Global,
@@ -97,7 +97,7 @@ impl AccumulatorState {
     }
 }
 
-/// The rows with one more, or without it, where it has a value that isn't null. Fails when memory runs out.
+/// The rows with this one added or removed, if it has a value that isn't null. Fails when memory runs out.
 fn reranked(
     alloc: Global,
     rows: Ordered<Document>,
@@ -121,7 +121,7 @@ fn reranked(
     }
 }
 
-/// Where the row at the position stands by this value. Fails when memory runs out.
+/// The position of the row at `pos` among rows that are ordered by this value. Fails when memory runs out.
 fn ranked_place(
     alloc: Global,
     accumulator: Accumulator,
@@ -138,7 +138,7 @@ fn ranked_place(
     pos.behind_part(alloc, part)
 }
 
-/// The value of the first row, null where there is none. Fails when memory runs out.
+/// The value of the first row, or null if there is none. Fails when memory runs out.
 fn value_of_first(
     alloc: Global,
     field: &GroupField,
@@ -155,7 +155,7 @@ fn value_of_first(
     }
 }
 
-/// The values with that of the row at the position, where it has one, or without it. Fails when memory runs out.
+/// The values with that of the row at the position added, if it has one, or removed. Fails when memory runs out.
 #[tactic(auto, using(crate::proofs::Pushing::values_put, crate::proofs::Pushing::values_gone))]
 fn repushed(
     alloc: Global,

@@ -1,4 +1,4 @@
-//! `$group`, told what stood where a change is.
+//! The operator for `$group`.
 
 ghost use Rattle.std.specs.Prelude.{◌≡◌, ◌≤◌, ◌+◌, ◌++◌, [], length, IfOk, OnErr, OnOk, Some};
 ghost use Rattle.dv_change.specs.Inner.Beginning.{BeginsWith};
@@ -22,15 +22,15 @@ use dv_value::{Document, NoMemory};
 use std::alloc::Global;
 use std::collections::BTreeMap;
 
-/// The groups of rows, each a row at its key, kept by changes that tell what stood at their positions. Looks only at the groups of
-/// the changed row, and of these at the row that is added or removed, the first one and the one with the least or greatest value;
-/// with a `$push`, it copies the array that it returns.
+/// The groups of rows, each a row at its key, updated by changes that come with the row that was at their position. For a change it
+/// reads only the groups of the changed row, and of these the row that is added or removed, the first one and the one with the
+/// least or greatest value; with a `$push`, it copies the array that it returns.
 #[derive(Drop)]
 pub struct GroupOperator {
     alloc: Global,
     group: Group,
     groups: Groups,
-    /// The row of a group, which lends its names.
+    /// The row of a group, with which later rows share names.
     last: Option<Document>,
 }
 
@@ -49,7 +49,7 @@ impl GroupOperator {
         })
     }
 
-    /// Takes in a change of its rows, and tells what changes of those of the groups.
+    /// Takes in a change of its rows, and appends the changes of the groups' rows to `out`.
     fn regroup(
         &mut self,
         taken: Taken,
@@ -75,7 +75,7 @@ impl GroupOperator {
         self.tell(&transitions, ticks, out)
     }
 
-    /// Tells what leads from the rows before to those after.
+    /// Appends to `out` the changes from the rows before to the rows after.
     fn tell(
         &mut self,
         transitions: &Transitions,
@@ -107,7 +107,7 @@ impl GroupOperator {
         Ok(rows)
     }
 
-    /// The rows, with that of the group of the key.
+    /// The rows, with the row of the group of the key.
     fn with_group(&self, rows: Ordered<Document>, key: &Key) -> Result<Ordered<Document>, NoMemory>
         requires { AreLiveGroups self.now.group self.now.groups.entries }
         ensures { IfOk result (λ more. more ≡ defined.with_shown self.now.group (λ k. group_members k self.now.groups.entries) (Some key.now) rows) }
@@ -116,7 +116,7 @@ impl GroupOperator {
         with_row(self.alloc, rows, key, row)
     }
 
-    /// The row of the group of the key, where it has rows. A row before it lends its names.
+    /// The row of the group of the key, if it has rows. It may share names with the row `before`.
     fn row_of(&self, key: &Key, before: Option<&Document>) -> Result<Option<Document>, NoMemory>
         requires { AreLiveGroups self.now.group self.now.groups.entries }
         ensures { IfOk result (λ row. row ≡ row_shown self.now.group (forget (group_members key.now self.now.groups.entries))) }
@@ -127,7 +127,7 @@ impl GroupOperator {
         }
     }
 
-    /// A row that lends its names: the first of these, or the one that is kept for it.
+    /// A row with which another may share names: the first of these, or the one that is kept for this.
     fn lender<'a>(&'a self, rows: &'a Ordered<Document>) -> Option<&'a Document> {
         match first_row(rows) {
             Some(first) => Some(first),
@@ -135,7 +135,7 @@ impl GroupOperator {
         }
     }
 
-    /// Keeps the row, where there is one, so that it lends its names.
+    /// Keeps the row, if there is one, so that later rows can share its names.
     fn keep_last(&mut self, row: Option<&Document>) -> Result<(), NoMemory>
         ensures groups { self.new.groups.entries ≡ self.old.groups.entries }
         ensures group { self.new.group ≡ self.old.group }
@@ -183,7 +183,7 @@ impl Operator for GroupOperator {
         true
     }
 
-    /// Makes the row of each group once.
+    /// Computes the row of each group once.
     fn fill(&mut self, all: Vec<Taken>) -> Result<Vec<Taken>, NoMemory> {
         follow_all(self.alloc, &self.group, &mut self.groups, all)?;
         let rows = self.all_shown()?;
@@ -192,7 +192,7 @@ impl Operator for GroupOperator {
     }
 }
 
-/// What tells of the rows, where none were. Fails when memory runs out.
+/// The changes that insert these rows where there were none. Fails when memory runs out.
 fn puts_of(alloc: Global, rows: &Ordered<Document>) -> Result<Vec<Taken>, NoMemory>
     ensures { IfOk result (λ puts. puts.items ≡ diff_told [] rows.now) }
 {

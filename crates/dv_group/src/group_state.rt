@@ -44,7 +44,8 @@ impl GroupState {
         self.members.is_empty()
     }
 
-    /// Sets what stands at the position: the row, or nothing. Fails when memory runs out; then it is spent.
+    /// Sets the row at the position, or removes the row that is there. Fails when memory runs out; then the state may only be
+    /// dropped.
     pub(crate) fn set(
         &mut self,
         alloc: Global,
@@ -65,7 +66,7 @@ impl GroupState {
         apply_some(alloc, states, group, RowChange::Added, &pos, &row)
     }
 
-    /// The group's row, where it has rows. A row before it lends its names, if there is one. Fails when memory runs out.
+    /// The group's row, if it has rows. It may share names with the row `before`, if there is one. Fails when memory runs out.
     pub(crate) fn row(
         &self,
         alloc: Global,
@@ -114,8 +115,8 @@ fn states_of_none(alloc: Global, fields: &[GroupField]) -> Result<Vec<Accumulato
     Ok(states)
 }
 
-/// Sets which of the rows stands at the position, or that none does. Gives the one that stood there. Fails when memory runs out;
-/// then all are dropped.
+/// Sets the row at the position, or removes the row that is there. Returns the row that was there. Fails when memory runs out;
+/// then all rows are dropped.
 fn exchange(
     alloc: Global,
     rows: &mut Ordered<Document>,
@@ -131,7 +132,7 @@ fn exchange(
     Ok(old)
 }
 
-/// The rows, with this one at the position, or with none there, and the one that stood there, if any. Fails when memory runs out.
+/// The rows, with this one at the position, or with none there; and the row that was there, if any. Fails when memory runs out.
 fn with_set(
     rows: Ordered<Document>,
     pos: &Pos,
@@ -146,15 +147,14 @@ fn with_set(
     }
 }
 
-/// That the rows are no more than memory can hold. Does nothing.
+/// There are no more rows than memory can hold. Does nothing.
 fn law_few(members: &Ordered<Document>)
     ensures { length members.now ≤ most_rows }
 {
     let _count = members.len();
 }
 
-/// Adds the row at the position to the states of the group's fields, or removes it, where there is one. Fails when memory runs
-/// out.
+/// Adds the row at the position to the states of the group's fields, or removes it, if there is one. Fails when memory runs out.
 fn apply_some(
     alloc: Global,
     states: &mut Vec<AccumulatorState>,
@@ -192,7 +192,7 @@ fn apply_each(
     Ok(())
 }
 
-/// The same at a place, where there is one.
+/// The same for the state at a place, if there is one.
 fn apply_at(
     alloc: Global,
     states: &mut [AccumulatorState],

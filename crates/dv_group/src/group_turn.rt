@@ -1,4 +1,4 @@
-//! `$group`, kept by changes.
+//! `$group`, updated by changes.
 
 ghost use Rattle.std.specs.Prelude.{◌≡◌, [], IfOk};
 ghost use Rattle.dv_group.specs.Inner.Grouped.{group_empty, group_even, group_ordered};
@@ -10,9 +10,9 @@ use dv_gather::Group;
 use dv_value::NoMemory;
 use std::alloc::Global;
 
-/// The groups of rows, each a row at its key, kept by changes. Looks only at the groups of the changed row, and of these at the row
-/// that is added or removed, the first one and the one with the least or greatest value; with a `$push`, it copies the array that it
-/// returns.
+/// The groups of rows, each a row at its key, updated by changes. For a change it reads only the groups of the changed row, and of
+/// these the row that is added or removed, the first one and the one with the least or greatest value; with a `$push`, it copies
+/// the array that it returns.
 #[derive(Drop)]
 pub struct GroupTurn {
     keeping: Keeping<GroupOperator>,

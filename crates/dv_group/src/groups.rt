@@ -18,7 +18,7 @@ use std::collections::BTreeMap;
 /// The groups, by their keys.
 pub(crate) type Groups = BTreeMap<Key, LiveGroup>;
 
-/// Takes in changes of rows, one after the other, where no rows of groups are wanted. Fails when memory runs out.
+/// Takes in changes of rows, one after the other, without computing the rows of groups. Fails when memory runs out.
 pub(crate) fn follow_all(
     alloc: Global,
     group: &Group,
@@ -35,8 +35,8 @@ pub(crate) fn follow_all(
     Ok(())
 }
 
-/// Takes in a change of a row: the one that stood at its position is removed from the group of its key, and the one that stands
-/// there now is added to that of its own. Gives the rows of these groups before it and after it, where they are wanted. Fails
+/// Takes in a change of a row: the row that was at its position is removed from the group of its key, and the row that is there now
+/// is added to the group of its own key. Returns the rows of these groups before and after the change, if they are wanted. Fails
 /// when memory runs out.
 pub(crate) fn follow(
     alloc: Global,
@@ -56,7 +56,7 @@ pub(crate) fn follow(
     move_row(alloc, group, groups, pos, &key, &other, new, wish)
 }
 
-/// The key of the row, where there is one. Fails when memory runs out.
+/// The key of the row, if there is one. Fails when memory runs out.
 fn key_of_row(alloc: Global, group: &Group, row: &Option<Document>) -> Result<Option<Key>, NoMemory>
     ensures { IfOk result (λ key. key ≡ own_key group.now row.now) }
 {
@@ -69,9 +69,8 @@ fn key_of_row(alloc: Global, group: &Group, row: &Option<Document>) -> Result<Op
     }
 }
 
-/// Removes what stands at the position from the group of the one key, and adds the row there to that of the other one, where
-/// there are keys and a row. Gives the rows of these groups before it and after it, where they are wanted. Fails when memory runs
-/// out.
+/// Removes the row at the position from the group of `key`, and adds the row `new` there to the group of `other`, if there are keys
+/// and a row. Returns the rows of these groups before and after that, if they are wanted. Fails when memory runs out.
 fn move_row(
     alloc: Global,
     group: &Group,
@@ -100,7 +99,7 @@ fn move_row(
     Ok(both)
 }
 
-/// Sets what stands at the position in the group of the key, where there is a key.
+/// Sets the row at the position in the group of the key, or removes the row there, if there is a key.
 fn set_in(
     alloc: Global,
     group: &Group,
@@ -124,7 +123,7 @@ fn set_in(
     }
 }
 
-/// Sets what stands at the position in the group of the key. A group without rows is removed.
+/// Sets the row at the position in the group of the key, or removes the row there. A group without rows is removed.
 fn set_under(
     alloc: Global,
     group: &Group,
@@ -150,7 +149,7 @@ fn set_under(
     Ok(transition)
 }
 
-/// Sets what stands at the position in a new group of the key, which has none.
+/// Sets the row at the position in a new group of the key, which has no group yet.
 fn set_first(
     alloc: Global,
     group: &Group,

@@ -1,4 +1,4 @@
-//! Groups that are kept live by changes.
+//! Groups that are updated by changes.
 
 ghost use Rattle.std.specs.Prelude.{◌≡◌, ◌↔◌, [], IfOk, IsTrue, None, OnOk};
 ghost use Rattle.dv_change.specs.Changes.{forget};
@@ -12,16 +12,16 @@ use dv_gather::Group;
 use dv_value::{Document, NoMemory};
 use std::alloc::Global;
 
-/// A group that is kept live by changes: what it holds, and its row.
+/// A group that is updated by changes: what it holds, and its row.
 #[derive(Drop)]
 pub(crate) struct LiveGroup {
     state: GroupState,
-    /// The group's row, where it was made since its rows changed.
+    /// The group's row, if it was computed since its rows last changed.
     row: Option<Document>,
 }
 
 impl LiveGroup {
-    /// A group, whose row isn't made.
+    /// A group whose row isn't computed yet.
     pub(crate) fn of(state: GroupState) -> Self
         ensures state { result.state ≡ state }
         ensures row { result.row ≡ None }
@@ -36,8 +36,8 @@ impl LiveGroup {
         self.state.is_empty()
     }
 
-    /// Sets what stands at the position: the row, or nothing. Gives the group's row before and after it, where it is wanted.
-    /// Fails when memory runs out; then it is spent.
+    /// Sets the row at the position, or removes the row that is there. Returns the group's row before and after that, if it is
+    /// wanted. Fails when memory runs out; then the group may only be dropped.
     pub(crate) fn set(
         &mut self,
         alloc: Global,
@@ -58,7 +58,7 @@ impl LiveGroup {
         Ok(Transition { before, after })
     }
 
-    /// Keeps the group's row, where it is wanted, and gives it. Fails when memory runs out.
+    /// Keeps and returns the group's row, if it is wanted. Fails when memory runs out.
     fn settle(
         &mut self,
         alloc: Global,
@@ -76,7 +76,7 @@ impl LiveGroup {
         Ok(row)
     }
 
-    /// The group's row, where it is wanted. Fails when memory runs out.
+    /// The group's row, if it is wanted. Fails when memory runs out.
     pub(crate) fn shown_if_wanted(
         &self,
         alloc: Global,
@@ -92,8 +92,8 @@ impl LiveGroup {
         }
     }
 
-    /// The group's row, where it has rows; it is shared where it was made before. A row before it lends its names. Fails when
-    /// memory runs out.
+    /// The group's row, if it has rows. A row that was already computed is shared; a new one may share names with the row `before`.
+    /// Fails when memory runs out.
     pub(crate) fn shown(
         &self,
         alloc: Global,
@@ -110,7 +110,7 @@ impl LiveGroup {
     }
 }
 
-/// A copy of the row, where there is one. Fails when memory runs out.
+/// A copy of the row, if there is one. Fails when memory runs out.
 fn copy_of(row: &Option<Document>) -> Result<Option<Document>, NoMemory>
     ensures { IfOk result (λ copy. copy ≡ row.now) }
 {

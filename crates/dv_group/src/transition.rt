@@ -18,12 +18,12 @@ use std::alloc::Global;
 pub(crate) enum RowsWanted<'r> {
     /// They aren't wanted.
     Unwanted,
-    /// They are wanted. This row lends its names, where there is one.
+    /// They are wanted. They may share names with this row, if there is one.
     Wanted(Option<&'r Document>),
 }
 
 impl<'r> RowsWanted<'r> {
-    /// The same, where this row lends its names, if there is one.
+    /// The same, but names may be shared with this row instead, if there is one.
     pub(crate) fn beside(self, row: &'r Option<Document>) -> Self
         ensures { ShowAlike self.entry result }
     {
@@ -34,7 +34,7 @@ impl<'r> RowsWanted<'r> {
     }
 }
 
-/// The row of a group before a change of its rows, and after it; none where it isn't wanted.
+/// The row of a group before a change of its rows, and after it; none if it isn't wanted.
 #[derive(Drop)]
 pub(crate) struct Transition {
     pub(crate) before: Option<Document>,
@@ -51,7 +51,7 @@ pub(crate) enum Transitions {
 }
 
 impl Transitions {
-    /// Those of the group of the key, where there is a key. Fails when memory runs out.
+    /// Those of the group of the key, if there is a key. Fails when memory runs out.
     pub(crate) fn of_one(
         alloc: Global,
         key: &Option<Key>,
@@ -66,7 +66,7 @@ impl Transitions {
         }
     }
 
-    /// Those of the groups of two keys, where there are keys. Fails when memory runs out.
+    /// Those of the groups of two keys, if there are keys. Fails when memory runs out.
     pub(crate) fn of_two(
         alloc: Global,
         key: &Option<Key>,
@@ -87,7 +87,7 @@ impl Transitions {
         }
     }
 
-    /// One of the rows after, where there is one.
+    /// One of the rows after the change, if there is one.
     pub(crate) fn row_after(&self) -> Option<&Document> {
         match self {
             Transitions::One(_, transition) => transition.after.as_ref(),
@@ -95,7 +95,7 @@ impl Transitions {
         }
     }
 
-    /// Tells what leads from the rows before to those after, as `hand_over` does.
+    /// Appends to `out` the changes from the rows before to the rows after, as `hand_over` does.
     pub(crate) fn tell(&self, ticks: &mut Ticks, out: &mut Vec<Taken>) -> Result<(), NoMemory>
         ensures out { OnOk result (out.new.items ≡ out.old.items ++ diff_told (rows_before self.now) (rows_after self.now)) }
         ensures ticks { OnOk result (ticks.new ≡ raised ticks.old (1 + length (diff_told (rows_before self.now) (rows_after self.now)))) }
@@ -111,7 +111,7 @@ impl Transitions {
     }
 }
 
-/// The first of the rows, where there is one.
+/// The first of the rows, if there is one.
 pub(crate) fn first_row(rows: &Ordered<Document>) -> Option<&Document> {
     match rows.first() {
         Some((_, row)) => Some(row),
@@ -119,7 +119,7 @@ pub(crate) fn first_row(rows: &Ordered<Document>) -> Option<&Document> {
     }
 }
 
-/// The rows of the groups of two keys, where they have one. Fails when memory runs out.
+/// The rows of the groups of two keys, if they have one. Fails when memory runs out.
 fn rows_of_two(
     alloc: Global,
     key: &Key,
@@ -133,7 +133,7 @@ fn rows_of_two(
     with_row(alloc, rows, other, beside)
 }
 
-/// The rows, with that of the group of the key, where it has one. Fails when memory runs out.
+/// The rows, with the row of the group of the key, if it has one. Fails when memory runs out.
 pub(crate) fn with_row(
     alloc: Global,
     rows: Ordered<Document>,
@@ -148,7 +148,7 @@ pub(crate) fn with_row(
     }
 }
 
-/// Where the row of the group of the key stands. Fails when memory runs out.
+/// The position of the row of the group of the key. Fails when memory runs out.
 fn place_of(alloc: Global, key: &Key) -> Result<Pos, NoMemory>
     ensures { IfOk result (λ pos. pos ≡ Up key.now ∷ []) }
 {

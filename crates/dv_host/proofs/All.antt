@@ -1,4 +1,4 @@
--- Connections that are served at once: one comes, one has a turn, one is closed.
+-- Connections that are served at once: one arrives, one has a turn, one is closed.
 use Rattle.std.proofs.Common.{◌≡◌, ◌≢◌, ℕ, suc, ◌+◌, ◌<◌, ◌≤◌, List, [], ◌∷◌, ◌++◌, Option, Some, None, length, get_or, map, set, refl, sym, ap, subst, ◌∙◌, append_assoc, append-nil, arith, length-append, length-set}
 use Rattle.std.proofs.KnownBytes.{Consumes-nil, Consumes-trans, Keeps-refl}
 use Rattle.std.proofs.lemmas.List.Sorted.{IsPermutation-refl}
@@ -84,7 +84,7 @@ apart_with : (links : List Seen) (k : ℕ) (d now : Seen) → now.session ≡ (g
 apart_with links k d now is (refused left taken) apart = tt
 apart_with links k d now is (served was fate) apart = apart_set (λ n. was.session ≢ n) links k d now is apart
 
--- a session that ends, is opened or is refused is none of a connection that was closed before
+-- a session that ends, is opened or is refused is not that of a connection that was closed before
 quiet_end : (links : List Seen) (k : ℕ) (d : Seen) → k < length links → (session : ℕ) → session ≡ (get_or links k d).session → (f : Finished) → IsApart links f → IsQuiet (ended session ∷ []) f
 quiet_end links k d lt session is (refused left taken) apart = tt
 quiet_end links k d lt session is (served link fate) apart =
@@ -103,7 +103,7 @@ numbered_low : (first : ℕ) (links : List Seen) (next : ℕ) → AreNumbered fi
 numbered_low first [] next numbered = tt
 numbered_low first (l ∷ ls) next numbered = (number_below first (l ∷ ls) next 0 l numbered (omega arith), numbered_low (suc l.session) ls next numbered.1)
 
--- at the beginning nothing has come
+-- at the beginning no connection has arrived
 pub begins : {W : Type 0} (Happens : W → Step → W → Type 0) (coming : Option (List (List ℕ))) (closed : Option (List Closed)) (world : W) (next : ℕ) → Hosts (PlaysBy Happens) coming coming closed closed world world next 0 []
 begins Happens coming closed world next = record {
   steps = [];
@@ -131,11 +131,11 @@ begins Happens coming closed world next = record {
 
 module _ {W : Type 0} (Happens : W → Step → W → Type 0) (coming_old coming : Option (List (List ℕ))) (closed_old closed : Option (List Closed)) (old now : W) (next count : ℕ) (links : List Seen)
     (hosts : Hosts (PlaysBy Happens) coming_old coming closed_old closed old now next count links) where
-  -- as many, however that is written
+  -- the same number, written in another way
   pub recounted : (again : ℕ) → count ≡ again → Hosts (PlaysBy Happens) coming_old coming closed_old closed old now next again links
   recounted again same = subst (λ (n : ℕ). Hosts (PlaysBy Happens) coming_old coming closed_old closed old now next n links) same hosts
 
-  -- the outside is another, with the same to come and the same closed
+  -- another outside, with the same connections to come and the same closed ones
   pub same_outside : (coming_new : Option (List (List ℕ))) (closed_new : Option (List Closed)) → coming_new ≡ coming → closed_new ≡ closed → Hosts (PlaysBy Happens) coming_old coming_new closed_old closed_new old now next count links
   same_outside coming_new closed_new same_coming same_closed =
       subst (λ (c : Option (List (List ℕ))). Hosts (PlaysBy Happens) coming_old c closed_old closed_new old now next count links) (sym same_coming)
@@ -226,7 +226,7 @@ module _ {W : Type 0} (Happens : W → Step → W → Type 0) (coming_old coming
             (all_weaker (IsApart links) (IsApart (remove links k)) (λ f a. apart_without links k f a) hosts.finished hosts.apart) (others, tt);
       })
 
-  -- a connection comes, and its session is opened
+  -- a connection arrives, and its session is opened
   pub opened_for : (new : W) (next_new : ℕ) (coming_new : Option (List (List ℕ))) (closed_new : Option (List Closed)) (link : Seen) → length links < 1000 → next_new ≡ next + 1
       → Happens now (opened (Some next)) new → Accepts coming link.left coming_new → HasTaken link.taken [] → link ≡ record { session = next; left = link.left; taken = link.taken; unsent = []; pending = []; closing = None } → closed_new ≡ closed
       → Hosts (PlaysBy Happens) coming_old coming_new closed_old closed_new old new next_new (count + 1) (links ++ link ∷ [])
@@ -282,7 +282,7 @@ module _ {W : Type 0} (Happens : W → Step → W → Type 0) (coming_old coming
         apart = all_apart links link next is hosts.finished hosts.apart hosts.gone;
       })
 
-  -- a connection comes, no session is opened, and it is closed
+  -- a connection arrives, no session is opened, and it is closed
   pub refused_for : (new : W) (next_new : ℕ) (coming_new : Option (List (List ℕ))) (closed_new : Option (List Closed)) (left taken : Option (List ℕ)) → next_new ≡ next
       → Happens now (opened None) new → Accepts coming left coming_new → HasTaken taken [] → Closes closed left taken Failed closed_new
       → Hosts (PlaysBy Happens) coming_old coming_new closed_old closed_new old new next_new (count + 1) links
@@ -323,7 +323,7 @@ module _ {W : Type 0} (Happens : W → Step → W → Type 0) (coming_old coming
         apart = all_joined (IsApart links) hosts.finished (gone_one ∷ []) hosts.apart (tt, tt);
       })
 
--- where none is open, all were served
+-- if none is open, all were served
 pub all_served : {W : Type 0} (Happens : W → Step → W → Type 0) (coming_old coming : Option (List (List ℕ))) (closed_old closed : Option (List Closed)) (old now : W) (next count : ℕ)
     → Hosts (PlaysBy Happens) coming_old coming closed_old closed old now next count []
     → (served : Served (PlaysBy Happens) coming_old coming closed_old closed old now count) × AreBelow next served.accepted

@@ -1,4 +1,4 @@
--- Bytes that are given one part after the other.
+-- Bytes that are sent one part after the other.
 use Rattle.std.proofs.Common.{◌≡◌, ℕ, ◌+◌, ◌-◌, ◌≤◌, List, [], ◌++◌, Option, length, take, drop, sym, ap, subst, ◌∙◌, arith, length-drop, append_assoc, append-nil, Some, None}
 use Rattle.std.proofs.Math.Seq.{take-add}
 use Rattle.std.proofs.lemmas.List.{take_all}
@@ -16,7 +16,7 @@ Gains-trans (Some x) None c bs cs p q = absurd p
 Gains-trans (Some x) (Some y) None bs cs p q = absurd q
 Gains-trans (Some x) (Some y) (Some z) bs cs p q = q ∙ ap (λ (l : List ℕ). l ++ cs) p ∙ append_assoc x bs cs
 
--- so many of the bytes are given
+-- so many of the bytes are sent
 pub record HasGiven (before now : Option (List ℕ)) (bytes : List ℕ) (count : ℕ) : Type 0 where
   pub within : count ≤ length bytes
   pub taken : Gains before now (take count bytes)
@@ -24,7 +24,7 @@ pub record HasGiven (before now : Option (List ℕ)) (bytes : List ℕ) (count :
 pub none_given : (before : Option (List ℕ)) (bytes : List ℕ) → HasGiven before before bytes 0
 none_given before bytes = record { within = omega arith; taken = Gains-nil before }
 
--- what a slice behind the first bytes is
+-- the slice after the first bytes
 pub rest_is : (bytes : List ℕ) (count : ℕ) → take (length bytes - count) (drop count bytes) ≡ drop count bytes
 rest_is bytes count = take_all (length bytes - count) (drop count bytes) (omega (arith, length-drop count bytes))
 

@@ -57,7 +57,7 @@ above_all : (t first : ℕ) (links : List Seen) (next : ℕ) → t < first → A
 above_all t first [] next lt numbered = tt
 above_all t first (l ∷ ls) next lt numbered = ((λ e. omega (arith, lt, numbered.0, e)), above_all t (suc l.session) ls next (omega (arith, lt, numbered.0)) numbered.1)
 
--- the session of one that is removed is none of the others
+-- the session of a removed connection is not that of another one
 pub apart_removed : (first : ℕ) (links : List Seen) (next k : ℕ) (d : Seen) → AreNumbered first links next → k < length links → AllByRecursion (λ l. (get_or links k d).session ≢ l.session) (remove links k)
 apart_removed first [] next k d numbered lt = absurd (omega arith)
 apart_removed first (l ∷ ls) next zero d numbered lt = above_all l.session (suc l.session) ls next (omega arith) numbered.1

@@ -1,4 +1,4 @@
--- What becomes of each session: it is opened, has pieces of its bytes, and ends.
+-- What happens to each session: it is opened, receives pieces of its bytes, and ends.
 use Rattle.std.proofs.Common.{◌≡◌, ◌≢◌, ℕ, ◌<◌, List, [], ◌∷◌, ◌++◌, Option, Some, None, map, length, get_or, set, refl, sym, ap, subst, ◌∙◌, append_assoc, append-nil, arith, inl, inr, IfSome}
 use Rattle.std.proofs.lemmas.Bool.{eq-eqb, ne_eqb}
 use Rattle.std.proofs.lemmas.Bool.Decides.{eqb_tells}
@@ -37,14 +37,14 @@ module _ (session : ℕ) where
   other_steps other apart (fed s piece bytes told ∷ steps) own = let ne : s ≢ session = (λ e. apart (sym own.0.0 ∙ e)) in rw (ne_eqb s session ne) (other_steps other apart steps own.1)
   other_steps other apart (ended s ∷ steps) own = absurd own.0
 
-  -- nor is the end of another, or that another was opened
+  -- nor are the end and the opening of another
   pub other_end : (other : ℕ) → other ≢ session → steps_of session (ended other ∷ []) ≡ []
   other_end other apart = rw (ne_eqb other session apart) refl
 
   pub other_start : (other : ℕ) → other ≢ session → steps_of session (opened (Some other) ∷ []) ≡ []
   other_start other apart = rw (ne_eqb other session apart) refl
 
-  -- one that wasn't opened yet has none
+  -- a session that wasn't opened yet has none
   none_yet : (steps : List Step) → AllByRecursion (IsBelow session) steps → steps_of session steps ≡ []
   none_yet [] below = refl
   none_yet (opened None ∷ steps) below = none_yet steps below.1
@@ -52,7 +52,7 @@ module _ (session : ℕ) where
   none_yet (fed s piece bytes told ∷ steps) below = let lt : s < session = below.0 in let ne : s ≢ session = (λ e. omega (arith, e, lt)) in rw (ne_eqb s session ne) (none_yet steps below.1)
   none_yet (ended s ∷ steps) below = let lt : s < session = below.0 in let ne : s ≢ session = (λ e. omega (arith, e, lt)) in rw (ne_eqb s session ne) (none_yet steps below.1)
 
-  -- ---- what they come to
+  -- ---- sessions that are open, or have ended
 
   pub opens_so : (steps : List Step) → AllByRecursion (IsBelow session) steps → IsOpen (steps ++ opened (Some session) ∷ []) session
   opens_so steps below = record {
@@ -84,7 +84,7 @@ module _ (session : ℕ) where
     in_order = steps_joined steps more ∙ ap (λ (b : List Step). b ++ steps_of session more) was.in_order ∙ ap (λ (b : List Step). opened (Some session) ∷ was.pieces ++ b) (own_steps more own);
   }
 
--- whosever pieces these are
+-- whatever session these pieces are of
 pub open_more : (session other : ℕ) (steps more : List Step) → AllByRecursion (IsPieceOf other) more → IsOpen steps session → IsOpen (steps ++ more) session
 open_more session other steps more own was =
     elim (eqb_tells other session) [
@@ -92,7 +92,7 @@ open_more session other steps more own was =
       | inr apart ↦ open_still session steps more (other_steps session other apart.1 more own) was
     ]
 
--- the sessions of open connections stay open, where one of them has a turn, or none of them has a step
+-- the sessions of open connections stay open, if one of them has a turn, or none of them has a step
 pub all_fed : (other : ℕ) (steps more : List Step) (links : List Seen) → AllByRecursion (IsPieceOf other) more → AllByRecursion (λ l. IsOpen steps l.session) links → AllByRecursion (λ l. IsOpen (steps ++ more) l.session) links
 all_fed other steps more [] own were = were
 all_fed other steps more (l ∷ ls) own were = (open_more l.session other steps more own were.0, all_fed other steps more ls own were.1)
@@ -110,7 +110,7 @@ openings_joined (opened result ∷ first) second = ap (λ (b : List (Option ℕ)
 openings_joined (fed s piece bytes told ∷ first) second = openings_joined first second
 openings_joined (ended s ∷ first) second = openings_joined first second
 
--- nothing by pieces
+-- pieces open nothing
 pub openings_pieces : (session : ℕ) (steps : List Step) → AllByRecursion (IsPieceOf session) steps → openings steps ≡ []
 openings_pieces session [] own = refl
 openings_pieces session (opened result ∷ steps) own = absurd own.0
@@ -152,7 +152,7 @@ numbers_low next (one ∷ others) low = low_with next one.session (sessions_of o
 pub accepted_low : (next : ℕ) (steps : List Step) (accepted : List Accepted) → AllByRecursion (IsBelow next) steps → openings steps ≡ sessions_of accepted → AreBelow next accepted
 accepted_low next steps accepted below are = subst (are_low next) are (openings_low next steps below)
 
--- the numbers of accepted connections ascend; one more comes with the next number
+-- the numbers of accepted connections ascend; one more arrives with the next number
 pub ascend_more : (steps : List Step) (next : ℕ) (accepted : List Accepted) (last : Accepted) → last.session ≡ Some next → AllByRecursion (IsBelow next) steps → openings steps ≡ sessions_of accepted
     → AllPairs (λ before later. before < later) (filter_map (λ (one : Accepted). one.session) accepted)
     → AllPairs (λ before later. before < later) (filter_map (λ (one : Accepted). one.session) (accepted ++ last ∷ []))

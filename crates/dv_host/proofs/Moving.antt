@@ -12,7 +12,7 @@ use Rattle.dv_host.specs.Inner.Moving.{Fills, Gives, Moves}
 use Rattle.dv_host.proofs.Giving.{Gains-nil, Gains-trans}
 use Rattle.dv_host.proofs.Schedules.{all_joined, plays_joined, heard_joined, answers_joined, heard_one, answers_one, behind_joined, behind_one, may_wait_le}
 
--- ---- answers are given
+-- ---- replies are sent
 
 pub gives_none : (link : Seen) → Gives link link
 gives_none link = record { given = []; taken = Gains-nil link.taken; kept = refl; still = refl }
@@ -25,7 +25,7 @@ same_left was now session left pending closing = made now.session was.session no
         (record { session = s'; left = l'; taken = now.taken; unsent = now.unsent; pending = p'; closing = c' })
     made s s' l l' p p' c c' a b d e = cc
 
--- of what is unsent the first bytes are taken
+-- the first of the unsent bytes are taken
 pub gives_some : (was now : Seen) (out : List ℕ) (sent count : ℕ) → was.unsent ≡ drop sent out → now.unsent ≡ drop (sent + count) out
     → now.session ≡ was.session → now.left ≡ was.left → now.pending ≡ was.pending → now.closing ≡ was.closing → Gains was.taken now.taken (take count (drop sent out)) → Gives was now
 gives_some was now out sent count is is_now session left pending closing taken = record {
@@ -35,7 +35,7 @@ gives_some was now out sent count is is_now session left pending closing taken =
   still = same_left was now session left pending closing;
 }
 
--- ---- bytes are taken
+-- ---- bytes are read
 
 same_given : (was now : Seen) (pending : List ℕ) → now.session ≡ was.session → now.taken ≡ was.taken → now.unsent ≡ was.unsent → now.pending ≡ pending → now.closing ≡ was.closing
     → now ≡ record was { left = now.left; pending = pending }
@@ -52,7 +52,7 @@ pub fills_some : (was now : Seen) (read : List ℕ) → Consumes was.left now.le
 fills_some was now read consumed session taken unsent pending closing =
     record { read = read; consumed = consumed; still = same_given was now (was.pending ++ read) session taken unsent pending closing }
 
--- where nothing comes
+-- if nothing is read
 pub fills_none : (was now : Seen) → Consumes was.left now.left [] → now.session ≡ was.session → now.taken ≡ was.taken → now.unsent ≡ was.unsent → now.pending ≡ was.pending → now.closing ≡ was.closing → Fills was now
 fills_none was now consumed session taken unsent pending closing = fills_some was now [] consumed session taken unsent (pending ∙ sym (append-nil was.pending)) closing
 
@@ -76,7 +76,7 @@ module _ {W : Type 0} (Happens : W → Step → W → Type 0) where
     shut = ap (λ (s : Seen). s.closing) gives.still;
   }
 
-  -- bytes are taken
+  -- bytes are read
   pub moves_filled : (world : W) (was now : Seen) → Fills was now → Moves (PlaysBy Happens) world world was now
   moves_filled world was now fills = record {
     steps = [];
@@ -93,11 +93,11 @@ module _ {W : Type 0} (Happens : W → Step → W → Type 0) where
     shut = ap (λ (s : Seen). s.closing) fills.still;
   }
 
-  -- nothing is to be seen
+  -- nothing changes
   pub moves_still : (world : W) (was now : Seen) → now ≡ was → Moves (PlaysBy Happens) world world was now
   moves_still world was now same = subst (λ (s : Seen). Moves (PlaysBy Happens) world world was s) (sym same) (moves_given world was was (gives_none was))
 
-  -- in some time, and then in some more
+  -- two moves, one after the other
   pub moves_joined : (old mid new : W) (was between now : Seen) → Moves (PlaysBy Happens) old mid was between → Moves (PlaysBy Happens) mid new between now → Moves (PlaysBy Happens) old new was now
   moves_joined old mid new was between now one two =
       let n = was.session in

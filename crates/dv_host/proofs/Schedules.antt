@@ -1,4 +1,4 @@
--- Schedules, and what one session has of them.
+-- Schedules, and what belongs to one session in them.
 use Rattle.std.proofs.Common.{◌≡◌, ◌≢◌, ℕ, ◌+◌, ◌<◌, ◌≤◌, Bool, true, false, eqb, List, [], ◌∷◌, ◌++◌, Some, None, refl, sym, ap, subst, ◌∙◌, append_assoc, append-nil, arith, if◌then◌else◌}
 use Rattle.std.specs.List.{AllByRecursion}
 use Rattle.std.proofs.lemmas.Bool.{eq-eqb, ne_eqb}
@@ -19,7 +19,7 @@ pub plays_joined : {W : Type 0} (Happens : W → Step → W → Type 0) (old mid
 plays_joined Happens old mid new [] second one two = subst (λ w. PlaysBy Happens w second new) one two
 plays_joined Happens old mid new (step ∷ first) second one two = (one.0, one.1, plays_joined Happens one.0 mid new first second one.2 two)
 
--- ---- what one session has of two schedules
+-- ---- what belongs to one session in two schedules
 
 module _ (session : ℕ) where
   pub heard_joined : (first second : List Step) → heard session (first ++ second) ≡ heard session first ++ heard session second
@@ -44,21 +44,21 @@ module _ {A : Type 0} (next : A → List ℕ → Fed → A) (session : ℕ) wher
   pub behind_one : (before : A) (piece bytes : List ℕ) (told : Fed) → behind next session before (fed session piece bytes told ∷ []) ≡ next before bytes told
   behind_one before piece bytes told = rw (eq-eqb session session refl) refl
 
-  -- a session has nothing of another's pieces
+  -- the pieces of another session change nothing
   pub behind_other : (other : ℕ) → other ≢ session → (steps : List Step) → AllByRecursion (IsPieceOf other) steps → (before : A) → behind next session before steps ≡ before
   behind_other other apart [] own before = refl
   behind_other other apart (opened result ∷ steps) own before = absurd own.0
   behind_other other apart (fed s piece bytes told ∷ steps) own before = let ne : s ≢ session = (λ e. apart (sym own.0.0 ∙ e)) in rw (ne_eqb s session ne) (behind_other other apart steps own.1 before)
   behind_other other apart (ended s ∷ steps) own before = absurd own.0
 
-  -- and one that wasn't opened yet has nothing
+  -- nor do steps before the session is opened
   pub behind_none : (steps : List Step) → AllByRecursion (IsBelow session) steps → (before : A) → behind next session before steps ≡ before
   behind_none [] below before = refl
   behind_none (opened result ∷ steps) below before = behind_none steps below.1 before
   behind_none (fed s piece bytes told ∷ steps) below before = let lt : s < session = below.0 in let ne : s ≢ session = (λ e. omega (arith, e, lt)) in rw (ne_eqb s session ne) (behind_none steps below.1 before)
   behind_none (ended s ∷ steps) below before = behind_none steps below.1 before
 
--- more may wait where more did
+-- if no fewer bytes may wait before, no fewer may wait afterwards
 either_le : (b : Bool) (now less more : ℕ) → less ≤ more → (if b then now else less) ≤ (if b then now else more)
 either_le true now less more le = omega arith
 either_le false now less more le = le
@@ -73,7 +73,7 @@ may_wait_le session less more [] le = le
 may_wait_le session less more (step ∷ steps) le =
     may_wait_le session (behind_step unsent_behind session less step) (behind_step unsent_behind session more step) steps (wait_in_le session less more step le)
 
--- a session has nothing of another's pieces
+-- the pieces of another session have nothing of this one
 module _ (session other : ℕ) (apart : other ≢ session) where
   pub heard_other : (steps : List Step) → AllByRecursion (IsPieceOf other) steps → heard session steps ≡ []
   heard_other [] own = refl
@@ -87,7 +87,7 @@ module _ (session other : ℕ) (apart : other ≢ session) where
   answers_other (fed s piece bytes told ∷ steps) own = let ne : s ≢ session = (λ e. apart (sym own.0.0 ∙ e)) in rw (ne_eqb s session ne) (answers_other steps own.1)
   answers_other (ended s ∷ steps) own = absurd own.0
 
--- and one that wasn't opened yet has nothing
+-- nor have steps before the session is opened
 module _ (next : ℕ) where
   pub heard_none : (steps : List Step) → AllByRecursion (IsBelow next) steps → heard next steps ≡ []
   heard_none [] below = refl
@@ -115,7 +115,7 @@ pieces_fair session (opened result ∷ steps) own = absurd own.0
 pieces_fair session (fed s piece bytes told ∷ steps) own = (own.0.1, pieces_fair session steps own.1)
 pieces_fair session (ended s ∷ steps) own = absurd own.0
 
--- the next number is more
+-- the same for a greater next number
 pub below_more : (next : ℕ) (steps : List Step) → AllByRecursion (IsBelow next) steps → AllByRecursion (IsBelow (next + 1)) steps
 below_more next [] below = below
 below_more next (opened None ∷ steps) below = (tt, below_more next steps below.1)

@@ -1,4 +1,4 @@
--- What one connection keeps while others have turns.
+-- What stays the same for one connection while others have turns.
 use Rattle.std.proofs.Common.{◌≡◌, ◌≢◌, ℕ, zero, suc, ◌<◌, List, [], ◌∷◌, ◌++◌, Option, None, length, get_or, set, refl, sym, ap, ◌∙◌, append-nil, arith, inl, inr}
 use Rattle.std.specs.Bool.{⊤}
 use Rattle.std.specs.List.{AllByRecursion}
@@ -19,7 +19,7 @@ pub in_last : {A : Type 0} (x : A) (xs : List A) → IsIn x (xs ++ x ∷ [])
 in_last x [] = inl refl
 in_last x (y ∷ xs) = inr (in_last x xs)
 
--- these steps bring nothing to a session
+-- these steps change nothing for a session
 pub record IsSilent (session : ℕ) (steps : List Step) : Type 0 where
   pub no_bytes : heard session steps ≡ []
   pub no_answers : answers session steps ≡ []
@@ -68,7 +68,7 @@ follows_still steps more accepted among link silent within f =
       shut = f.shut ∙ sym (behind_joined closing_behind n None steps more ∙ silent.no_fault (closing n None steps));
     }
 
--- these steps are none of a closed connection's session
+-- none of these steps is of a closed connection's session
 abbrev pub IsQuiet : List Step → Finished → Type 0
 IsQuiet more (refused left taken) = ⊤
 IsQuiet more (served link fate) = IsSilent link.session more × (steps_of link.session more ≡ [])
@@ -78,7 +78,7 @@ served_still steps more accepted among (refused left taken) quiet within was = (
 served_still steps more accepted among (served link fate) quiet within was =
     (follows_still steps more accepted among link quiet.0 within was.0, was.1, ended_still link.session steps more quiet.1 was.2)
 
--- steps of no session's bytes
+-- steps without bytes of any session
 module _ (steps more : List Step) (silent : (s : ℕ) → IsSilent s more) (accepted among : List Accepted) (within : (x : Accepted) → IsIn x accepted → IsIn x among) where
   pub all_live_still : (links : List Seen) → AllByRecursion (Follows steps accepted) links → AllByRecursion (Follows (steps ++ more) among) links
   all_live_still links live = all_weaker (Follows steps accepted) (Follows (steps ++ more) among) (λ l f. follows_still steps more accepted among l (silent l.session) within f) links live

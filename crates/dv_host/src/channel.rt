@@ -3,18 +3,18 @@
 ghost use Rattle.std.specs.Prelude.{◌≡◌, ◌≤◌, take, length};
 ghost use Rattle.dv_host.specs.Channel.{Gains};
 
-/// A connection, or what connections come from, failed.
+/// A connection, or the source of connections, failed.
 #[derive(Clone, Copy, Debug, PartialEq, Eq)]
 pub struct Failed;
 
-/// What a try to take bytes comes to.
+/// The result of an attempt to read bytes.
 #[derive(Clone, Copy, Debug, PartialEq, Eq)]
 pub enum Taken {
-    /// So many came.
+    /// So many bytes were read.
     Bytes(usize),
-    /// No more will come.
+    /// The input is at its end.
     End,
-    /// None is there now.
+    /// There are no bytes yet.
     Later,
 }
 
@@ -24,10 +24,10 @@ pub trait Channel {
     ghost use Rattle.std.specs.Io.KnownBytes.{Keeps};
     ghost use Rattle.dv_host.specs.Channel.{Gains, Takes};
 
-    // The bytes that are still to come, where they are known.
+    // The bytes that are still to come, if they are known.
     ghost remaining: { Self → Option (List ℕ) };
 
-    // The bytes that it was given and has taken, where they are known. Whether they are known never changes.
+    // The bytes that it was given and has taken, if they are known. Whether they are known never changes.
     ghost contents: { Self → Option (List ℕ) };
 
     // Its number, which never changes.
@@ -37,7 +37,7 @@ pub trait Channel {
     fn number(&self) -> u64
         ensures { result ≡ number self.now };
 
-    /// Puts the next bytes at the front of the piece. Fails if the connection fails; then no byte is lost.
+    /// Reads the next bytes into the start of the piece. Fails if the connection fails; then no byte is lost.
     fn take(&mut self, piece: &mut [u8]) -> Result<Taken, Failed>
         requires { 0 < length piece.old }
         ensures taken { IfOk result (λ taken. Takes taken (remaining self.old) (remaining self.new) piece.new) }
@@ -45,7 +45,7 @@ pub trait Channel {
         ensures contents { contents self.new ≡ contents self.old }
         ensures number { number self.new ≡ number self.old };
 
-    /// Takes some of the bytes, from the front, and returns how many: 0 if it takes none now.
+    /// Sends some of the bytes, from the first one on, and returns how many: 0 if none can be sent now.
     fn give(&mut self, bytes: &[u8]) -> Result<usize, Failed>
         requires { 0 < length bytes.now }
         ensures few { IfOk result (λ count. count ≤ length bytes.now) }
@@ -55,14 +55,14 @@ pub trait Channel {
         ensures number { number self.new ≡ number self.old };
 }
 
-/// How many bytes were given, and whether the connection then failed.
+/// How many bytes were sent, and whether the connection then failed.
 #[derive(Clone, Copy)]
 pub(crate) struct Given {
     pub(crate) count: usize,
     pub(crate) failed: bool,
 }
 
-/// Gives the bytes in order, until all are taken or none is.
+/// Sends the bytes in order, until all are sent, no more can be sent now, or the connection fails.
 pub(crate) fn give_on<C: Channel>(channel: &mut C, bytes: &[u8]) -> Given
     ensures few { result.count ≤ length bytes.now }
     ensures taken { Gains (C.contents channel.old) (C.contents channel.new) (take result.count bytes.now) }

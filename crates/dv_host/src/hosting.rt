@@ -14,27 +14,27 @@ use crate::sessions::Sessions;
 use crate::turn::SHARE;
 use std::alloc::{AllocError, Global};
 
-/// How many connections are open at most. Further ones wait.
+/// The greatest number of open connections. Further ones wait.
 const LIMIT: usize = 1000;
 
-/// The most bytes that are taken of one connection at once.
+/// The greatest number of bytes that are read from one connection at once.
 const PIECE: usize = 65_536;
 
-/// How many bytes of unfinished messages are kept in all, before no connection may have more than its share.
+/// If all sessions together keep more bytes of unfinished messages than this, no connection may have more than its share.
 const BUDGET: usize = 268_435_456;
 
-/// Why serving ends before all is served.
+/// Why serving ends before all connections are served.
 #[derive(Clone, Copy, Debug, PartialEq, Eq)]
 pub enum HostFault {
-    /// Waiting for what is ready failed.
+    /// Waiting for ready connections failed.
     Wait,
-    /// Memory ran out to begin.
+    /// Memory ran out at the start.
     NoMemory,
-    /// There were as many turns as may be.
+    /// The turns were used up.
     Turns,
 }
 
-/// Accepts a connection, where there is room and one waits, and opens its session. Answers whether one was accepted.
+/// Accepts a connection, if there is room and one waits, and opens its session. Returns whether one was accepted.
 fn greet<O: Outside, S: Sessions>(
     alloc: Global,
     sessions: &mut S,
@@ -60,7 +60,7 @@ fn greet<O: Outside, S: Sessions>(
     true
 }
 
-/// Accepts connections while there is room and some wait, at most so many, and returns how many.
+/// Accepts connections while there is room and some wait, at most `most` of them, and returns how many.
 fn greet_all<O: Outside, S: Sessions>(
     alloc: Global,
     sessions: &mut S,
@@ -89,7 +89,7 @@ fn place_of<C>(links: &[Link<C>], number: u64) -> Option<usize>
     links.binary_search_by_key(&number, |link| link.number).ok()
 }
 
-/// Whether all sessions together keep more of unfinished messages than may be.
+/// Whether all sessions together keep more bytes of unfinished messages than allowed.
 fn is_over_budget<C>(links: &[Link<C>]) -> bool
     ensures { IsTrue result ↔ (268435456 < sum_by (λ link. link.unfinished) links.now) }
 {
@@ -115,7 +115,7 @@ fn turn_at<O: Outside, S: Sessions>(
     ensures settles { (link : _) → slice_get links.new.items place ≡ Some link → SettlesIn result (seen_by O.Channel.remaining O.Channel.contents link) }
     ensures len { vec_len links.new ≡ vec_len links.old }
 {
-    // Only where one keeps much the others are looked at.
+    // The others are only checked if this one keeps more than its share.
     let over_budget = links[place].unfinished > SHARE && is_over_budget(links);
     links[place].turn(sessions, piece, over_budget)
 }
@@ -139,7 +139,7 @@ fn finish<O: Outside, S: Sessions>(
     outside.close(link.channel, fate);
 }
 
-/// A turn of the connection with the number, where there is one; where it is over, it is closed.
+/// A turn of the connection with the number, if there is one. If it is over then, it is closed.
 fn serve_one<O: Outside, S: Sessions>(
     sessions: &mut S,
     outside: &mut O,
@@ -161,7 +161,7 @@ fn serve_one<O: Outside, S: Sessions>(
     }
 }
 
-/// A turn of each of those that may be ready.
+/// A turn of each connection that may be ready.
 fn serve_ready<O: Outside, S: Sessions>(
     sessions: &mut S,
     outside: &mut O,
@@ -195,7 +195,7 @@ fn finish_all<O: Outside, S: Sessions>(
     }
 }
 
-/// Turns, until so many connections were accepted and closed.
+/// Accepts and serves connections turn by turn, until so many were accepted and closed.
 fn rounds<O: Outside, S: Sessions>(
     alloc: Global,
     sessions: &mut S,
@@ -223,24 +223,25 @@ fn rounds<O: Outside, S: Sessions>(
     Err(HostFault::Turns)
 }
 
-/// Room for so many bytes. Apart, and of any size, so that no proof spells all of them out.
+/// Room for so many bytes. A function of its own, for any size, so that no proof writes all of them out.
 fn room(alloc: Global, size: usize) -> Result<Vec<u8>, AllocError>
     ensures { IfOk result (λ piece. length piece.items ≡ size) }
 {
     vec![in alloc; 0u8; size]
 }
 
-/// Serves so many connections, many of them at once, each by a session of its own from its first byte to its last. Returns `Ok` if
-/// all came and went. What happens to the sessions is a schedule of their pieces. It takes at most `turns` turns.
+/// Serves `connections` connections, many of them at once, each by a session of its own from its first byte to its last. Returns
+/// `Ok` if all were accepted and closed. What happens to the sessions is a schedule of their pieces. It takes at most `turns`
+/// turns, in each of which all ready connections are served.
 ///
-/// At most 1,000 connections are open; further ones wait. In a turn at most 65,536 bytes of one connection are taken, once it has
-/// taken all answers and all its bytes are fed. They are fed message by message while fewer than 65,536 bytes of answers are
-/// unsent; the others stay for its next turn. So a connection holds one reply, one unfinished message and a constant. If all
-/// sessions together keep more than 268,435,456 bytes of unfinished messages, a connection that has more than 262,144 of them is
-/// closed as `Full` in place of its next piece. So is a connection if memory runs out for a piece.
+/// At most 1,000 connections are open; further ones wait. When a connection is served, at most 65,536 of its bytes are read, once
+/// all its replies are sent and all its bytes are fed. They are fed message by message while fewer than 65,536 bytes of replies are
+/// unsent; the other bytes stay until it is served again. So a connection holds one reply, one unfinished message and a constant.
+/// If all sessions together keep more than 268,435,456 bytes of unfinished messages, a connection that has more than 262,144 of
+/// them is closed as `Full` before its next piece is read. So is a connection if memory runs out for a piece.
 ///
-/// Fails with `NoMemory` when there is no memory to begin, with `Wait` if waiting for what is ready fails, and with `Turns` after
-/// so many turns. Then the connections that were open are closed too, as `Failed`, and their sessions ended.
+/// Fails with `NoMemory` if memory runs out at the start, with `Wait` if waiting for ready connections fails, and with `Turns`
+/// after `turns` turns. Then the connections that were open are closed too, as `Failed`, and their sessions ended.
 pub fn host<O: Outside, S: Sessions>(
     alloc: Global,
     sessions: &mut S,

@@ -1,5 +1,5 @@
-//! Many connections at once, each with a session of its own: on one thread, in turns, by which of them are ready. Whose sessions
-//! these are, and where the connections come from, is left open.
+//! Many connections at once, each with a session of its own: on one thread, in turns, as they become ready. What the sessions are,
+//! and where the connections come from, is left open.
 #![tactic(auto)]
 
 mod channel;

@@ -1,19 +1,19 @@
-//! What connections come from.
+//! The source of connections.
 
 use crate::channel::{Channel, Failed};
 use crate::link::Fate;
 
-/// What connections come from, and what says which of them may be ready. No clause says which these are.
+/// The source of connections, which also reports which of them may be ready. No clause says which these are.
 pub trait Outside {
     ghost use Rattle.std.specs.Prelude.{◌≡◌, ℕ, List, Option, IfOk, OnErr};
     ghost use Rattle.dv_host.specs.Outside.{Closed, Closes, IsNumbered, MayAccept};
 
     type Channel: Channel + Drop;
 
-    // The bytes of each connection that is still to come, where they are known.
+    // The bytes of each connection that is still to come, if they are known.
     ghost coming: { Self → Option (List (List ℕ)) };
 
-    // Of each connection that was closed, what was left of its bytes, what it has taken, and how it ended, where these are known.
+    // Of each closed connection, the bytes that were left, the bytes that it has taken, and how it ended, if these are known.
     ghost closed: { Self → Option (List Closed) };
 
     // How many connections were accepted.
@@ -26,10 +26,10 @@ pub trait Outside {
         ensures closed { closed self.new ≡ closed self.old }
         ensures came { came self.new ≡ came self.old };
 
-    /// The number of one of those that may be ready, or a number of none.
+    /// The number of a connection that may be ready, by its place among these, or a number that no connection has.
     fn ready(&self, place: usize) -> u64;
 
-    /// Has the connection of this number among those that may be ready once more.
+    /// Has the next wait report the connection of this number once more among those that may be ready.
     fn again(&mut self, number: u64)
         ensures coming { coming self.new ≡ coming self.old }
         ensures closed { closed self.new ≡ closed self.old }
@@ -42,7 +42,7 @@ pub trait Outside {
         ensures closed { closed self.new ≡ closed self.old }
         ensures numbered { IsNumbered Self.Channel.number result (came self.old) (came self.new) };
 
-    /// Closes a connection that ended so.
+    /// Closes a connection that ended in this way.
     fn close(&mut self, channel: Self::Channel, fate: Fate)
         ensures coming { coming self.new ≡ coming self.old }
         ensures closed { Closes (closed self.old) (Self.Channel.remaining channel) (Self.Channel.contents channel) fate (closed self.new) }

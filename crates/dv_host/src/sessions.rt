@@ -1,6 +1,6 @@
-//! What connections speak to.
+//! The sessions of connections.
 
-/// What a session is after a piece of its bytes.
+/// What is reported of a session after a piece of its bytes.
 #[derive(Clone, Copy, Debug, PartialEq, Eq)]
 pub enum Fed {
     /// It goes on.
@@ -11,7 +11,7 @@ pub enum Fed {
     Unknown,
 }
 
-/// Sessions that take bytes and answer them. The ghost members say what each call may do.
+/// Sessions that take bytes and reply to them. The ghost members say what each call may do.
 pub trait Sessions {
     ghost use Rattle.std.specs.Prelude.{◌≡◌, ◌<◌, ◌≤◌, ◌++◌, ◌+◌, ℕ, List, Option, MatchOption, length};
     ghost use Rattle.dv_host.specs.declared.sessions.Fed.{Fed};
@@ -19,7 +19,7 @@ pub trait Sessions {
     // A session is opened under a number, or refused.
     ghost opens: { Self → Option ℕ → Self → Type 0 };
 
-    // A piece of a session's bytes comes, these bytes are answered, and this is told of it.
+    // A piece of a session's bytes arrives, with the bytes of its replies and what is reported of the session.
     ghost feeds: { Self → ℕ → List ℕ → List ℕ → Fed → Self → Type 0 };
 
     // A session ends.
@@ -33,13 +33,13 @@ pub trait Sessions {
         ensures opened { opens self.old result self.new }
         ensures numbers { MatchOption result (next self.new ≡ next self.old) (λ n. (n ≡ next self.old) × (next self.new ≡ next self.old + 1)) };
 
-    /// How many bytes of a session's next piece come up to the end of its next message. At least 1, and at most all.
+    /// The number of bytes of a session's next piece up to the end of its next message. At least 1, and at most all.
     fn whole_front(&self, session: u32, piece: &[u8]) -> usize
         requires { 0 < length piece.now }
         ensures some { 0 < result }
         ensures within { result ≤ length piece.now };
 
-    /// Takes the next piece of a session's bytes, and appends the answers to `out`.
+    /// Takes the next piece of a session's bytes, and appends the replies to `out`.
     fn feed(&mut self, session: u32, piece: &[u8], out: &mut Vec<u8>) -> Fed
         ensures fed { (bytes : List ℕ) × (out.new.items ≡ out.old.items ++ bytes) × feeds self.old session piece.now bytes result self.new }
         ensures numbers { next self.new ≡ next self.old };

@@ -11,13 +11,13 @@ use crate::link::{Fate, Link, Told};
 use crate::sessions::{Fed, Sessions};
 use std::alloc::Global;
 
-/// So many bytes of answers are enough to be given before more is fed.
+/// While at least this many bytes of replies are unsent, no more bytes are fed.
 const ENOUGH: usize = 65_536;
 
-/// The most room that is kept for answers to come.
+/// The greatest room that is kept for later replies.
 const ROOM_KEPT: usize = 4_096;
 
-/// How much of an unfinished message each connection may have kept, whatever the others keep.
+/// How much of an unfinished message each connection may keep, whatever the others keep.
 pub(crate) const SHARE: usize = 262_144;
 
 impl<C: Channel> Link<C> {
@@ -39,9 +39,9 @@ impl<C: Channel> Link<C> {
         }
     }
 
-    /// One turn: gives what is unsent. Where nothing is left of that it goes on with the bytes that it has, or takes a piece
-    /// where it has none, feeds them to the session message by message until enough is to be given, and gives. Where `full`, it
-    /// takes no more of a message of which the session keeps more than its share.
+    /// One turn: sends what is unsent. If all is sent, it goes on with the bytes that it has, or reads a piece if it has none;
+    /// feeds them to the session message by message, until enough replies are unsent; and sends these. If `over_budget`, it reads
+    /// no more of a message of which the session keeps more than its share.
     pub(crate) fn turn<S: Sessions>(
         &mut self,
         sessions: &mut S,
@@ -67,7 +67,7 @@ impl<C: Channel> Link<C> {
         }
     }
 
-    /// Gives what is unsent, and tells how the connection then stands: `more` where all is given and its session isn't closed.
+    /// Sends what is unsent, and returns the state of the connection: `more` if all is sent and its session isn't closed.
     fn settle(&mut self, more: Told) -> Told
         requires { (fate : _) → more ≡ Told.Over fate → ⊥ }
         ensures gives { Gives (seen_by C.remaining C.contents self.old) (seen_by C.remaining C.contents self.new) }
@@ -88,7 +88,7 @@ impl<C: Channel> Link<C> {
         }
     }
 
-    /// Gives what is unsent, until all or none is taken, and returns whether the connection failed.
+    /// Sends what is unsent, until all is sent or no more can be sent now, and returns whether the connection failed.
     fn flush(&mut self) -> bool
         ensures { Gives (seen_by C.remaining C.contents self.old) (seen_by C.remaining C.contents self.new) }
     {
@@ -97,21 +97,21 @@ impl<C: Channel> Link<C> {
         given.failed
     }
 
-    /// Whether all answers were taken.
+    /// Whether all replies were sent.
     fn is_given(&self) -> bool
         ensures { result ≡ true → unsent_of self.now ≡ [] }
     {
         self.sent == self.out.len()
     }
 
-    /// Whether all bytes that came were fed.
+    /// Whether all bytes that were read were fed.
     fn is_heard(&self) -> bool
         ensures { result ≡ true → pending_of self.now ≡ [] }
     {
         self.heard == self.rest.len()
     }
 
-    /// Takes a piece where all is fed. Answers whether more may be there; or how the connection stands where nothing came.
+    /// Reads a piece if all bytes are fed. Returns whether there may be more; or the state of the connection if nothing was read.
     fn fill(&mut self, piece: &mut [u8], over_budget: bool) -> Result<bool, Told>
         requires room { length piece.old ≡ 65536 }
         requires given { unsent_of self.old ≡ [] }
@@ -144,7 +144,7 @@ impl<C: Channel> Link<C> {
         }
     }
 
-    /// Makes room for so many bytes to come, and returns whether there is such.
+    /// Makes room for so many more bytes, and returns whether there is memory for them.
     fn make_room(&mut self, size: usize) -> bool
         ensures same { seen_by C.remaining C.contents self.new ≡ seen_by C.remaining C.contents self.old }
         ensures len { vec_len self.new.rest ≡ vec_len self.old.rest }
@@ -153,7 +153,7 @@ impl<C: Channel> Link<C> {
         self.rest.reserve(size).is_ok()
     }
 
-    /// Puts bytes behind those that came.
+    /// Appends bytes to those that were read.
     fn keep(&mut self, bytes: &[u8])
         requires room { vec_len self.old.rest + length bytes.now ≤ vec_capacity self.old.rest }
         requires few { vec_len self.old.rest + length bytes.now ≤ 65536 }
@@ -163,7 +163,7 @@ impl<C: Channel> Link<C> {
         let _ = self.rest.extend_from_slice(bytes);
     }
 
-    /// Drops the answers, which were all given.
+    /// Drops the replies, which were all sent.
     fn drop_given(&mut self)
         requires { unsent_of self.old ≡ [] }
         ensures { seen_by C.remaining C.contents self.new ≡ seen_by C.remaining C.contents self.old }
@@ -173,7 +173,7 @@ impl<C: Channel> Link<C> {
         self.out.shrink_to(ROOM_KEPT);
     }
 
-    /// Drops the bytes that were fed, and their room, where all were. Answers whether that was so.
+    /// If all bytes were fed, drops them and their room. Returns whether all were fed.
     fn drop_heard(&mut self) -> bool
         ensures same { seen_by C.remaining C.contents self.new ≡ seen_by C.remaining C.contents self.old }
         ensures heard { result ≡ true → vec_len self.new.rest ≡ 0 }
@@ -187,7 +187,7 @@ impl<C: Channel> Link<C> {
         true
     }
 
-    /// Feeds the bytes that came, message by message, until all are fed, the session is closed, or enough is to be given.
+    /// Feeds the bytes that were read, message by message, until all are fed, the session is closed, or enough replies are unsent.
     fn hear<S: Sessions>(&mut self, sessions: &mut S)
         requires given { unsent_of self.old ≡ [] }
         ensures moves { LinkMoves (PlaysBy (HappensBy S.opens S.feeds S.ends)) C.remaining C.contents sessions.old sessions.new self.old self.new }
@@ -226,7 +226,7 @@ impl<C: Channel> Link<C> {
         self.closing = closing_by(fed, self.closing);
     }
 
-    /// What is told where all is given, of a connection that may have more bytes or none.
+    /// The result of the turn if all is sent; `more` says whether the connection may have more bytes.
     fn told_next(&self, more: bool) -> Told
         ensures { (fate : _) → result ≡ Told.Over fate → ⊥ }
     {
@@ -238,7 +238,7 @@ impl<C: Channel> Link<C> {
     }
 }
 
-/// The fault that closed a session, behind a piece of which this is told.
+/// The fault that closed a session, after a piece with this report.
 fn closing_by(fed: Fed, before: Option<u8>) -> Option<u8>
     ensures { result ≡ closed_by fed before }
 {

@@ -1,4 +1,4 @@
--- Documents none of which shares a key with another, where one comes, is replaced or goes.
+-- Documents none of which shares a key with another, when one is inserted, replaced or removed.
 use Rattle.std.proofs.Common.{◌≡◌, ◌∙◌, ◌++◌, ℕ, List, [], ◌∷◌, refl, ap, sym, Bool, true, false, cond, not, ◌||◌, ◌&&◌, filter, None, Some}
 use Rattle.std.specs.List.{list_any}
 use Rattle.std.specs.Ordering.{is_lt}
@@ -106,7 +106,7 @@ module _ (path : List (List ℕ)) where
       by false behind = behind
 
 -- ---- indexes, none of which is broken
--- where no key of d is taken, and documents that are apart stay so
+-- if no key of d is taken, and documents that are apart stay apart
 still-unbroken : (d : List Field) (ds news : List (List Field)) → ((path : List (List ℕ)) → is_key_taken path d ds ≡ false → are_apart path ds ≡ true → are_apart path news ≡ true) → (xs : List IndexForm) → are_broken xs ds ≡ false → clashes xs d ds ≡ false → are_broken xs news ≡ false
 still-unbroken d ds news stay [] e f = refl
 still-unbroken d ds news stay (x ∷ xs) e f =

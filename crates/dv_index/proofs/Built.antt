@@ -59,7 +59,7 @@ module _ (name : List ℕ) where
   kept-indexes (x ∷ xs) ds b h =
       subst (λ t. AreIndexesOf (cond t (x ∷ filter (λ y. not (is_dropped name (form_of y))) xs) (filter (λ y. not (is_dropped name (form_of y))) xs)) ds) (sym (id-stays x b)) (all-kept (λ y. IsIndexOf y ds) xs h)
 
-  -- one that is put behind others, none of which has its name, is all that goes
+  -- an index that is put after others, none of which has its name, is dropped alone
   module _ (path : List (List ℕ)) (unique : Bool) (other : bytes_eq name id_form.name ≡ false) where
     abbrev with-last : List IndexForm → List IndexForm
     with-last xs = without_index name (xs ++ record { name = name; path = path; unique = unique } ∷ [])
@@ -106,7 +106,7 @@ pub elsewhere-later : (i l : KeyTree) (ds : List (List Field)) → key_order i l
 elsewhere-later i l [] e b = tt
 elsewhere-later i l (d ∷ ds) e b = (ap is_eq (key_order_total.congr i l (id_key d) e ∙ b.0), elsewhere-later i l ds e b.1)
 
--- where no pair has the `_id` of a document that is left, so it is once the first one's are added
+-- if no pair has the `_id` of a document that is left, this holds still after those of the first one are added
 module _ (d : List Field) (ds : List (List Field)) (ascending : IsAscending (d ∷ ds)) (ps : List Pair) (apart : (k i : KeyTree) → has_pair k i ps ≡ true → IsElsewhere i (d ∷ ds)) where
   pub no-pair-yet : (k : KeyTree) → has_pair k (id_key d) ps ≡ false
   no-pair-yet k = by (has_pair k (id_key d) ps) refl

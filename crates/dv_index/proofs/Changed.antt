@@ -1,4 +1,4 @@
--- An index, where one document changes: the keys that it gains are added, and those that it has lost are taken out.
+-- An index when one document changes: the keys that it gains are added, and those that it has lost are removed.
 use Rattle.std.proofs.Common.{◌≡◌, ◌∙◌, ℕ, List, ◌∷◌, refl, ap, sym, subst, Bool, true, false, cond, not, ◌||◌, ◌&&◌, Option, Some, None, filter}
 use Rattle.std.specs.List.{AllByRecursion, find}
 use Rattle.std.specs.Option.{IsSome, option_map}
@@ -99,7 +99,7 @@ module _ (ds : List (List Field)) (id : KeyTree) (path : List (List ℕ)) (after
       at true e = (λ j. (before-at k i e j || (has-gained k j && true)) && not (has-lost j && true)) ∙ gained-and-lost (has_key k old) (has_key k new) ∙ is-new k
       at false e = elsewhere (has_pair k i pairs) (has_key k gained) (has_key k lost) ∙ holds k i
 
-  -- without what was gained they are those that there were
+  -- without what was gained, they are the old ones
   pub pairs-back : (k i : KeyTree) → (has_pair k i pairs || (has_key k gained && is_eq (key_order i id))) && not (has_key k gained && is_eq (key_order i id)) ≡ is_key_under k path (found i ds)
   pairs-back k i = at (is_eq (key_order i id)) refl ∙ holds k i
     where
@@ -110,7 +110,7 @@ module _ (ds : List (List Field)) (id : KeyTree) (path : List (List ℕ)) (after
 first-of : (P : IndexTree → Type 0) (xs : List IndexTree) (x : IndexTree) (rest : List IndexTree) → xs ≡ x ∷ rest → AllByRecursion P xs → P x
 first-of P xs x rest e h = (subst (AllByRecursion P) e h).0
 
--- ---- the same of the first of the indexes
+-- ---- the same for the first of the indexes
 module _ (ds : List (List Field)) (indexes : List IndexTree) (index : IndexTree) (rest : List IndexTree) (parts : indexes ≡ index ∷ rest) (held : AllByRecursion (λ x. IsIndexOf x ds) indexes) (id changed : KeyTree) (same_id : id ≡ changed) (path : List (List ℕ)) (same_path : path ≡ index.path) (after : Option (List Field)) (old new gained : List KeyTree) (is-old : (k : KeyTree) → has_key k old ≡ is_key_under k path (found changed ds)) (is-new : (k : KeyTree) → has_key k new ≡ is_key_under k path after) (is-gained : gained ≡ filter (λ k. not (has_key k old)) new) where
   holds : (k i : KeyTree) → has_pair k i index.pairs ≡ is_key_under k path (found i ds)
   holds k i = (first-of (λ x. IsIndexOf x ds) indexes index rest parts held).has k i ∙ ap (λ p. is_key_under k p (found i ds)) (sym same_path)
@@ -121,7 +121,7 @@ module _ (ds : List (List Field)) (indexes : List IndexTree) (index : IndexTree)
   pub not-there : (k : KeyTree) → has_key k gained ≡ true → has_pair k id index.pairs ≡ false
   not-there = gained-absent ds id path after old new gained gained index.pairs holds old-at is-new is-gained
 
-  -- it has no keys but the old ones
+  -- it has no keys except the old ones
   pub held-before : (k : KeyTree) → has_pair k id index.pairs ≡ true → has_key k old ≡ true
   held-before k there = old-at k ∙ sym (holds k id) ∙ there
 
@@ -132,7 +132,7 @@ module _ (ds : List (List Field)) (indexes : List IndexTree) (index : IndexTree)
     without : (k : KeyTree) (ks : List KeyTree) → (has_pair k id index.pairs || (has_key k gained && is_eq (key_order id id))) && not (has_key k ks && is_eq (key_order id id)) ≡ has_pair k id added.pairs && not (has_key k ks)
     without k ks = λ j. sym (more k id) j && not ((ap (λ b. has_key k ks && b) itself ∙ and-true (has_key k ks)) j)
 
-    -- and then none but the new ones
+    -- and then none except the new ones
     pub left-after : (lost : List KeyTree) → lost ≡ filter (λ k. not (has_key k new)) old → (k : KeyTree) → has_pair k id added.pairs && not (has_key k lost) ≡ true → has_key k new ≡ true
     left-after lost is-lost k e =
         is-new k
@@ -148,7 +148,7 @@ module _ (ds : List (List Field)) (indexes : List IndexTree) (index : IndexTree)
     same-path : path ≡ taken.path
     same-path = same_path ∙ sym (ap (λ (f : IndexForm). f.path) (form-taken ∙ form-added))
 
-    -- of the changed documents
+    -- the index is that of the changed documents
     pub index-after : (news : List (List Field)) (lost : List KeyTree) → lost ≡ filter (λ k. not (has_key k new)) old → ((i : KeyTree) → found i news ≡ cond (is_eq (key_order i changed)) after (found i ds))
         → ((k i : KeyTree) → has_pair k i taken.pairs ≡ has_pair k i added.pairs && not (has_key k lost && is_eq (key_order i id))) → IsIndexOf taken news
     index-after news lost is-lost finds less = record {
@@ -160,7 +160,7 @@ module _ (ds : List (List Field)) (indexes : List IndexTree) (index : IndexTree)
           ∙ ap (λ p. is_key_under k p (found i news)) same-path;
     }
 
-    -- of the documents that there were
+    -- the index is that of the old documents
     pub index-back : ((k i : KeyTree) → has_pair k i taken.pairs ≡ has_pair k i added.pairs && not (has_key k gained && is_eq (key_order i id))) → IsIndexOf taken ds
     index-back less = record {
       has = λ k i.

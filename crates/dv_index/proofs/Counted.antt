@@ -11,7 +11,7 @@ use Rattle.dv_keyed.specs.Within.{has_within}
 use Rattle.dv_index.specs.Search.{covered, covered_at}
 use Rattle.dv_index.specs.Inner.IdLaws.{MatchesAreWithin}
 
--- where each that passes a test passes another, no fewer pass the other
+-- if each item that passes a test passes another test, no fewer items pass the other
 more-kept : {X : Type 0} (p q : X → Bool) → ((x : X) → p x ≡ true → q x ≡ true) → (xs : List X) → length (filter p xs) ≤ length (filter q xs)
 more-kept p q h [] = omega arith
 more-kept p q h (x ∷ xs) = at (p x) (q x) refl refl (more-kept p q h xs)

@@ -1,4 +1,4 @@
--- A document with one field changed comes in place of the one that was found.
+-- A document with one field changed replaces the one that was found.
 use Rattle.std.proofs.Common.{◌≡◌, ◌∙◌, ℕ, List, [], ◌∷◌, length, arith, Some, IsSome, false, true, codes, ap, sym, subst}
 use Rattle.std.specs.List.{AllByRecursion}
 use Rattle.std.specs.Str.{bytes_eq}
@@ -29,7 +29,7 @@ FoundHas = (k : KeyTree) (d : List Field) (ds : List (List Field)) → found k d
 abbrev pub FoundBegins : Type 0
 FoundBegins = (k : KeyTree) (d : List Field) (ds : List (List Field)) → AllByRecursion HasId ds → found k ds ≡ Some d → HasId d
 
--- the changed document may come in the place of the one that was found
+-- the changed document may replace the one that was found
 pub change_possible : LeavesBegin → LeavesKey → FoundHas → FoundBegins → (k : KeyTree) (name : List ℕ) (c : FieldChange) (d e : List Field) (ds : List (List Field)) → bytes_eq name (codes "_id") ≡ false → AllByRecursion HasId ds
     → Some d ≡ found k ds → e ≡ with_field_changed name c d → HasId e × IsSome (found (id_key e) ds)
 change_possible begin key has found-begins k name c d e ds other all here is =
@@ -37,7 +37,7 @@ change_possible begin key has found-begins k name c d e ds other all here is =
     let same : id_key e ≡ id_key d = ap id_key is ∙ key name c d other id in
     (subst HasId (sym is) (begin name c d other id), still_found k d e ds (sym here) (has k d ds (sym here)) same)
 
--- without an index behind the first, whatever documents there are
+-- if there is no index after the first, whatever documents there are
 pub one_index : (xs : List IndexTree) → length xs ≡ 1 → (ds : List (List Field)) → AreIndexesOf xs ds
 one_index [] one ds = tt
 one_index (x ∷ []) one ds = tt

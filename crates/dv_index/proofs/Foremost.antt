@@ -1,4 +1,4 @@
--- What a path sorts ahead of a bar is found by the index on it.
+-- What a path sorts before a bar is found by the index on the path.
 use Rattle.std.proofs.Common.{◌≡◌, ◌∙◌, ◌≤◌, ◌<◌, ◌&&◌, ◌||◌, ◌++◌, ℕ, arith, length, List, [], ◌∷◌, map, refl, ap, sym, Bool, true, false, cond, Some, None, filter}
 use Rattle.std.specs.List.{AllByRecursion, best_of, flat_map}
 use Rattle.std.specs.Ordering.{is_eq}
@@ -44,7 +44,7 @@ itself v = ap is_eq (tied_itself key_order_total (value (canon v)))
 only : (v : Tree) → is_some_key (value (canon v)) (v ∷ []) ≡ true
 only v = or_left (is_key_of (value (canon v)) v) false (itself v)
 
--- the key by which an index finds what a key sorts is that of one of these values
+-- the key by which an index finds what is sorted by a key is that of one of these values
 abbrev IsLeaf : List Tree → KeyTree → Type 0
 IsLeaf us k = (v : Tree) × (leaf_sorted_by k ≡ value (canon v)) × (is_some_key (value (canon v)) us ≡ true)
 
@@ -103,14 +103,14 @@ earliest-has : (P : KeyTree → Type 0) (direction : Direction) (ks : List KeyTr
 earliest-has P direction [] some all = absurd (some refl)
 earliest-has P direction (k ∷ ks) some all = best-has P (stands_first direction) k ks all.0 all.1
 
--- a document is sorted by a leaf, where the path leads to something
+-- a document is sorted by a leaf, if the path leads to something
 leaf-sorted : (d : List Field) (path : List (List ℕ)) (direction : Direction) → (whole d path ≡ [] → ⊥) → (v : Tree) × (leaf_sorted_by (sort_key d path direction) ≡ value (canon v)) × (is_leaf_key (value (canon v)) path d ≡ true)
 unfolding sort_key leaves leaf_values is_leaf_key
 leaf-sorted d path direction some =
     let cs = whole d path in
     earliest-has (IsLeaf (map or_null (flat_map with_elements cs))) direction (flat_map sort_keys_of cs) (λ e. some (none-given cs e)) (of-all cs)
 
--- ---- so the `_id`s that stand beside the keys ahead of a bar are those of all documents that the path sorts ahead of it
+-- ---- so the `_id`s in pairs with the keys before a bar are those of all documents that the path sorts before it
 -- what passes one test and another passes both
 pub two-tests : {X : Type 0} (p q : X → Bool) (xs : List X) → filter p (filter q xs) ≡ filter (λ x. q x && p x) xs
 two-tests p q [] = refl
@@ -142,12 +142,12 @@ module _ (law : OnlyKeysAreWithin) (ms : Members) (index : IndexTree) (path : Li
         ∙ sym (two-tests (is_ahead (path, direction) bar) (matches ms) ds)
 
 -- ---- where a path leads
--- one component leads to what stands there, or to Missing
+-- one component leads to the value there, or to Missing
 pub single-leads : (name : List ℕ) (d : List Field) → whole d (name ∷ []) ≡ [] → ⊥
 unfolding whole
 single-leads name d e = absurd cc
 
--- a document in which the path leads nowhere is sorted as null, and whatever key is in all bounds that it matches
+-- a document in which the path leads nowhere is sorted as null, and if it matches, any key is in all bounds
 no-leaf : (l : KeyTree) (path : List (List ℕ)) (d : List Field) → whole d path ≡ [] → is_leaf_key l path d ≡ false
 unfolding leaves leaf_values is_leaf_key
 no-leaf l path d nowhere = ap (λ cs. is_some_key l (map or_null (flat_map with_elements cs))) nowhere

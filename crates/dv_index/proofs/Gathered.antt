@@ -76,7 +76,7 @@ between-all law index ends ms closed alone among-ids gathered ds holds ascending
         let by-ends = law ends index.path ms d closed (λ k l of-k of-l. alone l (id_key d) (held d there l ∙ of-l) k (held d there k ∙ of-k)) in
         same-truth (among-ids (id_key d)) (matches ms d) (λ e. let u = (gathered (id_key d)).0 e in by-ends.1 (u.0, u.1, sym (held d there u.0) ∙ u.2)) (λ e. let u = by-ends.0 e in (gathered (id_key d)).1 (u.0, u.1, held d there u.0 ∙ u.2))
 
--- ---- the keys of `_id`s that stand beside keys in the bounds are those of all documents that have a leaf there
+-- ---- the keys of `_id`s in pairs with keys in the bounds are those of all documents that have a leaf there
 module _ (law : LeavesHaveKeys) (index : IndexTree) (c : Condition) (among-ids : KeyTree → Bool) (gathered : (k i : KeyTree) → covers c k ≡ true → has_pair k i index.pairs ≡ true → among-ids i ≡ true) where
   id-gathered : (ds : List (List Field)) → IsIndexOf index ds → (d : List Field) → found (id_key d) ds ≡ Some d → has_within c index.path d ≡ true → among-ids (id_key d) ≡ true
   id-gathered ds holds d there e =
@@ -88,7 +88,7 @@ module _ (law : LeavesHaveKeys) (index : IndexTree) (c : Condition) (among-ids :
   gathered-all test ds holds ascending within =
       narrowed among-ids test (λ d. found (id_key d) ds ≡ Some d) (λ d there e. id-gathered ds holds d there (within d e)) ds (all-found ds ascending)
 
-  -- and where there are no others, no other document is gathered
+  -- and if there are no others, no other document is gathered
   pub gathered-only : KeysAreOfLeaves → ((i : KeyTree) → among-ids i ≡ true → HasKeyWithin c i index.pairs) → (ds : List (List Field)) → IsIndexOf index ds → IsAscending ds → filter (λ d. among-ids (id_key d)) ds ≡ filter (has_within c index.path) ds
   gathered-only of-leaves only ds holds ascending =
       same-kept (λ d. among-ids (id_key d)) (has_within c index.path) (λ d. found (id_key d) ds ≡ Some d) (λ d there. same-truth (among-ids (id_key d)) (has_within c index.path d) (λ e. within d there (only (id_key d) e)) (id-gathered ds holds d there)) ds (all-found ds ascending)
@@ -104,7 +104,7 @@ only-ids law c ds identified = same-kept (λ d. covers c (id_key d)) (has_within
 pub gathered-ids : KeysAreWithin → (c : Condition) (among-ids : KeyTree → Bool) → ((k : KeyTree) → covers c k ≡ true → among-ids k ≡ true) → (test : List Field → Bool) (ds : List (List Field)) → AllByRecursion HasId ds → ((d : List Field) → test d ≡ true → has_within c (codes "_id" ∷ []) d ≡ true) → filter test (filter (λ d. among-ids (id_key d)) ds) ≡ filter test ds
 gathered-ids law c among-ids covered test ds identified within = narrowed among-ids test HasId (λ d h e. covered (id_key d) (sym (id-covered law c d h) ∙ within d e)) ds identified
 
--- ---- the documents whose `_id`s are gathered so, and so all that match, where these have a leaf in the plan's bounds
+-- ---- all documents that match are among those whose `_id`s are gathered, if they have a leaf in the plan's bounds
 pub tried-all : LeavesHaveKeys → OnlyKeysAreWithin → (index : IndexTree) (c : Condition) (ms : Members) (among-ids : KeyTree → Bool) → ((k i : KeyTree) → covers c k ≡ true → has_pair k i index.pairs ≡ true → (IsOnlyKey k i index.pairs → is_in_all k index.path ms ≡ true) → among-ids i ≡ true) → (ds : List (List Field)) → IsIndexOf index ds → IsAscending ds
     → ((d : List Field) → matches ms d ≡ true → has_within c index.path d ≡ true) → filter (matches ms) (filter (λ d. among-ids (id_key d)) ds) ≡ filter (matches ms) ds
 tried-all law only-law index c ms among-ids gathered ds holds ascending within = narrowed among-ids (matches ms) (λ d. found (id_key d) ds ≡ Some d) one ds (all-found ds ascending)

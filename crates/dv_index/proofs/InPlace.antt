@@ -76,7 +76,7 @@ module _ (law : ReplacedIsFound) (key : LeavesKey) (has : FoundHas) (begins : Fo
     same-id : id_key (with_field_changed name c d) ≡ id_key d
     same-id = key name c d no_id (begins k d ds all here)
 
-    -- where the changed document is found, the other one was
+    -- if a key finds the changed document, it found the other one before
     found-there : (i : KeyTree) → is_of i (with_field_changed name c d) ≡ true → found i ds ≡ Some d
     found-there i there = found-same i (id_key d) ds (ap (λ l. is_eq (key_order i l)) (sym same-id) ∙ there) ∙ sym (found-same k (id_key d) ds (has k d ds here)) ∙ here
 
@@ -100,7 +100,7 @@ module _ (law : ReplacedIsFound) (key : LeavesKey) (has : FoundHas) (begins : Fo
   kept-by (x ∷ xs) none held None here = held
   kept-by (x ∷ xs) none held (Some d) here = all-kept d here xs none held
 
-  -- where memory may be wanting
+  -- if memory may run out
   pub kept_in_place : {X E : Type 0} (xs : List IndexTree) → any_leads_through name (map form_of xs) ≡ false → AreIndexesOf xs ds → (news : List (List Field)) (r : Result X E) → OnOk r (news ≡ with_field_changed_in (found k ds) name c ds) → OnErr r (news ≡ ds) → AreIndexesOf xs news
   kept_in_place xs none held news (Ok x) ok err = subst (AreIndexesOf xs) (sym ok) (kept-by xs none held (found k ds) refl)
   kept_in_place xs none held news (Err e) ok err = subst (AreIndexesOf xs) (sym err) held

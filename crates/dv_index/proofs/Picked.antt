@@ -1,4 +1,4 @@
--- The documents under keys that ascend are those of a list that ascends whose keys are among them.
+-- The documents under keys that ascend are the documents of an ascending list whose keys are among these.
 use Rattle.std.proofs.Common.{Bor, ◌≡◌, ◌∙◌, ◌+◌, ◌<◌, ℕ, zero, suc, take, get_or, add-one, append-nil, append_assoc, List, [], ◌∷◌, ◌++◌, refl, ap, sym, Bool, true, false, cond, ◌||◌, Option, Some, None, filter, length, arith}
 use Rattle.std.specs.List.{list_any, flat_map, AllByRecursion}
 use Rattle.std.specs.List.Sorted.{IsStrictlySortedBy}
@@ -20,7 +20,7 @@ use Rattle.dv_coll.specs.Collection.{IsAscending, id_key, has_key, found}
 abbrev pub now : Bor KeyTree → KeyTree
 now x = x.now
 
--- to stand among the keys of values is to be the key of one of them
+-- a key is among the keys of values exactly if it is the key of one of them
 pub among-values : (k : KeyTree) (ids : List (Bor KeyTree)) (keys : List KeyTree) (vs : List Value) (ts : List Tree) → map now ids ≡ keys → keys ≡ map (λ v. value (canon (tree v))) vs → map tree vs ≡ ts → list_any (λ l. is_eq (key_order k l)) (map now ids) ≡ is_some_key k ts
 among-values k ids keys vs ts e f g =
     ap (list_any (λ l. is_eq (key_order k l))) (e ∙ f) ∙ any-map (λ l. is_eq (key_order k l)) (λ v. value (canon (tree v))) vs ∙ sym (any-map (is_key_of k) tree vs) ∙ ap (is_some_key k) g
@@ -46,7 +46,7 @@ pub one-more : (ds : List (Bor (List Field))) (d : Bor (List Field)) → map (λ
 one-more [] d = refl
 one-more (e ∷ ds) d = ap (λ es. e.now ∷ es) (one-more ds d)
 
--- d stands before each of ds
+-- the key is before that of each of ds
 abbrev pub Before : KeyTree → List (List Field) → Type 0
 Before k ds = AllByRecursion (λ e. key_order k (id_key e) ≡ Less) ds
 
@@ -60,7 +60,7 @@ head-before d ds h = before-map (id_key d) ds (sorted_head key_order (id_key d) 
 pub tail-ascends : (d : List Field) (ds : List (List Field)) → IsAscending (d ∷ ds) → IsAscending ds
 tail-ascends d ds h = sorted_tail key_order (id_key d) (map id_key ds) h
 
--- where every document of a list fails a test
+-- if every document of a list fails a test
 none-pass : (p : List Field → Bool) (k : KeyTree) (ds : List (List Field)) → ((e : List Field) → key_order k (id_key e) ≡ Less → p e ≡ false) → Before k ds → filter p ds ≡ []
 none-pass p k [] fails h = refl
 none-pass p k (d ∷ ds) fails h = ap (λ b. cond b (d ∷ filter p ds) (filter p ds)) (fails d h.0) ∙ none-pass p k ds fails h.1
@@ -94,7 +94,7 @@ found-alone i (d ∷ ds) h = at (has_key i d) refl (found-alone i ds (tail-ascen
 pub under : (i : KeyTree) (ds : List (List Field)) → IsAscending ds → filter (λ d. is_eq (key_order (id_key d) i)) ds ≡ as-list (found i ds)
 under i ds h = ap (λ p. filter p ds) (λ j d. equal-back (id_key d) i j) ∙ found-alone i ds h
 
--- two tests, the documents that pass the one standing before those that pass the other
+-- two tests: the documents that pass the one are before those that pass the other
 split : (p q : List Field → Bool) → ((d e : List Field) → p d ≡ true → q e ≡ true → key_order (id_key d) (id_key e) ≡ Less) → (ds : List (List Field)) → IsAscending ds → filter (λ d. p d || q d) ds ≡ filter p ds ++ filter q ds
 split p q before [] h = refl
 split p q before (d ∷ ds) h = at (p d) (q d) refl refl (split p q before ds (tail-ascends d ds h))
@@ -110,7 +110,7 @@ split p q before (d ∷ ds) h = at (p d) (q d) refl refl (split p q before ds (t
         ap (λ es. d ∷ es) (rest ∙ ap (λ es. es ++ filter q ds) none) ∙ sym (ap (λ es. es ++ (d ∷ filter q ds)) none)
     at false false e f rest = rest
 
--- a key before all of a list stands before each that is equal to one of them
+-- a key before all keys of a list is before each key that is equal to one of them
 among-later : (i : KeyTree) (is : List KeyTree) → AllByRecursion (λ l. key_order i l ≡ Less) is → (k : KeyTree) → list_any (λ l. is_eq (key_order k l)) is ≡ true → key_order i k ≡ Less
 among-later i [] h k e = absurd cc
 among-later i (l ∷ is) h k e = at (is_eq (key_order k l)) refl (among-later i is h.1 k) e

@@ -1,4 +1,4 @@
--- Which index stands at a place, and what the one on `_id` finds.
+-- Which index is at a place, and its path.
 use Rattle.std.proofs.Common.{◌≡◌, ◌∙◌, ℕ, zero, suc, List, [], ◌∷◌, map, refl, ap, sym, subst, Some, slice_get}
 use Rattle.std.specs.List.{AllByRecursion}
 use Rattle.std.specs.Option.{option_map}

@@ -1,4 +1,4 @@
--- Keys that stand in two documents.
+-- Keys that two documents have.
 use Rattle.std.proofs.Common.{◌≡◌, ◌∙◌, ℕ, List, [], ◌∷◌, refl, ap, sym, Bool, true, false, ◌||◌}
 use Rattle.std.specs.List.{AllByRecursion, list_any}
 use Rattle.std.specs.Ordering.{is_eq}
@@ -45,7 +45,7 @@ module _ {X : Type 0} where
 
 -- ---- one document's keys
 module _ (path : List (List ℕ)) (d : List Field) where
-  -- keys that stand beside each other are both among them, or neither is
+  -- of two equal keys both are among them, or neither is
   pub leaf-same : (k l : KeyTree) → is_eq (key_order k l) ≡ true → is_leaf_key k path d ≡ is_leaf_key l path d
   unfolding is_leaf_key
   leaf-same k l e = ap (λ t. list_any t (leaf_values path d)) (λ j v. is_eq (key_order_total.congr k l (value (canon v)) (equal-from (key_order k l) e) j))

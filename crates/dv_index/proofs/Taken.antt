@@ -1,4 +1,4 @@
--- Pairs of keys that stand under another `_id`, and the documents that have these keys.
+-- Pairs of keys that are under another `_id`, and the documents that have these keys.
 use Rattle.std.proofs.Common.{◌≡◌, ◌∙◌, inl, inr, ℕ, List, [], ◌∷◌, refl, ap, sym, Bool, true, false, cond, not, ◌||◌, ◌&&◌, Option, Some, None}
 use Rattle.std.specs.List.{AllByRecursion, list_any}
 use Rattle.std.specs.Ordering.{is_eq}
@@ -20,9 +20,9 @@ use Rattle.dv_index.specs.Unique.{are_apart, is_key_taken, share_key}
 use Rattle.dv_index.proofs.Picked.{all-found}
 use Rattle.dv_index.proofs.Shared.{any-or, any-weaker, leaf-same, share-both, share-from, some-of}
 
--- ---- pairs that are gone
+-- ---- pairs that are in `gone`
 
--- where a key's pair is told by a pair, the one is gone where the other is
+-- a pair that is that of a key and an `_id` is in `gone` exactly if theirs is
 gone-alike : (gone : List Pair) (k i : KeyTree) (p : Pair) → not (has_pair p.0 p.1 gone) && is_pair_of k i p ≡ not (has_pair k i gone) && is_pair_of k i p
 gone-alike gone k i p = at (is_pair_of k i p) refl
   where
@@ -40,7 +40,7 @@ has-left gone ps k i =
     ∙ any-and (not (has_pair k i gone)) (is_pair_of k i) ps
     ∙ and_comm (not (has_pair k i gone)) (has_pair k i ps)
 
--- ---- pairs, by what they are of
+-- ---- pairs, by their keys and `_id`s
 each-paired : (ps qs : List Pair) → ((k i : KeyTree) → has_pair k i qs ≡ true → has_pair k i ps ≡ true) → AllByRecursion (λ p. has_pair p.0 p.1 ps ≡ true) qs
 each-paired ps [] h = tt
 each-paired ps (q ∷ qs) h = (h q.0 q.1 (or_left (is_pair_of q.0 q.1 q) (has_pair q.0 q.1 qs) itself), each-paired ps qs (λ k i there. h k i (or_right (is_pair_of k i q) (has_pair k i qs) there)))
@@ -52,7 +52,7 @@ each-paired ps (q ∷ qs) h = (h q.0 q.1 (or_left (is_pair_of q.0 q.1 q) (has_pa
 some-pair : (test : Pair → Bool) (ps : List Pair) → list_any test ps ≡ true → (p : Pair) × (has_pair p.0 p.1 ps ≡ true) × (test p ≡ true)
 some-pair test ps = some-of (λ p. has_pair p.0 p.1 ps ≡ true) test ps (each-paired ps ps (λ k i h. h))
 
--- a test that tells keys and `_id`s apart as their order does is passed by a pair that is there
+-- if a pair is there, and all pairs equal to it pass a test, some pair passes it
 passes-pair : (test : Pair → Bool) (k i : KeyTree) → ((p : Pair) → is_eq (key_order k p.0) ≡ true → is_eq (key_order i p.1) ≡ true → test p ≡ true) → (ps : List Pair) → has_pair k i ps ≡ true → list_any test ps ≡ true
 passes-pair test k i h ps there = any-weaker (is_pair_of k i) test (λ p e. let parts = and_parts (is_eq (key_order k p.0)) (is_eq (key_order i p.1)) e in h p parts.0 parts.1) ps there
 
@@ -102,7 +102,7 @@ module _ (path : List (List ℕ)) (d : List Field) (ds : List (List Field)) (asc
       (λ p same_key same_id. and_from (leaf p.0) (not (is_eq (key_order (id_key d) p.1))) (sym (leaf-same path d k.0 p.0 same_key) ∙ k.1) (ap (λ o. not (is_eq o)) (sym (alike_right key_order_total (id_key e.0) p.1 (id_key d) (equal-from (key_order (id_key e.0) p.1) same_id))) ∙ parts.0))
       ps (holds k.0 (id_key e.0) ∙ ap (is_key_under k.0 path) e.1 ∙ k.2)
 
-  -- a key of the document stands under another `_id` where a document under another `_id` has it
+  -- a key of the document is under another `_id` exactly if a document under another `_id` has it
   pub under-is-taken : (keys : List KeyTree) (id : KeyTree) → ((k : KeyTree) → has_key k keys ≡ is_leaf_key k path d) → id ≡ id_key d → is_under_another (λ k. has_key k keys) id ps ≡ is_key_taken path d ds
   under-is-taken keys id are is =
       (λ j. is_under_another (λ k. are k j) (is j) ps) ∙ same-truth (is_under_another leaf (id_key d) ps) (is_key_taken path d ds) to-document to-pair
@@ -112,7 +112,7 @@ module _ (path : List (List ℕ)) (d : List Field) (ds : List (List Field)) (asc
 abbrev pub has-some : List (List ℕ) → List Pair → List Field → Bool
 has-some path ps e = list_any (λ p. is_leaf_key p.0 path e) ps
 
--- where none of the pairs has the document's `_id`, they all have another one
+-- if none of the pairs has the document's `_id`, all of them have another one
 pub all-others : (test : KeyTree → Bool) (id : KeyTree) (ps : List Pair) → ((k i : KeyTree) → has_pair k i ps ≡ true → is_eq (key_order i id) ≡ false) → is_under_another test id ps ≡ list_any (λ p. test p.0) ps
 all-others test id [] apart = refl
 all-others test id (p ∷ ps) apart =
@@ -152,14 +152,15 @@ module _ (path : List (List ℕ)) (d : List Field) (ps qs : List Pair) (more : (
   step false true false = refl
   step false false b = refl
 
-  -- the documents that are left are apart from those before as they were, once this one is found to be
+  -- if this document is apart from those before it, all are apart exactly if the rest are apart from each other, from those, and
+  -- from it
   pub still-apart-from : (ds : List (List Field)) → has-some path ps d ≡ false → are_apart path (d ∷ ds) && not (list_any (has-some path ps) (d ∷ ds)) ≡ are_apart path ds && not (list_any (has-some path qs) ds)
   still-apart-from ds free =
       ap (λ b. are_apart path (d ∷ ds) && not (b || list_any (has-some path ps) ds)) free
       ∙ step (list_any (share_key path d) ds) (are_apart path ds) (list_any (has-some path ps) ds)
       ∙ ap (λ b. are_apart path ds && not b) (sym (ap (λ t. list_any t ds) (λ j e. more-has e j) ∙ any-or (has-some path ps) (share_key path d) ds))
 
--- and aren't, where it isn't
+-- and if it is not, they are not
 not-apart-from : (path : List (List ℕ)) (d : List Field) (ps : List Pair) (ds : List (List Field)) → has-some path ps d ≡ true → are_apart path (d ∷ ds) && not (list_any (has-some path ps) (d ∷ ds)) ≡ false
 not-apart-from path d ps ds taken = ap (λ b. are_apart path (d ∷ ds) && not (b || list_any (has-some path ps) ds)) taken ∙ and_comm (are_apart path (d ∷ ds)) false
 

@@ -1,4 +1,4 @@
--- Documents that are put one after the other in place of others, and the pairs that an index would have then.
+-- Documents that replace others one after the other, and the pairs that an index would have then.
 use Rattle.std.proofs.Common.{◌≡◌, ◌∙◌, ◌++◌, List, [], ◌∷◌, map, refl, ap, sym, Bool, true, false, cond, not, ◌||◌, ◌&&◌, Some}
 use Rattle.std.specs.List.{AllByRecursion}
 use Rattle.std.specs.Option.{option_map}
@@ -38,7 +38,7 @@ pub not-unique : (x : IndexForm) (es ds : List (List Field)) → x.unique ≡ fa
 not-unique x [] ds e = refl
 not-unique x (a ∷ es) ds e = ap (λ u. ((u && is_key_taken x.path a ds) || false) || replacing_clashes (x ∷ []) es (replaced a ds)) e ∙ not-unique x es (replaced a ds) e
 
--- ---- what dv_coll's laws say of a document that comes in place of another
+-- ---- what dv_coll's laws say of a document that replaces another
 abbrev pub ReplacedAscend : Type 0
 ReplacedAscend = (d : List Field) (ds : List (List Field)) → HasId d → AllByRecursion HasId ds → IsAscending ds → IsAscending (replaced d ds)
 
@@ -48,7 +48,7 @@ ReplacedBegin = (d : List Field) (ds : List (List Field)) → HasId d → AllByR
 abbrev pub OthersStand : Type 0
 OthersStand = (d e : List Field) (ds those : List (List Field)) → AreStanding ds (e ∷ those) → id_key d ≡ id_key e → AreStanding (replaced d ds) those
 
--- ---- where a trial stands: the documents now, of which its pairs are, and what is left to be replaced; `all` is what the whole answers
+-- ---- the state of a trial: the documents now, whose pairs it has, and what is left to be replaced; `all` is the whole result
 pub record InTurn (form : IndexForm) (held gone come : List Pair) (befores afters : List (List Field)) (all : Bool) : Type 0 where
   pub now : List (List Field)
   pub left : replacing_clashes (form ∷ []) afters now ≡ all
@@ -105,7 +105,7 @@ module _ (form : IndexForm) (unique : form.unique ≡ true) (held gone come : Li
   this : clashes (form ∷ []) a turn.now ≡ is_under_another (λ k. has_key k new) id (pairs_without gone held ++ come)
   this = or-false (form.unique && is_key_taken form.path a turn.now) ∙ ap (λ u. u && is_key_taken form.path a turn.now) unique ∙ sym taken
 
-  -- a key that is taken refuses them all
+  -- if a key is taken, all are refused
   pub refused : is_under_another (λ k. has_key k new) id (pairs_without gone held ++ come) ≡ true → true ≡ all
   refused e = sym (ap (λ c. c || replacing_clashes (form ∷ []) es (replaced a turn.now)) (this ∙ e)) ∙ turn.left
 
@@ -157,7 +157,7 @@ module _ (form : IndexForm) (unique : form.unique ≡ true) (held gone come : Li
     swapped false true = refl
     swapped false false = refl
 
-    -- and else the next one's turn comes
+    -- and else the next document is tried
     pub goes-on : InTurn form held gone-next come-next bs es all
     goes-on = record {
       now = replaced a turn.now;

@@ -31,7 +31,7 @@ none-match test never [] all = refl
 none-match test never (d ∷ ds) all =
     ap (λ b. cond b (d ∷ filter test ds) (filter test ds)) (not_true (test d) (never d all.0)) ∙ none-match test never ds all.1
 
--- ---- lists turned round
+-- ---- reversed lists
 filter-reverse : {X : Type 0} (test : X → Bool) (xs : List X) → filter test (reverse xs) ≡ reverse (filter test xs)
 filter-reverse test [] = refl
 filter-reverse test (x ∷ xs) =
@@ -77,7 +77,7 @@ module _ (law : OnlyKeysAreWithin) (ms : Members) (inside : KeyTree → Bool) (a
       nothing-directed most direction
       ∙ ap (λ es. take most (in_direction direction es)) (sym (none-match (matches ms) (λ d h e. let wrong : true ≡ false = sym (one-inside d h e) ∙ empty (id_key d) in absurd cc) ds identified))
 
--- ---- the last of some that are lent
+-- ---- the last of some references
 pub lent-from-last : {X : Type 0} (most : ℕ) (xs : List (Bor X)) (ys : List X) → map (λ (x : Bor X). x.now) xs ≡ ys → map (λ (x : Bor X). x.now) (take most (reverse xs)) ≡ take most (reverse ys)
 lent-from-last {X = X} most xs ys is =
     sym (take-map (λ (x : Bor X). x.now) most (reverse xs)) ∙ ap (take most) (map-reverse (λ (x : Bor X). x.now) xs ∙ ap reverse is)

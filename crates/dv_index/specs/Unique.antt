@@ -1,6 +1,6 @@
 -- Unique indexes (MongoDB manual, "Unique Indexes"): no two documents have the same key under the path. The keys of a document are
 -- those of its leaves. That Missing counts as null, so that only one document may lack the path, is the manual's rule too ("Unique
--- Index and Missing Field"); that a whole array is a key beside its elements is this server's own.
+-- Index and Missing Field"); that a whole array is a key besides its elements is this server's own.
 use Rattle.std.specs.Prelude.{ℕ, ◌&&◌, ◌||◌, not, Bool, true, false, List, [], ◌∷◌}
 use Rattle.std.specs.List.{list_any}
 use Rattle.dv_value.specs.Tree.{Field}
@@ -18,7 +18,7 @@ share_key path d e = list_any (λ v. is_leaf_key (value (canon v)) path e) (leaf
 abbrev pub is_key_taken : List (List ℕ) → List Field → List (List Field) → Bool
 is_key_taken path d documents = list_any (λ e. not (has_key (id_key d) e) && share_key path d e) documents
 
--- whether d breaks a unique index, beside the documents with other `_id`s
+-- whether d breaks a unique index, together with the documents with other `_id`s
 abbrev pub clashes : List IndexForm → List Field → List (List Field) → Bool
 clashes indexes d documents = list_any (λ x. x.unique && is_key_taken x.path d documents) indexes
 

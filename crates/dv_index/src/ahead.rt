@@ -22,17 +22,17 @@ use dv_path::{SortPart, sort_key};
 use dv_value::{Document, NoMemory};
 use std::alloc::Global;
 
-/// Documents among which are all that are ahead of a bar.
+/// Documents that include all those before a bar.
 #[derive(Debug, Drop)]
 pub struct Ahead<'c> {
-    /// The documents in the order of their `_id`s, some of which may not be ahead of the bar.
+    /// The documents in the order of their `_id`s. Some of them may not be before the bar.
     pub documents: Vec<&'c Document>,
     /// A place in the order in which the path sorts documents.
     pub bar: Bar<'c>,
 }
 
-/// Whether the path sorts the document ahead of a bar, in its direction; documents with equal keys ascend by their `_id`s. Fails
-/// with `NoMemory` when memory runs out.
+/// Whether the path sorts the document before a bar, in its direction; documents with equal keys ascend by their `_id`s. Fails with
+/// `NoMemory` when memory runs out.
 pub fn is_ahead(document: &Document, by: &SortPart, bar: &Bar<'_>) -> Result<bool, NoMemory>
     requires { HasId document.now }
     ensures { IfOk result (λ ahead. ahead ≡ defined.is_ahead (part by.now) bar.now document.now) }
@@ -42,8 +42,8 @@ pub fn is_ahead(document: &Document, by: &SortPart, bar: &Bar<'_>) -> Result<boo
     Ok(bar.is_behind(by.direction, &key, &id))
 }
 
-/// The index by whose order documents are found that a path sorts: the one on the path, where by the plan all documents are
-/// looked at or those in a range of it. The index on `_id`, which has no pairs, is none.
+/// The index in whose order the documents that a path sorts are found: the one on the path, if the plan reads all documents or
+/// those in a range of the path. It is never the index on `_id`, which has no pairs.
 pub(crate) fn index_in_order<'i>(
     indexes: &'i Indexes,
     plan: &Plan<'_>,
@@ -59,7 +59,7 @@ pub(crate) fn index_in_order<'i>(
     first_on(others, path)
 }
 
-/// Whether by a plan all documents are looked at, or those in a range of the path.
+/// Whether a plan reads all documents, or those in a range of the path.
 fn is_in_order(indexes: &Indexes, plan: &Plan<'_>, path: &Path) -> bool {
     match plan {
         Plan::Scan => true,
@@ -89,9 +89,9 @@ fn first_on<'i>(indexes: &'i [Index], path: &Path) -> Option<&'i Index>
     None
 }
 
-/// Whether the path leads to something in each document that matches the filter and that it sorts ahead of the bar. Where it
-/// leads nowhere, a document has no key, and is sorted as null: only a path of several components does that, as through an empty
-/// array. Fails when memory runs out.
+/// Whether the path leads to something in each document that matches the filter and that it sorts before the bar. A document in
+/// which it leads nowhere has no key, and is sorted as null. Only a path of several components can lead nowhere, as through an
+/// empty array. Fails when memory runs out.
 pub(crate) fn leads_somewhere(
     alloc: Global,
     filter: &Filter,
@@ -108,8 +108,8 @@ pub(crate) fn leads_somewhere(
     Ok(!is_ahead)
 }
 
-/// The documents among which are all that match the filter and that the path sorts ahead of the bar, in the order of their
-/// `_id`s, by the index on it, unless there are more than `most`. Fails when memory runs out.
+/// Documents that include all that match the filter and that the path sorts before the bar, in the order of their `_id`s, by the
+/// index on the path. `None` if it finds more than `most`. Fails when memory runs out.
 pub(crate) fn candidates_ahead<'c>(
     alloc: Global,
     index: &Index,

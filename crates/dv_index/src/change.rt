@@ -17,20 +17,20 @@ use dv_order::Key;
 use dv_value::{Document, NoMemory};
 use std::alloc::Global;
 
-/// What becomes of one document.
+/// A change of one document.
 #[derive(Debug, Drop)]
 pub(crate) enum Change<'k> {
-    /// It comes.
+    /// It is inserted.
     Insert(Document),
-    /// It comes in place of the one with an equal `_id`.
+    /// It replaces the one with an equal `_id`.
     Replace(Document),
-    /// The one under the key of an `_id` goes.
+    /// The one under the key of an `_id` is removed.
     Remove(&'k Key),
 }
 
 /// Changes one document, and with it the indexes: first the keys that it gains are added to one index after the other, then the
-/// document is changed, which takes out of the indexes the keys that it has lost. Refused as the change of the document is, and
-/// when memory runs out; then what was added is taken out again, and nothing is changed.
+/// document is changed, and then the keys that it has lost are removed from the indexes. Refused if the change of the document is
+/// refused, and when memory runs out; then the added keys are removed again, and nothing is changed.
 pub(crate) fn carry_out(
     alloc: Global,
     indexes: &mut [Index],
@@ -91,7 +91,7 @@ fn change_document(documents: &mut Collection, change: Change<'_>) -> Result<(),
     Ok(())
 }
 
-/// The keys that the change moves. Fails when memory runs out.
+/// The keys of the document before and after the change. Fails when memory runs out.
 fn keys_moved(
     alloc: Global,
     path: &Path,
@@ -109,7 +109,7 @@ fn keys_moved(
     Ok(Moved { id, old, new })
 }
 
-/// The keys of a document, where there is one. Fails when memory runs out.
+/// The keys of a document, if there is one. Fails when memory runs out.
 fn keys_under(alloc: Global, path: &Path, document: Option<&Document>) -> Result<Keys, NoMemory>
     ensures { IfOk result (λ keys. (k : KeyTree) → has_key k keys ≡ is_key_under k path.now (option_map (λ d. d.now) document.entry)) }
 {
@@ -119,7 +119,7 @@ fn keys_under(alloc: Global, path: &Path, document: Option<&Document>) -> Result
     }
 }
 
-/// The document that stands there afterwards.
+/// The document that is there afterwards.
 fn after<'c>(change: &'c Change<'_>) -> Option<&'c Document>
     ensures { option_map (λ d. d.now) result ≡ document_after change.now }
 {

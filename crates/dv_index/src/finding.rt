@@ -18,8 +18,8 @@ use dv_match::Filter;
 use dv_path::{Direction, SortPart};
 use dv_value::{Document, NoMemory};
 
-/// Of so many documents not more than one is looked up where the order of an index serves: that costs about as much as going
-/// through them.
+/// If the order of an index is used, at most one of this many documents is looked up: to look one up costs about as much as to read
+/// this many in order.
 const DOCUMENTS_PER_LOOKUP: usize = 16;
 
 impl IndexedCollection {
@@ -32,8 +32,8 @@ impl IndexedCollection {
         run(self.alloc, &plan, filter, &self.documents, &self.indexes)
     }
 
-    /// The first documents that match the filter, in the order of their `_id`s, and not more than `most`. If all documents are
-    /// looked at, or a range of `_id`s, no document after the last of these is. Fails with `NoMemory` when memory runs out.
+    /// The first documents that match the filter, in the order of their `_id`s, and not more than `most`. If the plan reads all
+    /// documents, or a range of `_id`s, no document after the last of these is read. Fails with `NoMemory` when memory runs out.
     pub fn find_first(&self, filter: &Filter, most: usize) -> Result<Vec<&Document>, NoMemory>
         ensures { IfOk result (λ found. map (λ d. d.now) found.items ≡ take most (kept (λ d. matches filter.now d) self.now.documents)) }
     {
@@ -85,12 +85,12 @@ impl IndexedCollection {
         Ok(found)
     }
 
-    /// Documents that match the filter, in the order of their `_id`s, and a bar: among them are all that match and that a path sorts
-    /// ahead of the bar. They are found by the order of the index on the path, which has `least` documents ahead of the bar, some of
-    /// which may not match, or more where ties aren't decided by `_id`s; for a filter that is answered by a range of the path, those
-    /// in the range. `None` if the filter is answered by another index, if the path has no index except that on `_id`, if the path
-    /// may lead nowhere ahead of the bar, if there is no key after so many, and if more than one of 16 documents would be looked up.
-    /// Fails with `NoMemory` when memory runs out.
+    /// Documents that match the filter, in the order of their `_id`s, and a bar. They include all that match and that a path sorts
+    /// before the bar. They are found by the order of the index on the path. This has `least` documents before the bar, or more if
+    /// ties aren't decided by `_id`s; each counts once for each of its keys, and some may not match. For a filter that is answered
+    /// by a range of the path, only documents in the range are counted. `None` if the filter is answered by another index, if the
+    /// path has no index except that on `_id`, if the path may lead nowhere before the bar, if there is no key after so many, and
+    /// if more than one of 16 documents would be looked up. Fails with `NoMemory` when memory runs out.
     pub fn find_ahead(
         &self,
         filter: &Filter,

@@ -34,7 +34,8 @@ use std::marker::Model;
 /// Documents in the order of their `_id`s, no two of which are equal, whatever the width of their integers; and indexes in the
 /// order in which they were made, the one on `_id` first. `_id` is the first field of each document, and its value no array.
 ///
-/// A document is found by its `_id` in time logarithmic in their number. A change costs what its keys differ, for each index.
+/// A document is found by its `_id` in time logarithmic in the number of documents. A change updates in each index only the keys
+/// that differ.
 #[derive(Debug, Drop)]
 pub struct IndexedCollection {
     pub(crate) alloc: Global,
@@ -61,10 +62,10 @@ impl Model for IndexedCollection {
 /// What a find does, without its documents.
 #[derive(Clone, Copy, Debug)]
 pub struct Explanation<'c> {
-    /// The name of the index by which the documents are found, and `None` if all are looked at.
+    /// The name of the index by which the documents are found, and `None` if all are read.
     pub index: Option<&'c str>,
-    /// How many documents have a leaf in the bounds in which the index is looked at, Missing counting as null; without an
-    /// index, how many there are.
+    /// How many documents have a leaf in the bounds in which the index is read, Missing counting as null; without an index, how
+    /// many there are.
     pub documents: usize,
 }
 
@@ -138,7 +139,7 @@ impl IndexedCollection {
 
     /// Puts the document in place of the one with an equal `_id`, and returns whether there is one. If there is none, nothing is
     /// changed, and the document is dropped. Fails with `NoMemory` when memory runs out for the keys of both, of which there are
-    /// none without an index beside that on `_id`; then nothing is changed.
+    /// none if the index on `_id` is the only one; then nothing is changed.
     pub fn replace(&mut self, document: Document) -> Result<bool, NoMemory>
         requires { HasId document }
         ensures found { IfOk result (λ replaced. replaced ≡ is_some (found (id_key document) self.old.documents)) }
@@ -183,7 +184,7 @@ impl IndexedCollection {
         self.change_in_copy(key, name, change)
     }
 
-    /// The same, by a copy of the document that comes in its place, with its keys in the indexes.
+    /// The same, by a changed copy that replaces the document and its keys in the indexes.
     fn change_in_copy(
         &mut self,
         key: &Key,
@@ -209,8 +210,8 @@ impl IndexedCollection {
         Ok(true)
     }
 
-    /// Takes out the document under the key of its `_id`, and returns whether there is one. Fails with `NoMemory` when memory runs
-    /// out to look its keys up, of which there are none without an index beside that on `_id`; then nothing is changed.
+    /// Removes the document under the key of its `_id`, and returns whether there is one. Fails with `NoMemory` when memory runs
+    /// out for its keys, of which there are none if the index on `_id` is the only one; then nothing is changed.
     pub fn remove(&mut self, key: &Key) -> Result<bool, NoMemory>
         ensures found { IfOk result (λ gone. gone ≡ is_some (found key.now self.old.documents)) }
         ensures ok { OnOk result (self.new ≡ with_documents (removed key.now self.old.documents) self.old) }
@@ -251,7 +252,7 @@ impl IndexedCollection {
     }
 
     /// Whether one of the new documents can't be among the documents, each put in place of the one that it replaces, in the order
-    /// of their `_id`s. Nothing is changed. Fails with `NoMemory` when memory runs out for the keys that come and go.
+    /// of their `_id`s. Nothing is changed. Fails with `NoMemory` when memory runs out for the keys that are added and removed.
     pub fn replacing_clashes(&self, each: &[Replacing<'_>]) -> Result<bool, NoMemory>
         requires standing { AreStanding self.now.documents (befores each.now) }
         requires same_ids { map id_key (afters each.now) ≡ map id_key (befores each.now) }
@@ -261,14 +262,14 @@ impl IndexedCollection {
         replacing_clashes(self.alloc, self.indexes.as_slice(), each, &self.documents)
     }
 
-    /// Makes indexes, after the others and in this order. The caller has to see that neither the name nor the path of one is there
-    /// already. Takes the time of putting the keys of all documents in order. Refused with `Duplicate` if one of them is unique and
-    /// two documents share a key under its path, and with `NoMemory` when memory runs out; then none is made.
+    /// Makes indexes, after the others and in this order. The caller has to ensure that neither the name nor the path of one is
+    /// there already. Takes the time to sort the keys of all documents. Refused with `Duplicate` if one of them is unique and two
+    /// documents share a key under its path, and with `NoMemory` when memory runs out; then none is made.
     pub fn create_indexes(&mut self, wanted: Vec<NewIndex>) -> Result<(), InsertFault>
         ensures ok { OnOk result (self.new ≡ with_indexes (self.old.indexes ++ map form_of_new wanted.items) self.old) }
         ensures err { OnErr result (self.new ≡ self.old) }
 
-        // No unique index is made that two documents break, and none refused as a duplicate that they don't.
+        // No unique index that two documents break is made, and none that they don't break is refused as a duplicate.
         ensures sound { OnOk result (are_broken (map form_of_new wanted.items) self.old.documents ≡ false) }
         ensures duplicate { IsErrOf result InsertFault.Duplicate → are_broken (map form_of_new wanted.items) self.old.documents ≡ true }
     {
@@ -277,7 +278,7 @@ impl IndexedCollection {
         Ok(())
     }
 
-    /// Takes out the index of a name, but never the one on `_id`, and returns whether there is one. Takes no memory.
+    /// Removes the index of a name, but never the one on `_id`, and returns whether there is one. Takes no memory.
     pub fn drop_index(&mut self, name: &str) -> bool
         ensures found { result ≡ list_any (is_dropped name.now) self.old.indexes }
         ensures indexes { self.new ≡ with_indexes (without_index name.now self.old.indexes) self.old }
@@ -285,14 +286,14 @@ impl IndexedCollection {
         self.indexes.remove(name)
     }
 
-    /// Takes out all indexes but the one on `_id`. Takes no memory.
+    /// Removes all indexes except the one on `_id`. Takes no memory.
     pub fn drop_indexes(&mut self)
         ensures { self.new ≡ with_indexes (id_form ∷ []) self.old }
     {
         self.indexes.clear();
     }
 
-    /// By which index a find is answered, and how many documents it covers. Fails with `NoMemory` when memory runs out.
+    /// Which index answers a find, and how many documents it covers. Fails with `NoMemory` when memory runs out.
     pub fn explain(&self, filter: &Filter) -> Result<Explanation<'_>, NoMemory>
         ensures index { IfOk result (λ explanation. option_map (λ name. name.now) explanation.index ≡ defined.index_chosen filter.now self.now.indexes) }
         ensures documents { IfOk result (λ explanation. explanation.documents ≡ defined.documents_covered filter.now self.now) }
@@ -304,7 +305,7 @@ impl IndexedCollection {
         })
     }
 
-    /// Changes a document that is no new one, and with it the indexes. Fails when memory runs out; then nothing is changed.
+    /// Replaces or removes a document, and updates the indexes. Fails when memory runs out; then nothing is changed.
     fn change(&mut self, change: Change<'_>) -> Result<(), NoMemory>
         requires possible { IsChangeOf change self.old.documents }
         requires known { IsTaken change self.old.documents → ⊥ }
@@ -319,7 +320,7 @@ impl IndexedCollection {
     }
 }
 
-/// Whether there is no index but the one on `_id`, which has no keys of its own.
+/// Whether there is no index except the one on `_id`, which has no keys of its own.
 #[tactic(auto, using(crate::proofs::FieldChanged::one_index))]
 fn are_only_id(indexes: &Indexes) -> bool
     ensures { IsTrue result → (documents : List (List Field)) → AreIndexesOf indexes.now documents }

@@ -101,7 +101,7 @@ impl Indexes {
         self.indexes.append(&mut more)
     }
 
-    /// Takes out the indexes of a name, but never the one on `_id`, and returns whether there is one. Takes no memory.
+    /// Removes the indexes of a name, but never the one on `_id`, and returns whether there is one. Takes no memory.
     pub(crate) fn remove(&mut self, name: &str) -> bool
         ensures found { result ≡ list_any (is_dropped name.now) (map form_of self.old) }
         ensures indexes { self.new ≡ filter (λ x. not (is_dropped name.now (form_of x))) self.old }
@@ -112,15 +112,15 @@ impl Indexes {
         found
     }
 
-    /// Takes out all indexes but the one on `_id`. Takes no memory.
+    /// Removes all indexes except the one on `_id`. Takes no memory.
     pub(crate) fn clear(&mut self)
         ensures { map form_of self.new ≡ id_form ∷ [] }
     {
         self.indexes.truncate(1);
     }
 
-    /// Changes one document, and with it the indexes. Refused as the change of the document is, and when memory runs out; then
-    /// nothing is changed.
+    /// Changes one document, and with it the indexes. Refused if the change of the document is refused, and when memory runs out;
+    /// then nothing is changed.
     pub(crate) fn change(
         &mut self,
         alloc: Global,
@@ -141,7 +141,7 @@ impl Indexes {
     }
 }
 
-/// Changes one document, and with it the indexes but the first, which is the one on `_id`.
+/// Changes one document, and with it the indexes except the first, which is the one on `_id`.
 fn change_behind_first(
     alloc: Global,
     indexes: &mut [Index],
@@ -188,7 +188,7 @@ fn id_path(alloc: Global) -> Result<Path, NoMemory>
     }
 }
 
-/// Whether the index goes with a name.
+/// Whether dropping a name removes the index.
 fn goes(index: &Index, name: &str) -> bool
     ensures { result ≡ is_dropped name.now (form_of index.now) }
 {

@@ -39,8 +39,8 @@ pub fn a_find_covers_what_it_finds()
     what_matches_is_in_the_bounds();
 }
 
-/// The documents of a list in ascending order whose `_id`s have one of some ascending keys are those of each key, one key after the
-/// other.
+/// In a list in ascending order, the documents whose `_id`s have one of some ascending keys are those of each key, one key after
+/// the other.
 pub fn documents_are_found_key_by_key()
     ensures { (keys : List KeyTree) (ds : List (List Field)) → IsStrictlySortedBy key_order keys → IsAscending ds → flat_map (λ k. kept (λ d. is_eq (key_order (id_key d) k)) ds) keys ≡ kept (λ d. has_key (id_key d) keys) ds }
 {}
@@ -52,8 +52,8 @@ pub fn an_index_made_anew_is_the_same()
     ensures { (x y : IndexTree) (ds : List (List Field)) → x.path ≡ y.path → IsIndexOf x ds → IsIndexOf y ds → (k id : KeyTree) → has_pair k id x.pairs ≡ has_pair k id y.pairs }
 {}
 
-/// An index that is made and dropped leaves the others as they were, and the one on `_id` never goes. One that others were made
-/// behind goes alone.
+/// An index that is made and dropped leaves the others as they were, and the one on `_id` is never dropped. If others were made
+/// after an index, dropping it removes it alone.
 #[tactic(auto, using(crate::proofs::Built::none_dropped))]
 pub fn indexes_come_and_go()
     ensures others { (name : List ℕ) (path : List (List ℕ)) (unique : Bool) (xs : List IndexForm) → bytes_eq name id_form.name ≡ false → has_index_named name xs ≡ false
@@ -76,7 +76,7 @@ pub fn a_replacement_without_a_clash_breaks_nothing()
         → BreaksNone indexes d ds (replaced d ds) }
 {}
 
-/// A document that is taken out breaks none.
+/// A document that is removed breaks none.
 pub fn a_removal_breaks_nothing()
     ensures { (indexes : List IndexForm) (k : KeyTree) (ds : List (List Field)) → AreUnbroken indexes ds → AreUnbroken indexes (removed k ds) }
 {}
@@ -87,19 +87,19 @@ pub fn nothing_is_broken_by_no_document()
     ensures { (indexes : List IndexForm) → AreUnbroken indexes [] }
 {}
 
-/// Of indexes none of which is broken, none of some of them is.
+/// If none of a list of indexes is broken, none of some of them is.
 #[tactic(auto, using(crate::proofs::Apart::fewer_break))]
 pub fn fewer_indexes_break_no_more()
     ensures { (p : IndexForm → Bool) (indexes : List IndexForm) (ds : List (List Field)) → AreUnbroken indexes ds → AreUnbroken (kept p indexes) ds }
 {}
 
-/// Of two lists of indexes joined, one is broken if one of the first list is, or one of the other.
+/// Of two lists of indexes joined, one is broken exactly if one of the first list or one of the other is.
 #[tactic(auto, using(crate::proofs::Apart::one_by_one))]
 pub fn indexes_break_one_by_one()
     ensures { (xs ys : List IndexForm) (ds : List (List Field)) → are_broken (xs ++ ys) ds ≡ (are_broken xs ds || are_broken ys ds) }
 {}
 
-/// Which of three indexes answers a filter: an equality goes before a range, and else the index that was made first.
+/// Which of three indexes answers a filter: an equality has precedence over a range, and otherwise the index that was made first.
 #[tactic(auto, unfolding(dv_match::specs::Parsing::filter_in, dv_match::specs::Parsing::filters_in, dv_match::specs::Parsing::each_filter, dv_match::specs::Parsing::filter_of, dv_match::specs::Parsing::conditions_in, dv_match::specs::Parsing::operators_in, dv_match::specs::Parsing::member_named, dv_match::specs::Parsing::operator_named, dv_candidates::specs::Path::path_of, dv_keyed::specs::Choice::chosen, dv_keyed::specs::Choice::first_in, dv_keyed::specs::Choice::first_in_member, dv_keyed::specs::Choice::first_in_all))]
 pub fn plans_by_example()
     ensures equality_before_range { index_for ((codes "a", doc (one (codes "$gt") (int 1))) ∷ (codes "b", int 1) ∷ []) ≡ Ok (Some (codes "b_1")) }
@@ -113,7 +113,8 @@ pub fn plans_by_example()
     ensures another_condition { index_for (one (codes "a") (doc (one (codes "$ne") (int 1)))) ≡ Ok None }
 {}
 
-/// Three documents with an array, 4 and 1 as `a`: only the first bound covers, a document once whatever its elements.
+/// Three documents with an array, 4 and 1 as `a`: only the first bound counts, and a document is covered once, whatever its
+/// elements.
 #[tactic(auto, unfolding(dv_match::specs::Parsing::filter_in, dv_match::specs::Parsing::filter_of, dv_match::specs::Parsing::conditions_in, dv_match::specs::Parsing::operators_in, dv_match::specs::Parsing::member_named, dv_match::specs::Parsing::operator_named, dv_candidates::specs::Path::path_of, dv_candidates::specs::Path::index_of, dv_candidates::specs::Candidates::whole, dv_candidates::specs::Candidates::leaves, dv_keyed::specs::Choice::chosen, dv_keyed::specs::Choice::first_in, dv_keyed::specs::Choice::first_in_member, dv_keyed::specs::Choice::first_in_all, crate::specs::Search::covered, dv_keyed::specs::Within::has_within))]
 pub fn covered_by_example()
     ensures first_bound { covered_by three_indexes (one (codes "a") (doc ((codes "$gt", int 1) ∷ (codes "$lt", int 3) ∷ []))) ≡ Ok 2 }
@@ -125,9 +126,9 @@ pub fn covered_by_example()
     ensures no_index { covered_by (id_form ∷ []) (one (codes "a") (int 7)) ≡ Ok 3 }
 {}
 
-/// Two documents break a unique index on `a` if they have one number in two widths, an element in common, an array whole in the one
-/// and as an element in the other, or if both have no `a`, or null: but not by different numbers, or the same document twice. Where
-/// both get another number, the second may get the one that the first had, but not the one that it gets.
+/// Two documents break a unique index on `a` if they have one number in two widths, an element in common, or an array whole in the
+/// one and as an element in the other, or if each has no `a` or null. Different numbers do not break it, and no document breaks it
+/// by itself. If both get another number, the second may get the one that the first had, but not the one that the first gets.
 #[tactic(auto, unfolding(dv_candidates::specs::Path::index_of, dv_candidates::specs::Candidates::whole, dv_candidates::specs::Candidates::leaves, dv_path::specs::LeafKeys::is_leaf_key, dv_path::specs::LeafKeys::leaf_values, crate::specs::Unique::share_key))]
 pub fn unique_keys_by_example()
     ensures two_widths { are_one_key (int 5) (long 5) ≡ true }

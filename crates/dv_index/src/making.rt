@@ -18,8 +18,8 @@ use dv_keyed::{Index, MultiIndex, NewIndex, keys_of};
 use dv_value::Document;
 use std::alloc::Global;
 
-/// Indexes over all documents, in the order in which they are wanted. Refused with `Duplicate` where one is unique and two
-/// documents share a key under its path, and with `NoMemory` when memory runs out.
+/// Indexes over all documents, in the order in which they are wanted. Refused with `Duplicate` if one is unique and two documents
+/// share a key under its path, and with `NoMemory` when memory runs out.
 pub(crate) fn indexes_over(
     alloc: Global,
     wanted: Vec<NewIndex>,
@@ -37,7 +37,7 @@ pub(crate) fn indexes_over(
     Ok(made)
 }
 
-/// An index over all documents. Refused as they are.
+/// An index over all documents. Refused as `indexes_over` is.
 fn index_over(alloc: Global, wanted: NewIndex, documents: &Collection) -> Result<Index, InsertFault>
     ensures form { IfOk result (λ index. form_of index ≡ form_of_new wanted) }
     ensures index { IfOk result (λ index. IsIndexOf index documents.now) }
@@ -49,8 +49,8 @@ fn index_over(alloc: Global, wanted: NewIndex, documents: &Collection) -> Result
     Ok(Index::of(name, path, unique, pairs))
 }
 
-/// The pairs of the keys of all documents under a path, each with its document's `_id`. Refused with `Duplicate` where they are
-/// those of a unique index and two documents share a key, and with `NoMemory` when memory runs out.
+/// The pairs of the keys of all documents under a path, each with its document's `_id`. Refused with `Duplicate` if they are those
+/// of a unique index and two documents share a key, and with `NoMemory` when memory runs out.
 fn pairs_of(
     alloc: Global,
     path: &Path,
@@ -68,9 +68,8 @@ fn pairs_of(
     Ok(pairs.packed()?)
 }
 
-/// Adds the pairs of the keys of a document that has none yet. Refused with `Duplicate` where the pairs are those of a unique
-/// index and one of the keys stands under another `_id`, and with `NoMemory` when memory runs out; then the pairs are those that
-/// there were.
+/// Adds the pairs of the keys of a document that has none yet. Refused with `Duplicate` if the pairs are those of a unique index
+/// and one of the keys is under another `_id`, and with `NoMemory` when memory runs out; then the pairs are unchanged.
 fn add_keys(
     alloc: Global,
     pairs: &mut MultiIndex,

@@ -36,9 +36,10 @@ use dv_value::{Document, List, NoMemory, Value};
 use std::alloc::Global;
 use std::ops::Bound;
 
-/// The documents that match the filter, in the order of their `_id`s. By an index only those are looked at that are under the keys
-/// in the plan's bounds, or may be by having several keys; by that on `_id` those whose `_id`s are in all ranges that the filter
-/// sets. The plan is the filter's, the indexes have the collection's keys. Fails with `NoMemory` when memory runs out.
+/// The documents that match the filter, in the order of their `_id`s. With an index only those are read that are under the keys in
+/// the plan's bounds, or may be because they have several keys; for a range of `_id`s, those whose `_id`s are in all ranges that
+/// the filter sets. The plan is the filter's, and the indexes have the keys of the collection's documents. Fails with `NoMemory`
+/// when memory runs out.
 pub fn run<'c>(
     alloc: Global,
     plan: &Plan<'_>,
@@ -133,8 +134,8 @@ fn decided<'c>(
     found_between(alloc, index, filter, collection)
 }
 
-/// The documents that match a filter which is a range with two ends under the path of the index, where no document has several keys in
-/// this. `None` for any other filter.
+/// The documents that match a filter which is a range with two ends under the path of the index, if no document has several keys in
+/// this index. `None` otherwise.
 fn found_between<'c>(
     alloc: Global,
     index: &Index,
@@ -193,8 +194,8 @@ fn matching<'c>(
         .collect(alloc)
 }
 
-/// The documents among which are all that match the filter, in the order of their `_id`s, where these have a leaf in the
-/// bounds of the index at a place.
+/// Documents that include all that match the filter, in the order of their `_id`s. All that match have a leaf in the bounds of the
+/// index at a place.
 fn tried<'c>(
     alloc: Global,
     place: usize,
@@ -234,8 +235,8 @@ fn tried_by_key<'c>(
     documents_of(alloc, ids, collection)
 }
 
-/// The documents among which are all that have a leaf in the bounds of the index at a place, in the order of their `_id`s; where the
-/// bounds are points, no others are there.
+/// Documents that include all that have a leaf in the bounds of the index at a place, in the order of their `_id`s; if the bounds
+/// are points, there are no others.
 pub(crate) fn candidates<'c>(
     alloc: Global,
     place: usize,
@@ -254,7 +255,7 @@ pub(crate) fn candidates<'c>(
     }
 }
 
-/// The same of the index on `_id`: the documents themselves stand in the order of their `_id`s.
+/// The same for the index on `_id`: the documents themselves are in the order of their `_id`s.
 fn candidates_by_id<'c>(
     alloc: Global,
     bounds: Bounds<'_>,
@@ -273,7 +274,7 @@ fn candidates_by_id<'c>(
     }
 }
 
-/// The document whose `_id` is equal to a value, where there is one.
+/// The document whose `_id` is equal to a value, if there is one.
 fn with_id<'c>(
     alloc: Global,
     value: &Value,
@@ -300,7 +301,7 @@ fn with_ids<'c>(
     documents_of(alloc, ids, collection)
 }
 
-/// The documents among which are all whose `_id`s stand so to a value and are of its class.
+/// Documents that include all whose `_id`s are of a value's class and compare to it as the range says.
 fn with_ids_within<'c>(
     alloc: Global,
     range: Range,
@@ -313,7 +314,7 @@ fn with_ids_within<'c>(
     documents_between(alloc, collection, low, high)
 }
 
-/// The documents whose `_id`s' keys stand between two ends.
+/// The documents whose `_id`s' keys are between two ends.
 fn documents_between(
     alloc: Global,
     collection: &Collection,
@@ -375,7 +376,7 @@ fn documents_under<'c>(
     Ok(found)
 }
 
-/// Adds the document that has this `_id`, where there is one.
+/// Adds the document that has this `_id`, if there is one.
 fn add_document<'c>(
     found: &mut Vec<&'c Document>,
     id: &Key,

@@ -1,4 +1,4 @@
-//! Whether documents can stand among others, for unique indexes: alone, or put one after the other in place of others.
+//! Whether unique indexes allow documents among others: a single one, or several that replace others one after the other.
 
 ghost use Rattle.std.specs.Prelude.{◌≡◌, ◌∷◌, ◌&&◌, [], true, map, IfOk};
 ghost use Rattle.std.specs.List.{AllByRecursion};
@@ -18,15 +18,15 @@ use dv_keyed::{Index, Moved, Trial, keys_of};
 use dv_value::{Document, NoMemory};
 use std::alloc::Global;
 
-/// A document that is there, and the one that comes in its place, under an equal `_id`.
+/// A stored document, and the one that replaces it, under an equal `_id`.
 #[derive(Clone, Copy, Debug)]
 pub struct Replacing<'d> {
     pub before: &'d Document,
     pub after: &'d Document,
 }
 
-/// Whether the document can't stand among the documents, since another `_id` than its own has one of its keys in one of the
-/// indexes that is unique. Fails when memory runs out.
+/// Whether the document can't be among the documents, since another `_id` than its own has one of its keys in a unique index. Fails
+/// when memory runs out.
 pub(crate) fn clashes(
     alloc: Global,
     indexes: &[Index],
@@ -45,7 +45,7 @@ pub(crate) fn clashes(
     Ok(false)
 }
 
-/// The same of one index.
+/// The same for one index.
 fn clashes_in(
     alloc: Global,
     index: &Index,
@@ -66,8 +66,8 @@ fn clashes_in(
     Ok(index.pairs().clash(&keys, &id))
 }
 
-/// Whether one of the documents that come can't stand among the documents, each put in place of the one that it replaces, one
-/// after the other. Fails when memory runs out for the keys that come and go.
+/// Whether one of the new documents can't be among the documents, each put in place of the one that it replaces, one after the
+/// other. Fails when memory runs out for the keys that are added and removed.
 pub(crate) fn replacing_clashes(
     alloc: Global,
     indexes: &[Index],
@@ -88,7 +88,7 @@ pub(crate) fn replacing_clashes(
     Ok(false)
 }
 
-/// The same of one index.
+/// The same for one index.
 fn replacing_clashes_in(
     alloc: Global,
     index: &Index,
@@ -107,7 +107,7 @@ fn replacing_clashes_in(
     clash_in_turn(alloc, index, each, documents)
 }
 
-/// The same of one that is unique.
+/// The same for a unique index.
 fn clash_in_turn(
     alloc: Global,
     index: &Index,
@@ -138,7 +138,7 @@ fn clash_in_turn(
     Ok(false)
 }
 
-/// The keys under a path of the document that is there, and of the one that comes. Fails when memory runs out.
+/// The keys under a path of the stored document, and of the one that replaces it. Fails when memory runs out.
 fn keys_moved(alloc: Global, path: &Path, replacing: &Replacing<'_>) -> Result<Moved, NoMemory>
     requires { HasId replacing.now.after.now }
     ensures id { IfOk result (λ moved. moved.id ≡ id_key replacing.now.after.now) }

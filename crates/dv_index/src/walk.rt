@@ -1,4 +1,4 @@
-//! Walks over documents in a direction of their `_id`s, in whose order they stand.
+//! Walks over documents in a direction of their `_id`s, in whose order they are stored.
 
 ghost use Rattle.std.specs.Prelude.{◌≡◌, map, take, filter as kept, IfOk};
 ghost use Rattle.std.specs.BTreeMap.Range.{IsLeBy, IsLtBy};
@@ -33,8 +33,8 @@ pub(crate) fn is_range(bounds: &Bounds<'_>) -> bool {
     }
 }
 
-/// The first documents that match the filter, in a direction of their `_id`s, and not more than `most`. Those are looked at whose
-/// `_id`s are in all ranges that the filter sets, up to the last of these. Fails when memory runs out.
+/// The first documents that match the filter, in a direction of their `_id`s, and not more than `most`. Only documents whose `_id`s
+/// are in all ranges that the filter sets are read, and none after `most` are found. Fails when memory runs out.
 pub(crate) fn walked<'c>(
     alloc: Global,
     filter: &Filter,
@@ -60,7 +60,7 @@ pub(crate) fn walked<'c>(
     )
 }
 
-/// The documents whose `_id`s stand between two ends, in a direction of these.
+/// The documents whose `_id`s are between two ends, in a direction of these.
 fn walk_between(collection: &Collection, ends: Interval, direction: Direction) -> Walk<'_>
     requires { IsForward (IsLeBy key_order) (IsLtBy key_order) ends.low ends.high }
     ensures { result ≡ in_direction direction (kept (λ d. is_between ends (id_key d)) collection.now) }

@@ -1,4 +1,4 @@
--- Without positions a look-up is that of a pipeline, and a change changes few of the rows that it makes.
+-- Without positions a look-up is that of a pipeline, and a change changes few of the rows that it returns.
 use Rattle.std.specs.Prelude.{◌≡◌, ◌≤◌, Bool, true, false, cond, List, [], ◌∷◌, length, map, filter, Option, None, Some, is_none, refl}
 use Rattle.std.proofs.Common.{ap, arith, sym, ◌∙◌}
 use Rattle.std.proofs.lemmas.List.{length-append, length-map}
@@ -31,7 +31,7 @@ lookup-forgets l (e ∷ rows) foreign = ap (λ ds. joined_row l (forget foreign)
 
 -- ---- differences
 
--- where rows stand at the same positions, none goes
+-- if rows are at the same positions, none is removed
 diff-staying : (old new : Positioned) → IsPositioned old → ((q : PosTree) → is_none (at q new) ≡ is_none (at q old)) → length (diff old new) ≤ length new
 diff-staying old new are same = omega (arith, length-append (gones old new) (puts old new), ap length none, puts-length old new)
   where

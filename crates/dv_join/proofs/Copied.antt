@@ -80,11 +80,11 @@ pub made-itself : (rows : Positioned) → rows ≡ made_of (λ d. d) rows
 made-itself [] = refl
 made-itself (e ∷ rows) = ap (λ es. e ∷ es) (made-itself rows)
 
--- what may be lent of a list: a position and the document there
+-- what may be borrowed from a list: a position and the document there
 abbrev pub Lent : Type 0
 Lent = Option (Bor PosTree × Bor (List Field))
 
--- the document that is lent, or else another one
+-- the borrowed document, or another one if there is none
 abbrev pub document_or : Lent → List Field → List Field
 document_or lent other = unwrap_or (option_map (λ e. e.1.now) lent) other
 

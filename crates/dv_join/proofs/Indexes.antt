@@ -1,4 +1,4 @@
--- Rows under keys: what a change of them makes of an index, and the rows under some of the keys.
+-- Rows under keys: an index after a change of them, and the rows under some of the keys.
 use Rattle.std.specs.Prelude.{◌≡◌, ◌<◌, ◌≤◌, Bool, true, false, ◌&&◌, ◌||◌, not, cond, List, [], ◌∷◌, filter, length, slice_get, Option, Some, None, refl}
 use Rattle.std.proofs.Common.{ap, arith, sym, ◌∙◌}
 use Rattle.std.proofs.lemmas.List.Elements.{filter_agree}
@@ -43,19 +43,19 @@ none-again k m ms sorted same = none-below ms (sorted_head key_order m ms sorted
         let below : key_order k n ≡ Less = key_order_total.congr k m n ((Equal-is (key_order k m)).0 same) ∙ all.0 in
         ap (λ r. is_eq r || is_one_of ns k) below ∙ none-below ns all.1
 
--- what is changed under one key more
+-- a change under one more key
 pub one-key : {A : Type 0} (f : A → A) (old new : A) (here rest : Bool) → new ≡ cond here (f old) old → (here ≡ true → rest ≡ false) → cond rest (f new) new ≡ cond (here || rest) (f old) old
 one-key f old new true rest e never = ap (λ b. cond b (f new) new) (never refl) ∙ e
 one-key f old new false rest e never = ap (λ a. cond rest (f a) a) e
 
--- under some keys something went, and then under others something came
+-- something is removed under some keys, and then something is put under others
 pub exchanged-under : {A : Type 0} (goes comes : A → A) (old between new : A) (had has : Bool) → between ≡ cond (had && not has) (goes old) old → new ≡ cond has (comes between) between → new ≡ cond has (comes old) (cond had (goes old) old)
 exchanged-under goes comes old between new true true went came = came ∙ ap comes went
 exchanged-under goes comes old between new true false went came = came ∙ went
 exchanged-under goes comes old between new false true went came = came ∙ ap comes went
 exchanged-under goes comes old between new false false went came = came ∙ went
 
--- under equal keys stands the same
+-- equal keys have the same rows
 pub under-like : (k l : KeyTree) (index : RowsByKey) → is_eq (key_order k l) ≡ true → under k index ≡ under l index
 under-like k l index same = ap (λ o. unwrap_or o []) (there index.under.entries)
   where
@@ -73,27 +73,27 @@ pub under-gone : {A : Type 0} (b : Bool) (o : Option A) (none : A) → unwrap_or
 under-gone true o none = refl
 under-gone false o none = refl
 
--- nothing stands under a key
+-- there are no rows under a key
 pub none-there : (b : Bool) (old : Positioned) → (b ≡ true → old ≡ []) → old ≡ cond b [] old
 none-there true old e = e refl
 none-there false old e = refl
 
--- what stands under a key goes twice
+-- the rows under a key are removed twice
 pub gone-again : (b : Bool) (old taken new : Positioned) → new ≡ cond b [] taken → taken ≡ cond b [] old → new ≡ cond b [] old
 gone-again true old taken new again once = again
 gone-again false old taken new again once = again ∙ once
 
--- what stands under a key was taken out, and nothing is left of it
+-- the rows under a key were taken out, and none are left
 pub set-none : (f : Positioned → Positioned) (b : Bool) (old own taken : Positioned) → (b ≡ true → old ≡ own) → taken ≡ cond b [] old → f own ≡ [] → taken ≡ cond b (f old) old
 set-none f true old own taken like e none = e ∙ sym none ∙ sym (ap f (like refl))
 set-none f false old own taken like e none = e
 
--- something is left of it
+-- some are left
 pub set-some : (f : Positioned → Positioned) (b : Bool) (old own taken new : Positioned) → (b ≡ true → old ≡ own) → taken ≡ cond b [] old → new ≡ cond b (f own) taken → new ≡ cond b (f old) old
 set-some f true old own taken new like e put = put ∙ sym (ap f (like refl))
 set-some f false old own taken new like e put = put ∙ e
 
--- a tree that is built of entries in their order has the same under each key
+-- a tree that is built from entries in ascending order has the same rows under each key
 pub under-packed : (old new : RowsByKey) → IsStrictlySortedBy key_order (keys_of old.under.entries) → IsFromIterResult key_order old.under.entries new.under → (k : KeyTree) → under k new ≡ under k old
 under-packed old new sorted made k =
     ap (λ o. unwrap_or o []) (made.0 k ∙ update_all_none (eq_by_cmp_equiv key_order_total) (eq_by_cmp key_order) (λ x y. refl) old.under.entries k (IsDistinct-from_sorted key_order (keys_of old.under.entries) sorted))

@@ -1,5 +1,5 @@
--- What a look-up owes for a change: of its rows, what it makes of the changed row; of the list that it looks into, what it makes of
--- the rows that the change touches.
+-- What a look-up has to return for a change. For a change of its rows: the changes of the joined row for the changed row. For a
+-- change of the list that it reads: the changes of the joined rows for the rows that the change touches.
 use Rattle.std.specs.Prelude.{◌≡◌, ℕ, zero, suc, Bool, true, false, ◌||◌, cond, List, [], ◌∷◌, filter, Option, None, Some, refl}
 use Rattle.std.proofs.Common.{ap, arith, sym, ◌∙◌, ◌⊎◌, inl, inr}
 use Rattle.std.proofs.lemmas.Map.Entries.{option_filter}
@@ -31,7 +31,7 @@ use Rattle.dv_join.proofs.Indexes.{is_one_of}
 use Rattle.dv_join.proofs.Rows.{at-passing, passing-same}
 use Rattle.dv_join.proofs.Sharing.{not-joined, or-left, or-right, same-joined}
 
--- ---- the list that it looks into
+-- ---- the list that it reads
 
 -- the one list that there is
 module _ (change : Change) (left : Positioned) where
@@ -85,13 +85,13 @@ module _ (l : Lookup) (rows foreign : Positioned) (change : Change) (are : IsPos
       (looked_up_ordered l foreign rows are) (looked_up_ordered l foreign (with_change rows change) now) (looked_up_ordered l foreign (alone p (at p rows)) (positioned-alone p (at p rows) place)) (looked_up_ordered l foreign (alone p (row_in change)) (positioned-alone p (row_in change) place))
       (λ q x. left-part q (is_eq (pos_order q p)) refl)
 
--- ---- a change of the list that it looks into
+-- ---- a change of the list that it reads
 
--- where a row isn't touched, it is joined neither with the document that went nor with the one that came
+-- a row that isn't touched is joined neither with the old document nor with the new one
 abbrev pub AreTouched : Lookup → (List Field → Bool) → Option (List Field) → Option (List Field) → Type 0
 AreTouched l test old new = (d : List Field) → test d ≡ false → (if_any (is_joined l.local l.foreign d) old ≡ false) × (if_any (is_joined l.local l.foreign d) new ≡ false)
 
--- those rows are touched that have a key of either
+-- the rows that have a key of either document are touched
 pub touched-by : (l : Lookup) (old new : Option (List Field)) (keys old_keys new_keys : List KeyTree) → ((k : KeyTree) → is_one_of keys k ≡ is_one_of old_keys k || is_one_of new_keys k)
     → ((k : KeyTree) → is_one_of old_keys k ≡ if_any (has_foreign l k) old) → ((k : KeyTree) → is_one_of new_keys k ≡ if_any (has_foreign l k) new) → AreTouched l (has_any (has_local l) keys) old new
 touched-by l old new keys old_keys new_keys all old-own new-own = λ d other.

@@ -28,18 +28,18 @@ forget-filter test (e ∷ es) = by (test e.1) (forget-filter test es)
     by true rest = ap (λ ds. e.1 ∷ ds) rest
     by false rest = rest
 
--- what stands at a position among the rows that pass
+-- the row at a position among the rows that pass
 pub at-passing : (test : List Field → Bool) (q : PosTree) (es : Positioned) → IsPositioned es → at q (filter (λ e. test e.1) es) ≡ option_filter test (at q es)
 at-passing test q es are = at-filter (λ e. test e.1) q test (λ p v e. refl) es are
 
--- nothing passes where nothing can
+-- no row passes a test that is always false
 pub none-passing : (es : Positioned) → [] ≡ filter (λ e. false) es
 none-passing [] = refl
 none-passing (e ∷ es) = none-passing es
 
 -- ---- rows put among others
 
--- where there is a first one, the others stand behind it
+-- if there is a first one, the others follow it
 pub first-of : {V : Type 0} (es : List (PosTree × V)) (e : PosTree × V) → slice_get es 0 ≡ Some e → es ≡ e ∷ drop 1 es
 first-of [] e is = absurd cc
 first-of (x ∷ es) e is = let same : x ≡ e = cc in ap (λ y. y ∷ es) same
@@ -67,7 +67,7 @@ or-nothing : {A : Type 0} (a : Option A) → or_else a None ≡ a
 or-nothing None = refl
 or-nothing (Some v) = refl
 
--- rows put one after the other among none are these rows
+-- rows put one after the other into an empty list are these rows
 pub with_all-none : (es : Positioned) → IsPositioned es → with_each_row [] es ≡ es
 with_all-none es are = same_rows (with_each_row [] es) es (positioned-with_all [] es positioned-none are.exact) are (λ q exact. at-with_all q [] es are ∙ or-nothing (at q es))
 
@@ -126,7 +126,7 @@ module _ (test : List Field → Bool) where
   same-both true a = refl
   same-both false a = refl
 
-  -- what passed went
+  -- an old row that passed is removed
   none-left : (old : Option (List Field)) → cond (if_any test old) None (option_filter test old) ≡ None
   none-left None = refl
   none-left (Some d) = by (test d)
@@ -160,7 +160,7 @@ module _ (test : List Field → Bool) where
       ∙ exchanged (is_eq (pos_order q p)) row old (at q rows) (λ beside. at-like q p ((Equal-is (pos_order q p)).0 beside) rows)
       ∙ sym (at-moved q p (if_any test old) row (if_any test row) some some-are ∙ ap (λ a. cond (if_any test row) (cond (is_eq (pos_order q p)) row a) (cond (if_any test old) (cond (is_eq (pos_order q p)) None a) a)) (at-passing test q rows are)))
 
-  -- where neither what went nor what came passes, the same rows pass
+  -- if neither the old row nor the new one passes, the same rows pass
   pub passing-same : (rows : Positioned) (change : Change) → IsPositioned rows → IsExactChange change → if_any test (at (position_changed change) rows) ≡ false → if_any test (row_in change) ≡ false
       → filter (λ e. test e.1) (with_change rows change) ≡ filter (λ e. test e.1) rows
   passing-same rows change are exact went came =

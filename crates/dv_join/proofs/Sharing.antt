@@ -46,7 +46,7 @@ passing {X = X} p (x ∷ xs) e = by (p x) refl (passing p xs)
         let there : Passing p xs = rest (ap (λ b. b || list_any p xs) (sym is) ∙ e) in
         record { one = there.one; passes = there.passes; among = λ q h. or-right (q x) (list_any q xs) (there.among q h) }
 
--- a key of a value is one of others exactly where it is equal to one of them
+-- the key of a value is a key of other values exactly if the value is equal to one of them
 keys-as-values : (v : Tree) (ws : List Tree) → is_some_key (value (canon v)) ws ≡ is_equal_to_one ws v
 keys-as-values v ws = any-same (is_key_of (value (canon v))) (λ w. is_eq (order v w)) (λ w. ap is_eq (order_of_canon v w)) ws
 
@@ -66,7 +66,7 @@ shared vs ws e =
       there = keys-as-values v.one ws ∙ v.passes;
     }
 
--- of the keys of the one side some is a key of the other
+-- some key of one side is a key of the other
 by-keys : (keys : List KeyTree) (vs ws : List Tree) → ((k : KeyTree) → is_some_key k vs ≡ true → is_one_of keys k ≡ true) → Shared vs ws → list_any (λ m. is_some_key m ws) keys ≡ true
 by-keys keys vs ws own s =
     let m : Passing (λ m. is_eq (key_order s.key m)) keys = passing (λ m. is_eq (key_order s.key m)) keys (own s.key s.here) in
@@ -84,7 +84,7 @@ module _ (l : Lookup) (d f : List Field) (keys : List KeyTree) where
       let s : Shared vs ws = shared vs ws joined in
       by-keys keys ws vs own (record { key = s.key; here = s.there; there = s.here })
 
-  -- where the keys are those of the row, it has one of the document's exactly where the two are joined
+  -- if the keys are those of the row, the document has one of them exactly if the two are joined
   pub found-by-local : ((k : KeyTree) → is_one_of keys k ≡ has_local l k d) → has_any (has_foreign l) keys f ≡ is_joined l.local l.foreign d f
   found-by-local own = same-truth (has_any (has_foreign l) keys f) (is_joined l.local l.foreign d f) there (λ joined. by-keys keys vs ws (λ k here. own k ∙ here) (shared vs ws joined))
     where
@@ -94,7 +94,7 @@ module _ (l : Lookup) (d f : List Field) (keys : List KeyTree) where
           let v : Passing (is_key_of m.one) vs = passing (is_key_of m.one) vs (sym (own m.one) ∙ m.among (λ n. is_eq (key_order m.one n)) ((eq_by_cmp_equiv key_order_total).refl m.one)) in
           v.among (is_equal_to_one ws) (sym (keys-as-values v.one ws) ∙ sym (alike m.one (value (canon v.one)) ws v.passes) ∙ m.passes)
 
--- without a key of a document a row isn't joined with it
+-- a row that has no key of a document isn't joined with it
 pub not-joined : (l : Lookup) (d : List Field) (document : Option (List Field)) (keys : List KeyTree) → ((k : KeyTree) → if_any (has_foreign l k) document ≡ true → is_one_of keys k ≡ true) → has_any (has_local l) keys d ≡ false → if_any (is_joined l.local l.foreign d) document ≡ false
 not-joined l d None keys own none = refl
 not-joined l d (Some f) keys own none = by (is_joined l.local l.foreign d f) refl
@@ -103,7 +103,7 @@ not-joined l d (Some f) keys own none = by (is_joined l.local l.foreign d f) ref
     by false e = refl
     by true e = absurd (let same : false ≡ true = sym none ∙ found-by-foreign l d f keys e own in cc)
 
--- rows are the same that are joined with the same documents
+-- joined rows are the same if they are joined with the same documents
 pub same-joined : (l : Lookup) (d : List Field) (some others : Positioned) → filter (λ e. is_joined l.local l.foreign d e.1) some ≡ filter (λ e. is_joined l.local l.foreign d e.1) others → joined_row l (forget some) d ≡ joined_row l (forget others) d
 same-joined l d some others same =
     let test = is_joined l.local l.foreign d in

@@ -1,4 +1,4 @@
--- What a change of its rows leaves a look-up with, and makes it hand on and count.
+-- What a look-up holds after a change of its rows, and what it returns and counts for it.
 use Rattle.std.specs.Prelude.{◌≡◌, List, length}
 use Rattle.std.proofs.Common.{ap, subst, sym, ◌∙◌}
 use Rattle.std.specs.BTreeSet.{BTreeSet}
@@ -21,7 +21,7 @@ use Rattle.dv_join.specs.Inner.Turning.{AreLocalKeys, HoldsJoin}
 use Rattle.dv_join.specs.Placed.{looked_up_at}
 use Rattle.dv_join.specs.Turning.{first_input}
 
--- what an operator with this look-up makes
+-- the rows that an operator with this look-up returns
 abbrev pub makes-by : Lookup → List Positioned → Positioned → Positioned
 makes-by l others rows = looked_up_at l rows (first_input others)
 
@@ -32,14 +32,14 @@ module _ (o : LookupOperator) (input : Input) (taken : Taken) (is : input ≡ Le
   told : taken ≡ with_old left change
   told = comes.told ∙ ap (λ i. with_old (input_rows i others left) change) is
 
-  -- where the rows that it has made are kept, what it made of the row that went stands there
+  -- if the rows that it has returned are kept, the joined row for the old row is at its position
   pub left-kept : (made : Positioned) → made ≡ makes others left → alone taken.pos (at taken.pos made) ≡ looked_up_at o.lookup (alone taken.pos taken.old) (first_input others)
   left-kept made kept = looked_up_alone o.lookup (first_input others) made taken.pos taken.old left kept (ap (λ (t : Taken). at t.pos left) told ∙ sym (ap (λ (t : Taken). t.old) told))
 
   pub left-held : (keys : BTreeSet KeyTree) (then : LookupOperator) → HoldsAfterRow taken keys o then → AreLocalKeys o.lookup taken.old keys → HoldsJoin then (others_after input change others) (left_after input change left)
   left-held keys then holds own = subst (λ (i : Input). HoldsJoin then (others_after i change others) (left_after i change left)) (sym is) (holds others left change held comes.exact told own)
 
-  -- where these are what it made of the row that went
+  -- if these are the joined rows for the old row
   module _ (before after : Positioned) (tells : TellsAfterRow o taken after) (made : before ≡ looked_up_at o.lookup (alone taken.pos taken.old) (first_input others)) where
     pub left-out : diff_told before after ≡ told_along (makes others left) (owed_by input change makes others left)
     left-out = tells before others left change held comes.exact told made ∙ sym (ap (λ i. told_along (makes others left) (owed_by i change makes others left)) is)

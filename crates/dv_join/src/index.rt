@@ -35,8 +35,8 @@ impl RowsByKey {
         }
     }
 
-    /// Takes out the row at the position, which has the first keys, and puts another one there, which has the second. Under a key
-    /// that both have, the one comes in place of the other. Fails when memory runs out.
+    /// Takes out the row at the position, which has the keys `old_keys`, and puts `row` there, which has the keys `new_keys`. Under
+    /// a key that both have, the new row replaces the old one. Fails when memory runs out.
     pub(crate) fn exchange(
         &mut self,
         pos: &Pos,
@@ -65,7 +65,7 @@ impl RowsByKey {
         Ok(())
     }
 
-    /// Sets the row at the position under each of the keys, or takes out what stands there.
+    /// Sets the row at the position under each of the keys, or removes the row that is there.
     fn set(
         &mut self,
         keys: BTreeSet<Key>,
@@ -80,7 +80,7 @@ impl RowsByKey {
         Ok(())
     }
 
-    /// Sets the row at the position under the key, or takes out what stands there.
+    /// Sets the row at the position under the key, or removes the row that is there.
     fn set_under(&mut self, key: Key, pos: &Pos, row: &Option<Document>) -> Result<(), NoMemory>
         ensures { OnOk result ((k : KeyTree) → under k self.new ≡ cond (is_eq (key_order k key)) (row_set pos.now row.now (under k self.old)) (under k self.old)) }
     {
@@ -106,8 +106,8 @@ impl RowsByKey {
         }
     }
 
-    /// Stores the rows in as few nodes of a tree as hold them: keys that came in ascending order left each node half empty. Fails
-    /// when memory runs out.
+    /// Stores the rows in as few nodes of a tree as can hold them: keys that were inserted in ascending order left each node half
+    /// empty. Fails when memory runs out.
     pub(crate) fn pack(&mut self) -> Result<(), NoMemory>
         ensures { OnOk result ((k : KeyTree) → under k self.new ≡ under k self.old) }
     {
@@ -152,7 +152,7 @@ impl RowsByKey {
     }
 }
 
-/// The rows by keys in a tree that is built of all of them at once. Fails when memory runs out.
+/// The rows by keys, in a tree that is built from all of them at once. Fails when memory runs out.
 fn built_anew(
     alloc: Global,
     under: BTreeMap<Key, Ordered<Document>>,

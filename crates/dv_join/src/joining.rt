@@ -15,9 +15,9 @@ use dv_value::{Document, List, NoMemory, Value};
 use std::alloc::Global;
 use std::collections::BTreeSet;
 
-/// Each of the rows with the documents that it is joined with, which are found in the index. Copied are these rows, or what was
-/// made of them before: the two differ by their arrays. A row that was made before may lend its names. Fails when memory runs
-/// out.
+/// Each of the rows with the documents that it is joined with, which are found in the index: a copy of the row in `copied`, which
+/// has the same rows, or their joined rows from before, which differ only by their arrays. It may share names with `last`, a row
+/// that was returned before. Fails when memory runs out.
 pub(crate) fn joined_rows(
     alloc: Global,
     lookup: &Lookup,
@@ -42,7 +42,7 @@ pub(crate) fn joined_rows(
     Ok(joined)
 }
 
-/// The document at a position, or else another one.
+/// The document at a position, or another one if there is none.
 fn document_or<'a>(there: Option<(&Pos, &'a Document)>, other: &'a Document) -> &'a Document
     ensures { result.now ≡ unwrap_or (option_map (λ e. e.1.now) there.entry) other.now }
 {
@@ -70,8 +70,8 @@ fn with_joined(
     joined.with(pos.try_clone()?, made)
 }
 
-/// The copied row with the documents that a row with these keys is joined with, which are found in the index. A row that was made
-/// before may lend its names.
+/// A copy of the row `copied` with the documents that a row with these keys is joined with, which are found in the index. It may
+/// share names with `last`, a row that was returned before.
 pub(crate) fn joined_row(
     alloc: Global,
     lookup: &Lookup,
@@ -101,7 +101,7 @@ pub(crate) fn values_of(alloc: Global, rows: &Ordered<Document>) -> Result<List,
     Ok(List::of(values))
 }
 
-/// Rows with others, each of which comes in the place of one that stands at its position.
+/// Rows with others, each of which replaces the row at its position, if there is one.
 pub(crate) fn with_all(
     rows: Ordered<Document>,
     others: &Ordered<Document>,

@@ -1,4 +1,4 @@
-//! `$lookup`, kept by changes.
+//! `$lookup`, updated by changes.
 
 ghost use Rattle.std.specs.Prelude.{◌≡◌, ◌∷◌, [], refl, IfOk};
 ghost use Rattle.dv_join.specs.Inner.Placed.{looked_up_even, looked_up_ordered};
@@ -12,8 +12,8 @@ use dv_value::NoMemory;
 use std::alloc::Global;
 use std::collections::BTreeMap;
 
-/// Rows with the documents of another list that they are joined with, kept by changes of both. For a change of a row it looks only
-/// at that row, and for a change of a document at the rows that share a key with it.
+/// Rows with the documents of another list that they are joined with, updated by changes of both. Of the rows, it reads only the
+/// changed one, or those that share a key with a changed document.
 #[derive(Drop)]
 pub struct LookupTurn {
     keeping: Keeping<LookupOperator>,

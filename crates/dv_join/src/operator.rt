@@ -1,4 +1,4 @@
-//! `$lookup`, told what stood where a change is.
+//! The operator for `$lookup`.
 
 ghost use Rattle.std.specs.Prelude.{◌≡◌, ◌∷◌, [], refl, IfOk, OnOk};
 ghost use Rattle.std.specs.BTreeSet.{contains};
@@ -19,8 +19,8 @@ use dv_value::{Document, NoMemory};
 use std::alloc::Global;
 use std::collections::{BTreeMap, BTreeSet};
 
-/// Rows with the documents of another list that they are joined with, kept by changes of both that tell what stood there. For a
-/// change of a row it looks only at that row, and for a change of a document at the rows that share a key with it.
+/// Rows with the documents of another list that they are joined with, updated by changes of both that come with what was there. Of
+/// the rows, it reads only the changed one, or those that share a key with a changed document.
 #[derive(Drop)]
 pub struct LookupOperator {
     alloc: Global,
@@ -29,7 +29,7 @@ pub struct LookupOperator {
     left_by: RowsByKey,
     /// The documents by the keys under which they are found.
     foreign_by: RowsByKey,
-    /// A row that it made, which lends its names.
+    /// A row that it returned, with which later rows share names.
     last: Option<Document>,
 }
 
@@ -48,8 +48,8 @@ impl LookupOperator {
         })
     }
 
-    /// Takes in a change of its rows, where the row that stood at its place has these keys. Gives what it makes of the one that
-    /// stands there now.
+    /// Takes in a change of its rows; the row that was at its position has these keys. Returns the joined row for the row that is
+    /// there now, if there is one.
     fn take_left(
         &mut self,
         taken: &Taken,
@@ -67,8 +67,8 @@ impl LookupOperator {
         Ok(after)
     }
 
-    /// Takes in a change of the list that it looks into. Gives what it made of the rows that share a key with the document that
-    /// stood at its place or with the one that stands there now, and what it makes of them now.
+    /// Takes in a change of the list that it reads. Returns the joined rows before the change, and those after it, for the rows
+    /// that share a key with the document that was at its position or with the one that is there now.
     fn take_foreign(
         &mut self,
         taken: &Taken,
@@ -87,7 +87,8 @@ impl LookupOperator {
         Ok((before, after))
     }
 
-    /// Each of the rows with the documents that it is joined with. Copied are these rows, or what was made of them before.
+    /// Each of the rows with the documents that it is joined with: a copy of the row in `copied`, which has the same rows, or their
+    /// joined rows from before.
     fn joined(
         &self,
         rows: &Ordered<Document>,
@@ -106,7 +107,7 @@ impl LookupOperator {
         )
     }
 
-    /// The row at the position with the documents that it is joined with, where there is one. It has these keys.
+    /// The row at the position with the documents that it is joined with, if there is one. It has these keys.
     fn joined_alone(
         &self,
         pos: &Pos,
@@ -124,7 +125,7 @@ impl LookupOperator {
         none.with(pos.try_clone()?, joined)
     }
 
-    /// The keys by which the row is looked up, where there is one.
+    /// The keys by which the row is looked up, if there is one.
     fn local_keys(&self, row: &Option<Document>) -> Result<BTreeSet<Key>, NoMemory>
         ensures { IfOk result (λ keys. AreLocalKeys self.now.lookup row.now keys) }
     {
@@ -134,7 +135,7 @@ impl LookupOperator {
         }
     }
 
-    /// The keys under which the document is found, where there is one.
+    /// The keys under which the document is found, if there is one.
     fn foreign_keys(&self, document: &Option<Document>) -> Result<BTreeSet<Key>, NoMemory>
         ensures { IfOk result (λ keys. (k : KeyTree) → contains key_order keys k ≡ if_any (has_foreign self.now.lookup k) document.now) }
     {
@@ -145,7 +146,7 @@ impl LookupOperator {
     }
 }
 
-/// The first of the rows, so that it lends its names; or, where there is none, what lent them before.
+/// The row with which later rows share names: the first of these, or if there is none, the one from before.
 fn lender(rows: &Ordered<Document>, last: Option<Document>) -> Result<Option<Document>, NoMemory> {
     match rows.first() {
         Some((_, row)) => Ok(Some(row.try_clone()?)),
@@ -212,7 +213,7 @@ impl Operator for LookupOperator {
         }
     }
 
-    /// Its two sides stand in trees that are built of all their keys.
+    /// Stores its two sides in trees that are built from all their keys at once.
     fn pack(&mut self) -> Result<(), NoMemory> {
         self.left_by.pack()?;
         self.foreign_by.pack()

@@ -23,7 +23,7 @@ turned Greater = refl
 pub before-end : (k bar : KeyTree) → is_lt (key_order k bar) ≡ true → not (is_le (key_order bar k)) ≡ true
 before-end k bar e = turned (key_order bar k) ∙ sym (ap is_lt (key_order_total.antisymm k bar)) ∙ e
 
--- ---- documents that are ahead are sorted before the bar's key, or by it
+-- ---- documents before the bar are sorted before its key, or by it
 pub by-bar : (P : Type 0) (direction : Direction) (bar : Bar) (k i : KeyTree) → stands_ahead direction bar k i ≡ true → (stands_first direction k bar.key.now ≡ true → P) → (is_eq (key_order k bar.key.now) ≡ true → is_until i bar.until ≡ true → P) → P
 by-bar P direction bar k i e before tied = at (stands_first direction k bar.key.now) (is_eq (key_order k bar.key.now)) e before tied
   where
@@ -31,5 +31,3 @@ by-bar P direction bar k i e before tied = at (stands_first direction k bar.key.
     at true b f first later = first refl
     at false true f first later = later refl f
     at false false f first later = absurd cc
-
--- ---- pairs of equal keys

@@ -1,4 +1,4 @@
--- Ends that come closer together, and those between which no key stands.
+-- Ends that are moved closer together, and ends between which no key is.
 use Rattle.std.proofs.Common.{◌≡◌, ◌∙◌, ◌⊎◌, inl, inr, map, ℕ, ◌+◌, ◌<◌, get_or, length, List, ◌∷◌, drop, refl, ap, sym, Bool, true, false, not, ◌&&◌}
 use Rattle.std.specs.BTreeMap.Range.{is_from_start, is_past_end, range_contains}
 use Rattle.std.specs.Ordering.{is_gt, is_lt, is_le, ordering_reverse}
@@ -30,7 +30,7 @@ module _ (low high next-low next-high other-low other-high : Bound KeyTree) (k :
       let is = and_parts (is_from_start key_order other-low k) (not (is_past_end key_order other-high k)) f in
       λ j. raised was.0 is.0 j && not (lowered (not-so (is_past_end key_order high k) was.1) (not-so (is_past_end key_order other-high k) is.1) j)
 
--- ---- no key between ends that stand the wrong way round
+-- ---- no key between ends in the wrong order
 gt-turned : (o : Ordering) → is_gt (ordering_reverse o) ≡ is_lt o
 gt-turned Less = refl
 gt-turned Equal = refl
@@ -80,7 +80,7 @@ none-inside low high a b k start end wrong =
     let less = key_order_total.trans a k b (is-less (key_order a k) (ap (λ x. is_from_start key_order x k) (sym start) ∙ from)) (turned-less (key_order k b) (ap is_le (sym (key_order_total.antisymm b k)) ∙ ap (λ x. is_past_end key_order x k) (sym end) ∙ upto)) in
     let so : true ≡ false = sym (ap is_lt less) ∙ wrong in absurd cc)
 
--- ---- what all parts of a list pass, its next one passes, and so do those behind it
+-- ---- if all parts of a list pass, the next one passes, and so does the rest
 module _ {X : Type 0} (all : List X → Bool) (one : X → Bool) (more : (x : X) (xs : List X) → all (x ∷ xs) ≡ one x && all xs) (xs : List X) (i : ℕ) where
   pub next-passes : (x : X) → i < length xs → x ≡ get_or xs i x → all (drop i xs) ≡ true → (one x ≡ true) × (all (drop (i + 1) xs) ≡ true)
   next-passes x within is e =

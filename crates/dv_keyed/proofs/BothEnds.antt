@@ -1,4 +1,4 @@
--- Two ranges whose values are of one class, and the ends between which the keys stand that are in both.
+-- Two ranges whose values are of one class, and the ends that enclose exactly the keys in both.
 use Rattle.std.proofs.Common.{◌≡◌, ◌∙◌, ◌<◌, ◌==◌, ◌&&◌, refl, ap, sym, Bool, false, not, arith}
 use Rattle.std.proofs.lemmas.Cmp.{ranked}
 use Rattle.std.specs.Cmp.{nat_cmp_is}

@@ -1,4 +1,4 @@
--- The first condition in a filter, where a loop has come to one of its parts.
+-- The first condition in a filter, when a loop has reached one of its parts.
 use Rattle.std.proofs.Common.{◌≡◌, ◌∙◌, ℕ, suc, ◌+◌, ◌<◌, ◌≤◌, get_or, length, List, [], ◌∷◌, map, drop, drop_of_length-le, refl, ap, sym, Bool, Option, Some, None, add-one}
 use Rattle.std.proofs.Math.Seq.{drop-cons}
 use Rattle.std.specs.Option.{option_map, option_or}

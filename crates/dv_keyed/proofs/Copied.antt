@@ -1,4 +1,4 @@
--- What is put behind all others, as sets and maps are copied in their order.
+-- What is put after all others, when sets and maps are copied in their order.
 use Rattle.std.proofs.Common.{◌≡◌, ◌∙◌, List, [], ◌∷◌, ◌++◌, append_assoc, refl, ap, subst, sym}
 use Rattle.std.proofs.lemmas.Map.Keys.{sorted_head, sorted_tail}
 use Rattle.std.specs.BTreeMap.{insert_entry}
@@ -12,7 +12,7 @@ use Rattle.dv_order.specs.Key.{KeyTree, key_order}
 use Rattle.dv_order.specs.Inner.KeyLaws.{key_order_total}
 use Rattle.dv_keyed.proofs.Entries.{Entry}
 
--- a key that stands behind another one
+-- a key that comes after another one
 behind : (k l : KeyTree) → key_order l k ≡ Less → key_order k l ≡ Greater
 behind k l before = key_order_total.antisymm k l ∙ ap ordering_reverse before
 

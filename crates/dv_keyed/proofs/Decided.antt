@@ -1,4 +1,4 @@
--- A filter that is one condition, or a range with two ends, as it is held: lists of one part or two.
+-- A filter that is one condition, or a range with two ends, as it is in memory: a list of one part or two.
 use Rattle.std.proofs.Common.{◌≡◌, ◌∙◌, ◌<◌, ◌≤◌, arith, length, get_or, List, [], ◌∷◌, map, ap, refl, subst, true, false, ℕ, Option, Some, None}
 use Rattle.std.specs.Option.{IfSome}
 use Rattle.dv_match.specs.declared.form.Member as memory
@@ -42,7 +42,7 @@ module _ (ms : List memory.Member) (all : Members) (seen : members_of (map membe
       at (n ∷ []) more = absurd (omega (arith, more))
       at (n ∷ o ∷ ns) more = refl
 
--- ---- what is said of what was found, where something was
+-- ---- a weaker statement about what was found, if anything was
 pub found-weaker : {X : Type 0} (P Q : X → Type 0) (o : Option X) → ((x : X) → P x → Q x) → IfSome o P → IfSome o Q
 found-weaker P Q None more h = tt
 found-weaker P Q (Some x) more h = more x h

@@ -1,4 +1,4 @@
--- The pairs of keys, each with its `_id`s, where one key's change.
+-- The pairs of keys, each with its `_id`s, when those of one key change.
 use Rattle.std.proofs.Common.{◌≡◌, ◌∙◌, List, [], ◌∷◌, map, refl, ap, sym, Bool, true, false, cond, not, ◌||◌, ◌&&◌, Option, Some, None}
 use Rattle.std.specs.List.{list_any, AllByRecursion}
 use Rattle.std.specs.List.Sorted.{IsStrictlySortedBy}
@@ -43,7 +43,7 @@ same-later : (k l : KeyTree) (ks : List KeyTree) → key_order k l ≡ Equal →
 same-later k l [] e h = tt
 same-later k l (m ∷ ks) e h = (key_order_total.congr k l m e ∙ h.0, same-later k l ks e h.1)
 
--- some `_id` under a key passes a test where one of those does that are found under the key
+-- some `_id` under a key passes a test exactly if one of those found under the key does
 pub some-found : (k : KeyTree) (test : KeyTree → Bool) (es : List Entry) → IsStrictlySortedBy key_order (keys_of es) → some-at k test (pairs_of es) ≡ some-in test (lookup (is_at (key_order k)) es)
 some-found k test [] h = refl
 some-found k test (e ∷ es) h = at-entry k test e es ∙ one (key_order k e.0) refl (some-found k test es (sorted_tail key_order e.0 (keys_of es) h))
@@ -54,7 +54,7 @@ some-found k test (e ∷ es) h = at-entry k test e es ∙ one (key_order k e.0) 
     one Equal f later =
         ap (λ b. list_any test e.1 || b) (none-later k test es (same-later k e.0 (keys_of es) f (sorted_head key_order e.0 (keys_of es) h))) ∙ or-false (list_any test e.1)
 
--- an index has the pair of a key and an `_id` where the `_id` is among those that are found under the key
+-- an index has the pair of a key and an `_id` exactly if the `_id` is among those found under the key
 pub pair-found : (k i : KeyTree) (es : List Entry) → IsStrictlySortedBy key_order (keys_of es) → has_pair k i (pairs_of es) ≡ has_in i (lookup (is_at (key_order k)) es)
 pair-found k i es h = some-found k (λ id. is_eq (key_order i id)) es h ∙ by (lookup (is_at (key_order k)) es)
   where
@@ -62,7 +62,7 @@ pair-found k i es h = some-found k (λ id. is_eq (key_order i id)) es h ∙ by (
     by None = refl
     by (Some ids) = refl
 
--- another `_id` under a key, in a pair that isn't gone, is one of those that are found under the key, and not among those that are gone
+-- another `_id` under a key, in a pair that is not in `gone`, is found under the key, and is not found there in `gone`
 pub another-found : (k id : KeyTree) (gone es : List Entry) → IsStrictlySortedBy key_order (keys_of gone) → IsStrictlySortedBy key_order (keys_of es) → has_another_at k id (pairs_of gone) (pairs_of es) ≡ some-in (is_another id (lookup (is_at (key_order k)) gone)) (lookup (is_at (key_order k)) es)
 another-found k id gone es sorted h =
     ap (λ t. some-at k t (pairs_of es)) (λ j i. not (is_eq (key_order id i)) && not (pair-found k i gone sorted j)) ∙ some-found k (is_another id (lookup (is_at (key_order k)) gone)) es h
@@ -96,7 +96,7 @@ module _ (m n : BTreeMap KeyTree (List KeyTree)) (key : KeyTree) (k i : KeyTree)
       by true e = changed (Some w) is true e ∙ more ∙ ap (λ c. c || is_eq (key_order i id)) (sym (under e))
       by false e = changed (Some w) is false e ∙ sym (or-false (has_pair k i (pairs_of m.entries)))
 
-  -- what stands under the key is written again
+  -- the `_id`s under the key are written again
   pub pair-written : (old w : List KeyTree) → Some old ≡ get key_order m key → WritesThrough key_order (key_order key) m w n → (id : KeyTree) → has_key i w ≡ has_key i old || is_eq (key_order i id) → has_pair k i (pairs_of n.entries) ≡ has_pair k i (pairs_of m.entries) || (is_eq (key_order k key) && is_eq (key_order i id))
   pair-written old w there writes id more = pair-added id w (writes.3 (rw (← there) refl)).0 (more ∙ ap (λ o. has_in i o || is_eq (key_order i id)) there)
 
@@ -110,7 +110,7 @@ module _ (m n : BTreeMap KeyTree (List KeyTree)) (key : KeyTree) (k i : KeyTree)
       by true e = changed (Some w) is true e ∙ same ∙ ap (has_in i) there ∙ sym (under e)
       by false e = changed (Some w) is false e
 
-  -- an `_id` is taken out under the key, or is not there
+  -- an `_id` is removed under the key, or is not there
   pub pair-taken : (id : KeyTree) (w : Option (List KeyTree)) → ((q : KeyTree) → get key_order n q ≡ cond (is_at (key_order key) q) w (get key_order m q)) → has_in i w ≡ has_in i (get key_order m key) && not (is_eq (key_order i id))
       → has_pair k i (pairs_of n.entries) ≡ has_pair k i (pairs_of m.entries) && not (is_eq (key_order k key) && is_eq (key_order i id))
   pair-taken id w is less = by (is_eq (key_order k key)) refl
@@ -134,11 +134,11 @@ module _ (m n : BTreeMap KeyTree (List KeyTree)) (key : KeyTree) (k i : KeyTree)
       by true e = let gone = under e ∙ ap (has_in i) (sym none) in gone ∙ ap (λ c. c && not (is_eq (key_order i id))) (sym gone)
       by false e = and-true (has_pair k i (pairs_of m.entries))
 
-  -- an `_id` fewer is written under the key
+  -- the `_id`s under the key are written again, one fewer
   pub pair-thinned : (old w : List KeyTree) → Some old ≡ get key_order m key → WritesThrough key_order (key_order key) m w n → (id : KeyTree) → has_key i w ≡ has_key i old && not (is_eq (key_order i id)) → has_pair k i (pairs_of n.entries) ≡ has_pair k i (pairs_of m.entries) && not (is_eq (key_order k key) && is_eq (key_order i id))
   pair-thinned old w there writes id less = pair-taken id (Some w) (writes.3 (rw (← there) refl)).0 (less ∙ ap (λ o. has_in i o && not (is_eq (key_order i id))) there)
 
--- and then the key, where none is left
+-- and then the key is removed, if no `_id` is left
 pub pair-emptied : (m l n : BTreeMap KeyTree (List KeyTree)) (key k i : KeyTree) → IsStrictlySortedBy key_order (keys_of m.entries) → IsStrictlySortedBy key_order (keys_of n.entries) → (old w : List KeyTree) → Some old ≡ get key_order m key → WritesThrough key_order (key_order key) m w l → w ≡ [] → ((q : KeyTree) → get key_order n q ≡ cond (is_at (key_order key) q) None (get key_order l q))
     → (id : KeyTree) → has_key i w ≡ has_key i old && not (is_eq (key_order i id)) → has_pair k i (pairs_of n.entries) ≡ has_pair k i (pairs_of m.entries) && not (is_eq (key_order k key) && is_eq (key_order i id))
 pair-emptied m l n key k i before behind old w there writes empty is id less =

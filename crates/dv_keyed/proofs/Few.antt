@@ -1,4 +1,4 @@
--- Keys in a list, where one comes or goes.
+-- Keys in a list when one is added or removed.
 use Rattle.std.proofs.Common.{◌≡◌, ◌∙◌, List, [], ◌∷◌, ◌++◌, refl, ap, sym, Bool, true, false, cond, not, ◌||◌, ◌&&◌, filter}
 use Rattle.std.specs.BTreeMap.Range.{range_contains}
 use Rattle.std.specs.Ordering.{is_eq, is_lt}
@@ -32,7 +32,7 @@ there-already i id ks there = at (is_eq (key_order i id)) refl
     at true same = let is : has_key i ks ≡ true = same-member i id ks same ∙ there in is ∙ ap (λ b. b || true) (sym is)
     at false other = sym (or-false (has_key i ks))
 
--- one goes
+-- one is removed
 pub dropped : (i id : KeyTree) (ks : List KeyTree) → has_key i (filter (λ l. not (is_eq (key_order id l))) ks) ≡ has_key i ks && not (is_eq (key_order i id))
 dropped i id ks =
     any-filter (λ l. is_eq (key_order i l)) (λ l. not (is_eq (key_order id l))) (not (is_eq (key_order i id)))
@@ -42,7 +42,7 @@ none-left : (a b : Bool) → a ≡ b → false ≡ a && not b
 none-left true b e = ap not e
 none-left false b e = refl
 
--- the only one goes, or stays
+-- the only one is removed, or stays
 pub alone-dropped : (i id first : KeyTree) → is_eq (key_order id first) ≡ true → false ≡ has_key i (first ∷ []) && not (is_eq (key_order i id))
 alone-dropped i id first same = none-left (has_key i (first ∷ [])) (is_eq (key_order i id)) (alone i first ∙ sym (ap is_eq (alike_right key_order_total id first i (equal-from (key_order id first) same))))
 
@@ -53,7 +53,7 @@ alone-stays i id first other = ap (λ b. has_key i (cond b [] (first ∷ []))) (
     kept true = refl
     kept false = refl
 
--- of a set one goes
+-- one is removed from a set
 pub cond-and-not : (b a : Bool) → cond b false a ≡ a && not b
 cond-and-not true true = refl
 cond-and-not true false = refl

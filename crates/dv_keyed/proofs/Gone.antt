@@ -1,4 +1,4 @@
--- Keys, one after the other, that are looked for under another `_id`, in pairs that aren't gone.
+-- Keys that are searched for under another `_id`, one after the other, in pairs that are not in `gone`.
 use Rattle.std.proofs.Common.{◌≡◌, ◌∙◌, List, [], ◌∷◌, refl, ap, sym, Bool, true, false, not, ◌||◌, ◌&&◌}
 use Rattle.std.proofs.Math.Bool.{and-true, and_comm}
 use Rattle.std.specs.List.{list_any}
@@ -22,7 +22,7 @@ any-swap {Y = Y} r (x ∷ xs) ys = ap (λ b. list_any (λ y. r x y) ys || b) (an
     merged [] = refl
     merged (z ∷ zs) = ap (λ b. (r x z || list_any (λ x. r x z) xs) || b) (merged zs) ∙ or-shuffled (r x z) (list_any (λ x. r x z) xs) (list_any (λ y. r x y) zs) (list_any (λ y. list_any (λ x. r x y) xs) zs)
 
--- ---- keys, one after the other, are looked for under another `_id`
+-- ---- keys are searched for under another `_id`, one after the other
 module _ (keys : List KeyTree) (id : KeyTree) (gone ps : List Pair) where
   abbrev other : Pair → Bool
   other p = not (is_eq (key_order id p.1))

@@ -1,4 +1,4 @@
--- Which `_id`s have several keys, where pairs come and go.
+-- Which `_id`s have several keys when pairs are added and removed.
 use Rattle.std.proofs.Common.{◌≡◌, ◌∙◌, ◌≤◌, ◌++◌, arith, length, List, [], ◌∷◌, refl, ap, sym, Bool, true, false, not, ◌||◌, ◌&&◌, Result, Ok, Err, OnOk, OnErr}
 use Rattle.std.specs.Ordering.{is_eq}
 use Rattle.std.proofs.lemmas.Bool.{or_left, or_right, or_parts}
@@ -15,14 +15,14 @@ either-way : {T E P Q G : Type 0} (r : Result T E) → OnOk r P → OnErr r Q �
 either-way (Ok x) p q f g = f p
 either-way (Err e) p q f g = g q
 
--- two keys of a list that has one
+-- two keys of a list that has at most one
 one-of : (k l : KeyTree) (ks : List KeyTree) → length ks ≤ 1 → has_key k ks ≡ true → has_key l ks ≡ true → is_eq (key_order l k) ≡ true
 one-of k l [] few e f = absurd cc
 one-of k l (m ∷ []) few e f =
     ap is_eq (alike_right key_order_total k m l (equal-from (key_order k m) (sym (or-false (is_eq (key_order k m))) ∙ e))) ∙ sym (or-false (is_eq (key_order l m))) ∙ f
 one-of k l (m ∷ n ∷ ks) few e f = absurd (omega arith)
 
--- pairs go, or more `_id`s are noted
+-- pairs are removed, or more `_id`s are noted
 pub noted-still : (several more : List KeyTree) (ps qs : List Pair) → AreNoted several ps → ((i : KeyTree) → has_key i more ≡ false → has_key i several ≡ false) → ((k i : KeyTree) → has_pair k i qs ≡ true → has_pair k i ps ≡ true) → AreNoted more qs
 noted-still several more ps qs h grown kept i out k there l also = h i (grown i out) k (kept k i there) l (kept l i also)
 
@@ -40,7 +40,7 @@ is-added true p none e = absurd cc
 is-added false true none e = refl
 is-added false false none e = e
 
--- the `_id` that gains keys is noted, or this one is all that it has
+-- the `_id` that gains keys is noted, or a single new key is all that it has
 noted-added : (several more ks : List KeyTree) (ps qs : List Pair) (id : KeyTree) (b : Bool) → AreNoted several ps → ((i : KeyTree) → has_key i more ≡ has_key i several || (b && is_eq (key_order i id))) → ((k i : KeyTree) → has_pair k i qs ≡ has_pair k i ps || (has_key k ks && is_eq (key_order i id)))
     → (b ≡ false → (length ks ≤ 1) × ((k : KeyTree) → has_pair k id ps ≡ false)) → AreNoted more qs
 noted-added several more ks ps qs id b h noted added alone i out k there l also = at (is_eq (key_order i id)) b refl refl
@@ -64,18 +64,18 @@ noted-added several more ks ps qs id b h noted added alone i out k there l also 
     at true false e f = one-of k l ks (alone f).0 (new k e ((alone f).1 k) there) (new l e ((alone f).1 l) also)
     at false c e f = h i (or_parts (has_key i several) (b && is_eq (key_order i id)) outside).0 k (old k e there) l (old l e also)
 
--- whether they are added or memory runs out
+-- whether the pairs are added or memory runs out
 pub noted-either : {T E : Type 0} (r : Result T E) (several more ks : List KeyTree) (ps qs : List Pair) (id : KeyTree) (b : Bool) → AreNoted several ps → ((i : KeyTree) → has_key i more ≡ has_key i several || (b && is_eq (key_order i id))) → OnOk r ((k i : KeyTree) → has_pair k i qs ≡ has_pair k i ps || (has_key k ks && is_eq (key_order i id)))
     → OnErr r ((k i : KeyTree) → has_pair k i qs ≡ has_pair k i ps) → (b ≡ false → (length ks ≤ 1) × ((k : KeyTree) → has_pair k id ps ≡ false)) → AreNoted more qs
 noted-either r several more ks ps qs id b h noted ok err alone =
     either-way r ok err (λ added. noted-added several more ks ps qs id b h noted added alone) (λ same. noted-still several more ps qs h (λ i out. (or_parts (has_key i several) (b && is_eq (key_order i id)) (sym (noted i) ∙ out)).0) (λ k i there. sym (same k i) ∙ there))
 
--- an `_id` whose keys are none
+-- an `_id` without keys
 pub none-held : (k : KeyTree) (held : List KeyTree) (b : Bool) → held ≡ [] → (b ≡ true → has_key k held ≡ true) → b ≡ false
 none-held k held true none h = sym (h refl) ∙ ap (has_key k) none
 none-held k held false none h = refl
 
--- an `_id` that has no keys but one needn't be noted
+-- an `_id` that has at most one key needn't be noted
 pub settled : (several less left : List KeyTree) (ps : List Pair) (id : KeyTree) → AreNoted several ps → ((i : KeyTree) → has_key i less ≡ has_key i several && not (is_eq (key_order i id))) → length left ≤ 1 → ((k : KeyTree) → has_pair k id ps ≡ true → has_key k left ≡ true) → AreNoted less ps
 settled several less left ps id h noted few held i out k there l also = at (is_eq (key_order i id)) refl
   where
@@ -83,7 +83,7 @@ settled several less left ps id h noted few held i out k there l also = at (is_e
     at true e = one-of k l left few (held k (sym (same-id k i id ps e) ∙ there)) (held l (sym (same-id l i id ps e) ∙ also))
     at false e = h i (sym (and-true (has_key i several)) ∙ ap (λ s. has_key i several && not s) (sym e) ∙ sym (noted i) ∙ out) k there l also
 
--- a key that is found if it is the only one, or else by the `_id`s that are noted
+-- an `_id` that is found if its key is the only one, or else among those that are noted
 pub found-anyway : (several before : List KeyTree) (ps : List Pair) → AreNoted several ps → (k i : KeyTree) → has_pair k i ps ≡ true → (IsOnlyKey k i ps → has_key i before ≡ true) → has_key i (before ++ several) ≡ true
 found-anyway several before ps h k i there only = list_any-append _ before several ∙ at (has_key i several) refl
   where

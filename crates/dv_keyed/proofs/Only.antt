@@ -1,4 +1,4 @@
--- A key that is the only one of a document that matches a filter is in all bounds that the filter sets.
+-- If a document that matches a filter has only one key, this key is in all bounds that the filter sets.
 use Rattle.std.proofs.Common.{◌≡◌, ◌∙◌, ◌↔◌, ℕ, List, refl, ap, sym, Bool, true, false, cond, ◌&&◌}
 use Rattle.std.proofs.lemmas.Bool.{and_parts}
 use Rattle.std.specs.Ordering.{is_eq}

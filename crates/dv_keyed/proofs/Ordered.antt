@@ -1,4 +1,4 @@
--- Lent keys that are sorted, and of which equal ones stand there once.
+-- References to keys that are sorted, with equal ones only once.
 use Rattle.std.proofs.Common.{Bor, ◌≡◌, ◌∙◌, ◌+◌, ◌<◌, ℕ, length, take, get_or, List, [], ◌∷◌, map, refl, ap, sym, subst, Bool, true, false, cond, ◌||◌}
 use Rattle.std.specs.List.{AllByRecursion, dedup, dedup_from, list_any}
 use Rattle.std.specs.List.Retain.{DiffersFromLast, IsFiltered}
@@ -43,7 +43,7 @@ or-twice : (a b : Bool) → a || b ≡ a || (a || b)
 or-twice true b = refl
 or-twice false b = refl
 
--- of equal ones, one passes a test where any does
+-- of equal keys, the one that is kept passes a test if any does
 any-from : (p : Bor KeyTree → Bool) → ((x y : Bor KeyTree) → lent-equal x y ≡ true → p x ≡ p y) → (k : Bor KeyTree) (xs : List (Bor KeyTree)) → list_any p (dedup_from lent-equal k xs) ≡ p k || list_any p xs
 any-from p alike k [] = refl
 any-from p alike k (x ∷ xs) = at (lent-equal x k) refl (any-from p alike k xs) (any-from p alike x xs)
@@ -56,7 +56,7 @@ any-once : (p : Bor KeyTree → Bool) → ((x y : Bor KeyTree) → lent-equal x 
 any-once p alike [] = refl
 any-once p alike (x ∷ xs) = any-from p alike x xs
 
--- to stand among the keys of values is to be the key of one of them
+-- a key is among the keys of values exactly if it is the key of one of them
 pub among-values : (k : KeyTree) (ids : List (Bor KeyTree)) (keys : List KeyTree) (vs : List Value) (ts : List Tree) → map now ids ≡ keys → keys ≡ map (λ v. value (canon (tree v))) vs → map tree vs ≡ ts → has_key k (map now ids) ≡ is_some_key k ts
 among-values k ids keys vs ts e f g =
     ap (has_key k) (e ∙ f) ∙ any-map (λ l. is_eq (key_order k l)) (λ v. value (canon (tree v))) vs ∙ sym (any-map (is_key_of k) tree vs) ∙ ap (is_some_key k) g
@@ -75,7 +75,7 @@ module _ (xs sorted ys : List (Bor KeyTree)) (filtered : IsFiltered (DiffersFrom
       ∙ sym (list_any-IsPermutation p xs sorted moved)
       ∙ sym (any-map (λ l. is_eq (key_order k l)) now xs)
 
--- some of the first keys and the next one passes a test where one of the first does, or the next one
+-- one of the first keys and the next one passes a test exactly if one of the first does, or the next one does
 pub any-among-more : (p : KeyTree → Bool) (ids : List (Bor KeyTree)) (i : ℕ) (x : Bor KeyTree) → i < length ids → x ≡ get_or ids i x → list_any p (map now (take (i + 1) ids)) ≡ list_any p (map now (take i ids)) || p x.now
 any-among-more p ids i x within is =
     any-map p now (take (i + 1) ids) ∙ any-one-more (λ (y : Bor KeyTree). p y.now) ids i x within is ∙ ap (λ b. b || p x.now) (sym (any-map p now (take i ids)))

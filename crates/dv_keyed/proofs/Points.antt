@@ -1,4 +1,4 @@
--- The `_id`s that stand under keys of a list.
+-- The `_id`s under the keys of a list.
 use Rattle.std.proofs.Common.{◌≡◌, ◌∙◌, ◌↔◌, List, [], ◌∷◌, refl, ap, sym, Bool, true, false, ◌||◌}
 use Rattle.std.specs.List.{list_any}
 use Rattle.std.specs.Ordering.{is_eq}
@@ -31,7 +31,7 @@ module _ (p : KeyTree → Bool) where
       at true f g rest = or_left (p l) (list_any p ks) (sym (alike k l f) ∙ h)
       at false f g rest = or_right (p l) (list_any p ks) (rest g)
 
--- where the keys of the list are those in the bounds, the `_id`s under them are those that have a key there
+-- if the keys of the list are those in the bounds, the `_id`s under them are those that have a key in the bounds
 pub at-points : (c : Condition) (ps : List Pair) (ids : List KeyTree) (i : KeyTree) (ks : List KeyTree) → ((k : KeyTree) → has_key k ks ≡ covers c k) → has_key i ids ≡ list_any (λ k. has_pair k i ps) ks → (has_key i ids ≡ true) ↔ HasKeyWithin c i ps
 at-points c ps ids i ks keys found =
     let under = λ (k : KeyTree). has_pair k i ps in

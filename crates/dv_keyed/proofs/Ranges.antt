@@ -57,7 +57,7 @@ parts-equal k i x e = at (is_eq (key_order k x.0)) refl e
     at true f g = (equal-from (key_order k x.0) f, g)
     at false f g = absurd cc
 
--- the `_id` of a pair is found between the ends where its key stands there
+-- the `_id` of a pair is found between the ends if its key is there
 pub found-within : (low high : Bound KeyTree) (k i : KeyTree) (ps : List Pair) (was : Bool) → range_contains key_order low high k ≡ true → has_pair k i ps ≡ true → was || has_id i (filter (λ p. range_contains key_order low high p.0) ps) ≡ true
 found-within low high k i ps was inside e = or_right was _ (go ps e)
   where
@@ -77,7 +77,7 @@ found-within low high k i ps was inside e = or_right was _ (go ps e)
     go [] f = absurd cc
     go (x ∷ qs) f = step x qs (is_eq (key_order k x.0) && is_eq (key_order i x.1)) (within x) refl refl (go qs) f
 
--- and an `_id` that is found there has a key that stands there
+-- and an `_id` that is found there has a key there
 module _ (within : KeyTree → Bool) (i : KeyTree) where
   some-key : (ps : List Pair) → has_id i (filter (λ p. within p.0) ps) ≡ true → (k : KeyTree) × (within k ≡ true) × (has_pair k i ps ≡ true)
   some-key [] e = absurd cc

@@ -1,4 +1,4 @@
--- Pairs of several keys with one `_id`, added or taken out one after the other.
+-- Pairs of several keys with one `_id`, added or removed one after the other.
 use Rattle.std.proofs.Common.{Result, Ok, Err, OnErr, ◌≡◌, ℕ, zero, suc, List, [], ◌∷◌, map, take, refl, ap, sym, ◌∙◌, Bool, true, false, not, ◌||◌, ◌&&◌, filter, Bor}
 use Rattle.std.proofs.Math.Bool.{and-false, and_comm}
 use Rattle.std.proofs.lemmas.Map.Views.{any-filter_same}
@@ -37,7 +37,7 @@ pub taken-none : (o s : Bool) → o ≡ o && not (false && s)
 taken-none true s = refl
 taken-none false s = refl
 
--- ---- keys of which some are added, all of which are then taken out
+-- ---- some of the keys are added, then all of them are removed
 pub outside : (o p w s : Bool) → (p ≡ true → w ≡ true) → (o || (p && s)) && not (w && s) ≡ o && not (w && s)
 outside true p w s h = refl
 outside false true w true h = ap (λ c. not (c && true)) (h refl)
@@ -77,7 +77,7 @@ not-both p false e = refl
 not-both true true e = absurd cc
 not-both false true e = absurd cc
 
--- what wasn't there is taken out again
+-- what wasn't there is removed again
 pub taken-back : (h p s : Bool) → (s ≡ true → p ≡ true → h ≡ false) → h && not (p && s) ≡ h
 taken-back false p s absent = refl
 taken-back true true true absent = sym (absent refl refl)
@@ -85,7 +85,7 @@ taken-back true true false absent = refl
 taken-back true false s absent = refl
 
 module _ (ks fresh : List KeyTree) (ps : List Pair) (id : KeyTree) (is : fresh ≡ filter (λ l. not (has_pair l id ps)) ks) (k i : KeyTree) where
-  -- to add the keys whose pairs aren't there is to add them all
+  -- adding the keys whose pairs aren't there is the same as adding all keys
   pub added-fresh : has_pair k i ps || (has_key k fresh && is_eq (key_order i id)) ≡ has_pair k i ps || (has_key k ks && is_eq (key_order i id))
   added-fresh =
       ap (λ b. has_pair k i ps || (b && is_eq (key_order i id))) (ap (has_key k) is ∙ fresh-keys ks ps id k)

@@ -77,7 +77,7 @@ mutual
 abbrev SamePlan : ℕ → Condition → ℕ → Condition → Type 0
 SamePlan n x m c = let p : ℕ × Condition = (n, x) in let q : ℕ × Condition = (m, c) in p ≡ q
 
--- a place counted on from n is that of a path, under which the condition stands
+-- a place, counted from n, is that of a path that has the condition
 abbrev Placed : (Condition → Bool) → Members → ℕ → List (List (List ℕ)) → ℕ → Condition → Type 0
 Placed test ms n ps m c = (j : ℕ) × (m ≡ n + j) × (path : List (List ℕ)) × (slice_get ps j ≡ Some path) × (first_in test path ms ≡ Some c)
 
@@ -93,7 +93,7 @@ placed test ms n (p ∷ ps) m c e =
     behind : Placed test ms (suc n) ps m c → Placed test ms n (p ∷ ps) m c
     behind h = (suc h.0, (let is = h.1 in omega arith), h.2, h.3, h.4)
 
--- a condition that passes one of the tests is met where a leaf is in its bounds
+-- a condition that passes the test is met exactly if a leaf is in its bounds
 abbrev Bounds : (Condition → Bool) → Type 0
 Bounds test = (c : Condition) (path : List (List ℕ)) (d : List Field) → test c ≡ true → meets c (whole d path) (leaves d path) ≡ has_within c path d
 
@@ -108,7 +108,7 @@ unfolding meets has_within
 met-bound (in_range r v) path d e = refl
 met-bound c path d e = absurd cc
 
--- a path stands at the place, and what matches the filter has a leaf in the bounds there
+-- there is a path at the place, and what matches the filter has a leaf of it in the bounds
 abbrev pub Plans : Members → List (List (List ℕ)) → ℕ → Condition → Type 0
 Plans ms paths place c = (path : List (List ℕ)) × (slice_get paths place ≡ Some path) × ((d : List Field) → matches ms d ≡ true → has_within c path d ≡ true)
 
@@ -211,7 +211,7 @@ module _ (law : (v w : Tree) → key_order (value (canon v)) (value (canon w)) �
   unfolding has_within is_leaf_key leaf_values
   leaf-key c path d e = some-key c (leaves d path) e
 
-  -- values whose keys are equal are one to the bounds
+  -- equal keys are in the same bounds
   module _ (same : (v w : Tree) → (order v w ≡ Equal) ↔ (canon v ≡ canon w)) where
     same-class : (k l : KeyTree) → key_order k l ≡ Equal → key_class k ≡ key_class l
     same-class no_element no_element e = refl
@@ -257,7 +257,7 @@ module _ (law : (v w : Tree) → key_order (value (canon v)) (value (canon w)) �
     closed-under ends path (at_path p (more_conditions c (more_conditions e (more_conditions f cs)))) d is one = absurd is.1
     closed-under ends path m d is one = absurd is
 
-    -- a document with one key matches a range with two ends where its key is between them
+    -- a document with one key matches a range with two ends exactly if its key is between them
     pub closed : (ends : Interval) (path : List (List ℕ)) (filter : Members) (d : List Field) → IsClosed ends path filter → HasOneKey path d → (matches filter d ≡ true) ↔ ((k : KeyTree) × (is_between ends k ≡ true) × (is_leaf_key k path d ≡ true))
     closed ends path (more_members m no_members) d is one = closed-under ends path m d is one
     closed ends path filter d is one = absurd is

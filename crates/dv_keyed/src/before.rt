@@ -22,33 +22,34 @@ use dv_value::{List, NoMemory, Value};
 use std::alloc::Global;
 use std::ops::Bound;
 
-/// What puts documents in order that a path sorts by equal keys.
+/// What decides the order of documents that a path sorts by equal keys.
 #[derive(Clone, Copy, Debug)]
 pub enum Ties {
     /// Their `_id`s, which ascend.
     ById,
-    /// Something else, so that a bar can't stand between them.
+    /// Something else, so that a bar can't be between them.
     Otherwise,
 }
 
 /// A place in the order of documents that a path sorts.
 #[derive(Clone, Copy, Debug)]
 pub struct Bar<'i> {
-    /// Documents that are sorted before this key are ahead.
+    /// Documents that are sorted before this key are before the bar.
     pub key: &'i Key,
-    /// Of those that are sorted by the key itself, those whose `_id`s' keys are less than this are ahead; none are if there is none.
+    /// Of the documents that are sorted by the key itself, those whose `_id`s' keys are less than this are before the bar; none is,
+    /// if this is `None`.
     pub until: Option<&'i Key>,
 }
 
 impl Bar<'_> {
-    /// Whether the bar is behind a document, in a direction: one that is sorted by `key`, and whose `_id` has the key `id`.
+    /// Whether the bar is after a document, in a direction: a document that is sorted by `key`, and whose `_id` has the key `id`.
     pub fn is_behind(&self, direction: Direction, key: &Key, id: &Key) -> bool
         ensures { result ≡ stands_ahead direction self.now key.now id.now }
     {
         stands_first(direction, key, self.key) || (key == self.key && is_before(id, self.until))
     }
 
-    /// Whether documents may be ahead of the bar in a direction that are sorted by a key.
+    /// Whether documents that are sorted by a key may be before the bar, in a direction.
     fn may_be_behind(&self, direction: Direction, key: &Key) -> bool
         ensures { result ≡ false → (id : KeyTree) → stands_ahead direction self.now key.now id ≡ false }
     {
@@ -56,7 +57,7 @@ impl Bar<'_> {
     }
 }
 
-/// Whether an `_id`'s key is less than an end, where there is one.
+/// Whether there is an end, and an `_id`'s key is less than it.
 fn is_before(id: &Key, until: Option<&Key>) -> bool
     ensures { result ≡ is_until id.now until.entry }
 {
@@ -66,7 +67,7 @@ fn is_before(id: &Key, until: Option<&Key>) -> bool
     }
 }
 
-/// Whether a key stands before another in a direction.
+/// Whether a key is before another in a direction.
 fn stands_first(direction: Direction, key: &Key, other: &Key) -> bool
     ensures { result ≡ sorting.stands_first direction key.now other.now }
 {
@@ -76,9 +77,9 @@ fn stands_first(direction: Direction, key: &Key, other: &Key) -> bool
     }
 }
 
-/// A bar with `least` `_id`s of those in all ranges that the filter sets ahead of it, in a direction: between `_id`s under one key if
-/// these decide ties, else before the first key after so many. `None` if more than `most` are ahead of it, or no key follows. Fails
-/// with `NoMemory` when memory runs out.
+/// A bar after `least` of the `_id`s in all ranges that the filter sets, in a direction: between `_id`s under one key if these
+/// decide ties, else before the first key after so many. An `_id` counts once for each of its keys. `None` if more than `most` are
+/// before it, or no key follows. Fails with `NoMemory` when memory runs out.
 pub fn bar_behind<'i>(
     alloc: Global,
     index: &'i Index,
@@ -95,7 +96,7 @@ pub fn bar_behind<'i>(
     Ok(pairs.bar_behind(ends, direction, ties, least, most))
 }
 
-/// Whether null is in all ranges that the filter sets under the path, and documents that are sorted by it may be ahead of the bar.
+/// Whether null is in all ranges that the filter sets under the path, and documents that are sorted by it may be before the bar.
 /// Fails with `NoMemory` when memory runs out.
 pub fn is_null_ahead(
     alloc: Global,
@@ -114,8 +115,8 @@ pub fn is_null_ahead(
     Ok(ends.contains(&null))
 }
 
-/// The `_id`s' keys of the pairs of leaves that are sorted ahead of the bar, in no order; an `_id` that has only one key may be left
-/// out, unless this is in all ranges that the filter sets. Fails with `NoMemory` when memory runs out.
+/// The `_id`s' keys of the pairs of leaves that are sorted before the bar, in no order; an `_id` that has only one key may be left
+/// out, unless this key is in all ranges that the filter sets. Fails with `NoMemory` when memory runs out.
 pub fn ids_ahead<'i>(
     alloc: Global,
     index: &'i Index,
@@ -136,7 +137,7 @@ pub fn ids_ahead<'i>(
     Ok(ids)
 }
 
-/// The `_id`s' keys of the pairs of leaves that are between the ends and sorted ahead of the bar, in no order.
+/// The `_id`s' keys of the pairs of leaves that are between the ends and sorted before the bar, in no order.
 fn ids_before<'i>(
     alloc: Global,
     index: &'i Pairs,
@@ -154,7 +155,7 @@ fn ids_before<'i>(
     Ok(ids)
 }
 
-/// Adds the `_id`s' keys that stand under the bar's own key and come before its end.
+/// Adds the `_id`s' keys that are under the bar's own key and before its end.
 fn add_tied<'i>(index: &'i Pairs, bar: &Bar<'_>, ids: &mut Vec<&'i Key>) -> Result<(), NoMemory>
     ensures added { OnOk result ((k i : KeyTree) → is_eq (key_order k bar.now.key.now) ≡ true → is_until i bar.now.until ≡ true → LeadFrom k i index.now ids.new.items) }
     ensures kept { OnOk result ((i : KeyTree) → refers_to ids.old.items i ≡ true → refers_to ids.new.items i ≡ true) }
@@ -165,7 +166,8 @@ fn add_tied<'i>(index: &'i Pairs, bar: &Bar<'_>, ids: &mut Vec<&'i Key>) -> Resu
     }
 }
 
-/// The ends between which those of the keys stand that are before the bar in a direction. Fails when memory runs out.
+/// The ends, moved closer together: a key that was between them and is before the bar in a direction still is between them. Fails
+/// when memory runs out.
 fn cut(mut ends: Interval, direction: Direction, bar: &Key) -> Result<Interval, NoMemory>
     ensures { IfOk result (λ left. (k : KeyTree) → is_between ends k ≡ true → sorting.stands_first direction k bar.now ≡ true → is_between left k ≡ true) }
 {
@@ -174,8 +176,8 @@ fn cut(mut ends: Interval, direction: Direction, bar: &Key) -> Result<Interval, 
     Ok(ends)
 }
 
-/// Adds the `_id`s' keys that stand under the empty array, where this may be sorted ahead of the bar: not by its own key, but by
-/// that which no value has.
+/// Adds the `_id`s' keys that are under the empty array, if this may be sorted before the bar: it is sorted not by its own key, but
+/// by the key that no value has.
 fn add_empty_before<'i>(
     alloc: Global,
     index: &'i Pairs,
@@ -193,7 +195,7 @@ fn add_empty_before<'i>(
     index.add_ids_at(&key, ids)
 }
 
-/// The ends between which the keys stand that are before the bar in a direction. Fails when memory runs out.
+/// Ends that enclose all keys before the bar in a direction. Fails when memory runs out.
 fn ends_before(direction: Direction, bar: &Key) -> Result<(Bound<Key>, Bound<Key>), NoMemory>
     ensures forward { IfOk result (λ ends. IsForward (IsLeBy key_order) (IsLtBy key_order) ends.0 ends.1) }
     ensures holds { IfOk result (λ ends. (k : KeyTree) → sorting.stands_first direction k bar.now ≡ true → range_contains key_order ends.0 ends.1 k ≡ true) }

@@ -1,4 +1,4 @@
-//! Between which keys an index is looked at for a range.
+//! Between which keys an index is read for a range.
 
 ghost use Rattle.std.specs.Prelude.{◌≡◌, true, IfOk};
 ghost use Rattle.std.specs.BTreeMap.Range.{IsLeBy, IsLtBy, range_contains};
@@ -15,7 +15,8 @@ use dv_value::{NoMemory, Value};
 use std::alloc::Global;
 use std::ops::Bound;
 
-/// The ends between which are all keys of the value's class that compare so to its key. Fails with `NoMemory` when memory runs out.
+/// Ends that enclose all keys of the value's class that compare to its key as the range says. Fails with `NoMemory` when memory
+/// runs out.
 pub fn ends_within(
     alloc: Global,
     range: Range,
@@ -24,7 +25,7 @@ pub fn ends_within(
     ensures forward { IfOk result (λ ends. IsForward (IsLeBy key_order) (IsLtBy key_order) ends.0 ends.1) }
     ensures holds { IfOk result (λ ends. (k : KeyTree) → covers (in_range range (tree value.now)) k ≡ true → range_contains key_order ends.0 ends.1 k ≡ true) }
 {
-    // Keys of other classes stand beyond these ends.
+    // Keys of other classes are beyond these ends.
     laws::lower_classes_stand_first();
     let key = key_of(value)?;
     match range {
@@ -35,7 +36,7 @@ pub fn ends_within(
     }
 }
 
-/// The end that the value's key is.
+/// The same end, with its value's key in place of the value.
 fn key_end(end: Bound<Value>) -> Result<Bound<Key>, NoMemory>
     ensures { IfOk result (λ key. key ≡ bound_map (λ v. key_of_tree (canon (tree v))) end) }
 {

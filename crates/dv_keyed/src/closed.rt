@@ -14,9 +14,8 @@ use dv_order::{key_of, laws, same_class};
 use dv_value::{NoMemory, Value};
 use std::ops::Bound;
 
-/// The ends between which exactly those keys stand that are in the filter, where this is a range with two ends under the path, the lower
-/// one first and both of one class, as `{x: {$gte: 1, $lt: 5}}`. `None` for any other filter. Fails with `NoMemory` when memory runs
-/// out.
+/// If the filter is a range with two ends under the path, the lower one first and both of one class, as `{x: {$gte: 1, $lt: 5}}`:
+/// the ends that enclose exactly the keys in this range. `None` for any other filter. Fails with `NoMemory` when memory runs out.
 pub fn closed_range(filter: &Filter, path: &Path) -> Result<Option<Interval>, NoMemory>
     ensures { IfOk result (λ found. IfSome found (λ ends. IsClosed ends path.now filter.now)) }
 {
@@ -60,7 +59,8 @@ fn closed_by_both(lower: &Condition, upper: &Condition) -> Result<Option<Interva
     }
 }
 
-/// The ends between which the keys stand that are in both ranges, where these are a lower and an upper one with values of one class.
+/// The ends that enclose exactly the keys in both ranges, if the first has a lower end and the second an upper one, and their
+/// values are of one class.
 fn closed_between(
     low: Range,
     least: &Value,

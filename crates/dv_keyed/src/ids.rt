@@ -1,4 +1,4 @@
-//! The documents that stand under one key.
+//! The documents under one key.
 
 ghost use Rattle.std.specs.Prelude.{◌≡◌, ◌||◌, ◌&&◌, ◌↔◌, not, [], ◌∷◌, ◌++◌, filter, if◌then◌else◌, map, IsTrue, IfOk, OnErr, OnOk};
 ghost use Rattle.std.specs.List.{list_any};
@@ -18,7 +18,7 @@ use std::marker::Model;
 use std::mem::replace;
 use std::ops::Bound;
 
-/// How many keys may be in a list, in which each is looked at.
+/// How many keys may be in a list, which is searched key by key.
 const MOST_LISTED: usize = 16;
 
 /// A set of keys of `_id`s.
@@ -28,8 +28,8 @@ pub(crate) struct Ids {
     kept: Kept,
 }
 
-/// Where the keys are. Under most keys stands one document, which needs no memory of its own; where there are few, a node of a set
-/// would have room for more.
+/// How the keys are stored. Under most keys there is one document, which needs no memory of its own. Few keys are in a list,
+/// because a node of a set would have room for more.
 #[derive(Debug, Drop)]
 enum Kept {
     One(Key),
@@ -83,7 +83,7 @@ impl Ids {
         }
     }
 
-    /// Whether another one is there that isn't gone.
+    /// Whether there is another one that is not in `gone`.
     pub(crate) fn has_another(&self, id: &Key, gone: Option<&Ids>) -> bool
         ensures { result ≡ list_any (defined.is_another id.now (option_map (λ ids. ids.now) gone.entry)) self.now }
     {
@@ -114,7 +114,7 @@ impl Ids {
         }
     }
 
-    /// The one before which so many of them stand, in their order; `None` where there are no more.
+    /// The one at this place in their order, counted from 0; `None` if there is none at it.
     pub(crate) fn at(&self, place: usize) -> Option<&Key> {
         if place >= self.len() {
             return None;
@@ -155,7 +155,7 @@ impl Ids {
         }
     }
 
-    /// Takes out one, where it is there. Takes no memory.
+    /// Removes one, if it is there. Takes no memory.
     pub(crate) fn take_out(&mut self, id: &Key)
         ensures { (i : KeyTree) → has_key i self.new ≡ (has_key i self.old && not (is_eq (key_order i id.now))) }
     {
@@ -227,14 +227,14 @@ fn is_among(ids: &[Key], id: &Key) -> bool
     ids.iter().any(|other| id == other)
 }
 
-/// Whether one is another than this one, and isn't gone.
+/// Whether `other` is not equal to `id`, and is not in `gone`.
 fn is_another(other: &Key, id: &Key, gone: Option<&Ids>) -> bool
     ensures { result ≡ defined.is_another id.now (option_map (λ ids. ids.now) gone.entry) other.now }
 {
     id != other && !is_in(gone, other)
 }
 
-/// Whether an equal one is in the set, where there is one.
+/// Whether there is a set, and an equal one is in it.
 fn is_in(ids: Option<&Ids>, id: &Key) -> bool
     ensures { result ≡ has_in id.now (option_map (λ ids. ids.now) ids.entry) }
 {
@@ -277,7 +277,7 @@ fn set_with(alloc: Global, ids: &[Key], id: &Key) -> Result<BTreeSet<Key>, NoMem
     Ok(set)
 }
 
-/// Puts a copy of the key behind the others. If memory runs out, nothing changes.
+/// Adds a copy of the key after the others. If memory runs out, nothing changes.
 fn push_copy(ids: &mut Vec<Key>, id: &Key) -> Result<(), NoMemory>
     ensures ok { OnOk result ((i : KeyTree) → has_key i ids.new.items ≡ (has_key i ids.old.items || is_eq (key_order i id.now))) }
     ensures err { OnErr result (ids.new.items ≡ ids.old.items) }
@@ -286,7 +286,7 @@ fn push_copy(ids: &mut Vec<Key>, id: &Key) -> Result<(), NoMemory>
     Ok(())
 }
 
-/// Takes out the keys that are equal to this one.
+/// Removes the keys that are equal to this one.
 fn drop_equal(ids: &mut Vec<Key>, id: &Key)
     ensures { ids.new.items ≡ filter (λ other. not (is_eq (key_order id.now other))) ids.old.items }
 {
@@ -334,7 +334,7 @@ fn add_if_less<'i>(found: &mut Vec<&'i Key>, id: &'i Key, until: &Key) -> Result
     Ok(())
 }
 
-/// Adds each of the ids to a list that is less than an end. If memory runs out, some of them are added.
+/// Adds to a list each of the ids that is less than an end. If memory runs out, some of them are added.
 fn add_less<'i>(found: &mut Vec<&'i Key>, ids: &'i [Key], until: &Key) -> Result<(), NoMemory>
     ensures { OnOk result (map (λ i. i.now) found.new.items ≡ map (λ i. i.now) found.old.items ++ filter (λ i. is_lt (key_order i until.now)) ids.now) }
 {
@@ -344,7 +344,7 @@ fn add_less<'i>(found: &mut Vec<&'i Key>, ids: &'i [Key], until: &Key) -> Result
     Ok(())
 }
 
-/// The same of the ids of a set, of which no others are looked at.
+/// The same for the ids of a set, of which no others are read.
 fn add_front<'i>(
     found: &mut Vec<&'i Key>,
     ids: &'i BTreeSet<Key>,

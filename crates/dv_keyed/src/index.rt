@@ -75,8 +75,8 @@ impl Index {
         &self.pairs
     }
 
-    /// Adds a pair for each key, none of which is there, to an `_id` that has no keys but those that it holds. If memory runs out,
-    /// the pairs are those that there were.
+    /// Adds a pair for each key, none of which the `_id` has yet; all keys that it has are in `held`. If memory runs out, the pairs
+    /// are unchanged.
     pub fn add(&mut self, keys: &[&Key], id: &Key, held: &Keys) -> Result<(), NoMemory>
         requires held { (k : KeyTree) → has_pair k id.now self.old.pairs ≡ true → has_key k held.now ≡ true }
         requires absent { (k : KeyTree) → refers_to keys.now k ≡ true → has_pair k id.now self.old.pairs ≡ false }
@@ -87,8 +87,7 @@ impl Index {
         self.pairs.add_fresh(keys, id, held)
     }
 
-    /// Takes out the pair of each key, if it is there, of an `_id` that then has no keys except those that are left. Takes no
-    /// memory.
+    /// Removes the pair of each key, if the `_id` has it; all keys that the `_id` then has are in `left`. Takes no memory.
     pub fn take_out(&mut self, keys: &[&Key], id: &Key, left: &Keys)
         requires { (k : KeyTree) → (has_pair k id.now self.old.pairs && not (refers_to keys.now k)) ≡ true → has_key k left.now ≡ true }
         ensures form { form_of self.new ≡ form_of self.old }

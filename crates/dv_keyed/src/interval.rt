@@ -1,4 +1,4 @@
-//! Between which keys those stand that are in all bounds of a filter.
+//! The ends that enclose the keys in all bounds of a filter.
 
 ghost use Rattle.std.specs.Prelude.{◌≡◌, true, false, IfOk, IsTrue, OnOk};
 ghost use Rattle.std.specs.BTreeMap.Range as ranges;
@@ -30,8 +30,8 @@ pub struct Interval {
 }
 
 impl Interval {
-    /// The ends between which are all keys that are in each range that the filter's top conjunction sets under the path. Fails with
-    /// `NoMemory` when memory runs out.
+    /// Ends that enclose all keys that are in every range of the filter's top conjunction under the path. Fails with `NoMemory`
+    /// when memory runs out.
     pub fn of(alloc: Global, path: &Path, filter: &Filter) -> Result<Self, NoMemory>
         ensures { IfOk result (λ ends. (k : KeyTree) → is_in_all k path.now filter.now ≡ true → is_between ends k ≡ true) }
     {
@@ -43,7 +43,7 @@ impl Interval {
         Ok(ends)
     }
 
-    /// Puts the ends closer together, so that still all keys are between them that were, and stand between these.
+    /// Moves the ends closer together. A key that was between them and is between `low` and `high` still is between them.
     pub(crate) fn close_in(&mut self, low: Bound<Key>, high: Bound<Key>)
         ensures { (k : KeyTree) → is_between self.old k ≡ true → range_contains key_order low high k ≡ true → is_between self.new k ≡ true }
     {
@@ -51,7 +51,7 @@ impl Interval {
         lower(&mut self.high, high);
     }
 
-    /// Whether all keys stand between the ends.
+    /// Whether all keys are between the ends.
     pub(crate) fn is_everything(&self) -> bool
         ensures { result ≡ true → (k : KeyTree) → is_between self.now k ≡ true }
     {
@@ -61,7 +61,7 @@ impl Interval {
         }
     }
 
-    /// Whether a key stands between the ends.
+    /// Whether a key is between the ends.
     pub(crate) fn contains(&self, key: &Key) -> bool
         ensures { result ≡ is_between self.now key.now }
     {
@@ -161,7 +161,7 @@ fn narrow_by_condition(
     }
 }
 
-/// Puts the ends closer together, so that still all keys in a range are between them that were.
+/// Moves the ends closer together. A key in the range that was between them still is.
 fn narrow(alloc: Global, ends: &mut Interval, range: Range, value: &Value) -> Result<(), NoMemory>
     ensures { OnOk result ((k : KeyTree) → is_between ends.old k ≡ true → covers (in_range range (tree value.now)) k ≡ true → is_between ends.new k ≡ true) }
 {
@@ -170,7 +170,7 @@ fn narrow(alloc: Global, ends: &mut Interval, range: Range, value: &Value) -> Re
     Ok(())
 }
 
-/// Whether a key stands at a start or behind it.
+/// Whether a key is after a start, or at one that is included.
 fn is_from_start(start: &Bound<Key>, key: &Key) -> bool
     ensures { result ≡ ranges.is_from_start key_order start.now key.now }
 {
@@ -181,7 +181,7 @@ fn is_from_start(start: &Bound<Key>, key: &Key) -> bool
     }
 }
 
-/// Whether a key stands behind an end, or at one that is left out.
+/// Whether a key is after an end, or at one that is excluded.
 fn is_past_end(end: &Bound<Key>, key: &Key) -> bool
     ensures { result ≡ ranges.is_past_end key_order end.now key.now }
 {
@@ -210,7 +210,7 @@ fn lower(high: &mut Bound<Key>, other: Bound<Key>)
     }
 }
 
-/// Whether no more keys stand from a start on than from another one.
+/// Whether a start is after another one, or excludes the key at which both are. True if the other one is unbounded.
 fn is_later(start: &Bound<Key>, other: &Bound<Key>) -> bool {
     match (start, other) {
         (_, Bound::Unbounded) => true,
@@ -220,7 +220,7 @@ fn is_later(start: &Bound<Key>, other: &Bound<Key>) -> bool {
     }
 }
 
-/// Whether no more keys stand up to an end than up to another one.
+/// Whether an end is before another one, or excludes the key at which both are. True if the other one is unbounded.
 fn is_earlier(end: &Bound<Key>, other: &Bound<Key>) -> bool {
     match (end, other) {
         (_, Bound::Unbounded) => true,

@@ -29,7 +29,7 @@ pub fn lent(alloc: Global, keys: &[Key]) -> Result<Vec<&Key>, NoMemory>
     keys.iter().collect(alloc)
 }
 
-/// The keys in their order, each of several equal ones once. Those of one index key are in order already, so there are few runs to
+/// The keys in their order, equal ones only once. Those under one key of an index are in order already, so there are few runs to
 /// merge. Fails with `NoMemory` when memory runs out.
 pub fn in_order(mut keys: Vec<&Key>) -> Result<Vec<&Key>, NoMemory>
     ensures ascending { IfOk result (λ ordered. IsStrictlySortedBy key_order (map (λ k. k.now) ordered.items)) }

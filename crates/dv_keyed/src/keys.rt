@@ -57,8 +57,8 @@ impl Keys {
     }
 }
 
-/// The keys of the document's leaves under the path, Missing having that of null: a leaf is what the path leads to, or if that is
-/// an array, an element of it. Looks at each value of the document at most once for each of the path's components. Fails with
+/// The keys of the document's leaves under the path; Missing has the key of null. A leaf is what the path leads to, or if that is
+/// an array, an element of it. Reads each value of the document at most once for each of the path's components. Fails with
 /// `NoMemory` when memory runs out.
 pub fn keys_of(alloc: Global, path: &Path, document: &Document) -> Result<Keys, NoMemory>
     ensures { IfOk result (λ keys. (k : KeyTree) → has_key k keys ≡ is_leaf_key k path.now document.now) }

@@ -17,15 +17,15 @@ ghost use Rattle.dv_keyed.specs.declared.interval.Interval.{Interval};
 ghost use Rattle.dv_keyed.specs.Within.{has_within, is_within};
 ghost use Rattle.dv_keyed.specs.Inner.Within.{covers};
 
-/// A filter is answered by an index that is there, and what matches it has a leaf in the bounds: by no index is a document
-/// missed.
+/// A filter is answered by an index that exists, and each document that matches has a leaf in the bounds: no index misses a
+/// document.
 #[tactic(auto, using(crate::proofs::Sound::planned))]
 pub fn what_matches_is_in_the_bounds()
     ensures { (filter : Members) (paths : List (List (List ℕ))) (place : ℕ) (bounds : Condition) → chosen filter paths ≡ Some (place, bounds) → IsAnswered filter paths place bounds }
 {}
 
-/// What matches is tried: if a document that matches a filter has only one key under a path, this key is in all bounds that the
-/// filter's top conjunction sets under the path.
+/// Each document that matches is tried: if a document that matches a filter has only one key under a path, this key is in all
+/// bounds that the filter's top conjunction sets under the path.
 pub fn an_only_key_is_in_all_bounds()
     ensures { (filter : Members) (path : List (List ℕ)) (d : List Field) (v : Tree) → IsOnlyLeaf (value (canon v)) path d → matches filter d ≡ true → is_in_all (value (canon v)) path filter ≡ true }
 {
@@ -49,8 +49,8 @@ pub fn a_key_in_the_bounds_is_of_a_leaf_there()
     dv_order::laws::equal_is_same_but_for_widths();
 }
 
-/// A filter that is one condition has no other meaning than the bounds of the plan that is chosen for it: what has a leaf in them
-/// matches.
+/// A filter that is one condition means the same as the bounds of the plan that is chosen for it: the documents that have a leaf in
+/// them match, and no others.
 #[tactic(auto, using(crate::proofs::Sound::decided))]
 pub fn one_condition_is_decided_by_its_bounds()
     ensures { (filter : Members) (paths : List (List (List ℕ))) (place : ℕ) (bounds : Condition) (path : List (List ℕ)) (d : List Field) → is_one_condition filter ≡ true → IsDecided filter paths place bounds path d }
@@ -72,8 +72,8 @@ pub fn keys_are_in_the_bounds_of_their_values()
     dv_order::laws::keys_stand_as_their_values();
 }
 
-/// The keys of a document: those of what a path leads to, an array being one beside its elements, and null for what is
-/// missing.
+/// The keys of a document: those of what a path leads to. An array has a key, and so has each of its elements; what is missing has
+/// the key of null.
 #[tactic(auto, unfolding(dv_candidates::specs::Path::index_of, dv_candidates::specs::Candidates::whole, dv_candidates::specs::Candidates::leaves, dv_path::specs::LeafKeys::is_leaf_key, dv_path::specs::LeafKeys::leaf_values))]
 pub fn keys_by_example()
     ensures missing { has_key_of null (codes "a" ∷ []) [] ≡ true }

@@ -1,4 +1,4 @@
-//! Indexes, by which the documents are found that have a key.
+//! Indexes, which find the documents that have a key.
 
 ghost use Rattle.std.specs.Prelude.{◌≡◌, ◌≤◌, ◌||◌, ◌&&◌, true, false, not, [], length, OnErr, OnOk, IfOk};
 ghost use Rattle.std.specs.Ordering.{is_eq};
@@ -53,7 +53,7 @@ impl MultiIndex {
         }
     }
 
-    /// Adds the pair of each of the keys and the `_id`'s key. If memory runs out, the pairs are those that there were.
+    /// Adds the pair of each of the keys and the `_id`'s key. If memory runs out, the pairs are unchanged.
     pub fn add(&mut self, keys: &Keys, id: &Key) -> Result<(), NoMemory>
         ensures ok { OnOk result ((k i : KeyTree) → has_pair k i self.new ≡ (has_pair k i self.old || (has_key k keys.now && is_eq (key_order i id.now)))) }
         ensures err { OnErr result ((k i : KeyTree) → has_pair k i self.new ≡ has_pair k i self.old) }
@@ -63,8 +63,7 @@ impl MultiIndex {
         self.pairs.add(keys, id)
     }
 
-    /// Adds the pair of each of the keys and of the key of an `_id` that has no key yet. If memory runs out, the pairs are those
-    /// that there were.
+    /// Adds the pair of each of the keys and the key of an `_id` that has no pair yet. If memory runs out, the pairs are unchanged.
     pub fn add_first(&mut self, keys: &Keys, id: &Key) -> Result<(), NoMemory>
         requires { (k : KeyTree) → has_pair k id.now self.old ≡ false }
         ensures ok { OnOk result ((k i : KeyTree) → has_pair k i self.new ≡ (has_pair k i self.old || (has_key k keys.now && is_eq (key_order i id.now)))) }
@@ -74,8 +73,8 @@ impl MultiIndex {
         self.pairs.add(keys, id)
     }
 
-    /// Adds a pair for each key, none of which is there, to an `_id` that has no keys but those that it holds. If memory runs
-    /// out, the pairs are those that there were.
+    /// Adds a pair for each key, none of which the `_id` has yet; all keys that it has are in `held`. If memory runs out, the pairs
+    /// are unchanged.
     pub(crate) fn add_fresh(
         &mut self,
         fresh: &[&Key],
@@ -100,15 +99,14 @@ impl MultiIndex {
         }
     }
 
-    /// Takes out the pair of each of the keys and the `_id`'s key, if it is there. Takes no memory.
+    /// Removes the pair of each of the keys and the `_id`'s key, if it is there. Takes no memory.
     pub fn take_out(&mut self, keys: &Keys, id: &Key)
         ensures { (k i : KeyTree) → has_pair k i self.new ≡ (has_pair k i self.old && not (has_key k keys.now && is_eq (key_order i id.now))) }
     {
         self.pairs.take_out(keys, id);
     }
 
-    /// Takes out the pair of each key, where it is there, of an `_id` that then has no keys but those that are left. Takes no
-    /// memory.
+    /// Removes the pair of each key, if the `_id` has it; all keys that the `_id` then has are in `left`. Takes no memory.
     pub(crate) fn take_out_each(&mut self, keys: &[&Key], id: &Key, left: &Keys)
         requires { (k : KeyTree) → (has_pair k id.now self.old && not (refers_to keys.now k)) ≡ true → has_key k left.now ≡ true }
         ensures { (k i : KeyTree) → has_pair k i self.new ≡ (has_pair k i self.old && not (refers_to keys.now k && is_eq (key_order i id.now))) }
@@ -168,15 +166,16 @@ impl MultiIndex {
         !self.several.is_empty()
     }
 
-    /// Adds to a list the `_id`s' keys that have several keys: then each is there that is there if its key is the only one. If
-    /// memory runs out, some of them are added.
+    /// Adds to a list the keys of the `_id`s that have several keys. Then it lacks no `_id`, except those with only one key that it
+    /// lacked before. If memory runs out, some of them are added.
     pub(crate) fn add_several<'i>(&'i self, ids: &mut Vec<&'i Key>) -> Result<(), NoMemory>
         ensures { OnOk result ((k i : KeyTree) → has_pair k i self.now ≡ true → (IsOnlyKey k i self.now → refers_to ids.old.items i ≡ true) → refers_to ids.new.items i ≡ true) }
     {
         self.several.add_to(ids)
     }
 
-    /// Whether more `_id`s stand under the keys between two ends than were found, with all that have several keys.
+    /// Whether no `_id` has several keys, or more `_id`s are under the keys between two ends than the sum of `found` and the number
+    /// of those that have several keys.
     pub(crate) fn has_more(&self, low: Bound<Key>, high: Bound<Key>, found: usize) -> bool
         requires { IsForward (IsLeBy key_order) (IsLtBy key_order) low high }
     {
@@ -186,7 +185,7 @@ impl MultiIndex {
                 .has_more(low, high, found.saturating_add(self.several.len()))
     }
 
-    /// Forgets that the `_id` has several keys, where it has none but those that are left, and these aren't several.
+    /// Forgets that the `_id` has several keys, if `left` has at most one; `left` has all its keys.
     fn settle(&mut self, id: &Key, left: &Keys)
         requires { (k : KeyTree) → has_pair k id.now self.old ≡ true → has_key k left.now ≡ true }
         ensures { self.new ≡ self.old }
@@ -197,7 +196,7 @@ impl MultiIndex {
     }
 }
 
-/// Whether these keys, none of which is held, are several together with those that are.
+/// Whether the fresh keys, of which there is at least one, are several together with the held ones, which are others.
 fn are_several(fresh: &[&Key], held: &Keys) -> bool
     ensures one { result ≡ false → length fresh.now ≤ 1 }
     ensures none_held { result ≡ false → held.now ≡ [] }
@@ -205,7 +204,7 @@ fn are_several(fresh: &[&Key], held: &Keys) -> bool
     fresh.len() > 1 || held.len() > 0
 }
 
-/// Notes an `_id` where it has several keys. If memory runs out, nothing changes.
+/// Notes an `_id` if it has several keys. If memory runs out, nothing changes.
 fn note(several: &mut Ids, id: &Key, has_several: bool) -> Result<(), NoMemory>
     ensures ok { OnOk result ((i : KeyTree) → has_key i several.new ≡ (has_key i several.old || (has_several && is_eq (key_order i id.now)))) }
     ensures err { OnErr result ((i : KeyTree) → has_key i several.new ≡ has_key i several.old) }

@@ -1,4 +1,4 @@
-//! Sets of pairs of a key and an `_id`, by which the documents are found that have a key.
+//! Sets of pairs of a key and an `_id`. They find the documents that have a key.
 
 ghost use Rattle.std.specs.Prelude.{◌≡◌, ◌||◌, ◌&&◌, true, false, not, [], map, filter, OnErr, OnOk, IfOk, IfSome};
 ghost use Rattle.std.specs.BTreeMap.{IsFromIterResult};
@@ -63,7 +63,7 @@ impl Pairs {
         }
     }
 
-    /// Adds the pair of each of the keys and the `_id`'s key. If memory runs out, the pairs are those that there were.
+    /// Adds the pair of each of the keys and the `_id`'s key. If memory runs out, the pairs are unchanged.
     pub(crate) fn add(&mut self, keys: &Keys, id: &Key) -> Result<(), NoMemory>
         ensures ok { OnOk result ((k i : KeyTree) → has_pair k i self.new ≡ (has_pair k i self.old || (has_key k keys.now && is_eq (key_order i id.now)))) }
         ensures err { OnErr result ((k i : KeyTree) → has_pair k i self.new ≡ has_pair k i self.old) }
@@ -73,7 +73,7 @@ impl Pairs {
         self.add_fresh(fresh.as_slice(), id)
     }
 
-    /// Adds a pair for each key, none of which is there. If memory runs out, the pairs are those that there were.
+    /// Adds a pair for each key, none of which the `_id` has yet. If memory runs out, the pairs are unchanged.
     pub(crate) fn add_fresh(&mut self, fresh: &[&Key], id: &Key) -> Result<(), NoMemory>
         requires { (k : KeyTree) → refers_to fresh.now k ≡ true → has_pair k id.now self.old ≡ false }
         ensures ok { OnOk result (AddsPairs (refers_to fresh.now) id.now self.old self.new) }
@@ -88,7 +88,7 @@ impl Pairs {
         }
     }
 
-    /// Takes out the pair of each of the keys and the `_id`'s key, where it is there. Takes no memory.
+    /// Removes the pair of each of the keys and the `_id`'s key, if it is there. Takes no memory.
     pub(crate) fn take_out(&mut self, keys: &Keys, id: &Key)
         ensures { (k i : KeyTree) → has_pair k i self.new ≡ (has_pair k i self.old && not (has_key k keys.now && is_eq (key_order i id.now))) }
     {
@@ -97,14 +97,14 @@ impl Pairs {
         }
     }
 
-    /// Whether one of the keys stands under another `_id`. Takes no memory.
+    /// Whether one of the keys is under another `_id`. Takes no memory.
     pub(crate) fn clash(&self, keys: &Keys, id: &Key) -> bool
         ensures { result ≡ is_under_another (λ k. has_key k keys.now) id.now self.now }
     {
         self.clash_without(&Pairs::new(self.alloc), keys, id)
     }
 
-    /// Whether one of the keys stands under another `_id` in a pair that isn't gone. Takes no memory.
+    /// Whether one of the keys is under another `_id`, in a pair that is not in `gone`. Takes no memory.
     pub(crate) fn clash_without(&self, gone: &Pairs, keys: &Keys, id: &Key) -> bool
         ensures { result ≡ list_any (λ k. has_another_at k id.now gone.now self.now) keys.now }
     {
@@ -113,7 +113,7 @@ impl Pairs {
             .any(|key| self.has_another(key, id, gone))
     }
 
-    /// Whether another `_id` stands under the key, in a pair that isn't gone.
+    /// Whether another `_id` is under the key, in a pair that is not in `gone`.
     fn has_another(&self, key: &Key, id: &Key, gone: &Pairs) -> bool
         ensures { result ≡ has_another_at key.now id.now gone.now self.now }
     {
@@ -144,7 +144,7 @@ impl Pairs {
         })
     }
 
-    /// Adds to a list the `_id`s' keys that stand under a key. If memory runs out, some of them are added.
+    /// Adds to a list the `_id`s' keys that are under a key. If memory runs out, some of them are added.
     pub(crate) fn add_ids_at<'i>(
         &'i self,
         key: &Key,
@@ -158,8 +158,7 @@ impl Pairs {
         }
     }
 
-    /// Adds to a list the `_id`s' keys that stand under a key and are less than an end. If memory runs out, some of them are
-    /// added.
+    /// Adds to a list the `_id`s' keys that are under a key and less than an end. If memory runs out, some of them are added.
     pub(crate) fn add_ids_until<'i>(
         &'i self,
         key: &Key,
@@ -174,8 +173,7 @@ impl Pairs {
         }
     }
 
-    /// Adds to a list the `_id`s' keys of the pairs whose keys stand between two ends. If memory runs out, some of them are
-    /// added.
+    /// Adds to a list the `_id`s' keys of the pairs whose keys are between two ends. If memory runs out, some of them are added.
     pub(crate) fn add_ids_between<'i>(
         &'i self,
         low: Bound<Key>,
@@ -191,8 +189,8 @@ impl Pairs {
         Ok(())
     }
 
-    /// Adds to a list the `_id`s' keys of the pairs whose keys stand between two ends, whichever way round these are. If memory
-    /// runs out, some of them are added.
+    /// Adds to a list the `_id`s' keys of the pairs whose keys are between two ends; there are none if the ends are in the wrong
+    /// order. If memory runs out, some of them are added.
     pub(crate) fn add_ids_inside<'i>(
         &'i self,
         ends: Interval,
@@ -208,7 +206,7 @@ impl Pairs {
         self.add_ids_between(low, high, ids)
     }
 
-    /// Whether more `_id`s than `most` stand under the keys between two ends; no more keys are looked at.
+    /// Whether more than `most` `_id`s are under the keys between two ends. Reads no further keys once there are more.
     pub(crate) fn has_more(&self, low: Bound<Key>, high: Bound<Key>, most: usize) -> bool
         requires { IsForward (IsLeBy key_order) (IsLtBy key_order) low high }
     {
@@ -223,8 +221,8 @@ impl Pairs {
         false
     }
 
-    /// In a direction, a bar behind `least` `_id`s of those between two ends, unless more than `most` stand before it. No more keys
-    /// are looked at.
+    /// A bar after `least` of the `_id`s between two ends, in a direction, unless more than `most` are before it. Reads no keys
+    /// beyond that.
     pub(crate) fn bar_behind(
         &self,
         ends: Interval,
@@ -276,7 +274,7 @@ impl Pairs {
         Ok(())
     }
 
-    /// Takes out the pair of each key, where it is there. Takes no memory.
+    /// Removes the pair of each key, if it is there. Takes no memory.
     pub(crate) fn take_out_each(&mut self, keys: &[&Key], id: &Key)
         ensures { (k i : KeyTree) → has_pair k i self.new ≡ (has_pair k i self.old && not (refers_to keys.now k && is_eq (key_order i id.now))) }
     {
@@ -319,8 +317,8 @@ impl Pairs {
     }
 }
 
-/// A bar behind `least` `_id`s: among those under one key, or before the first key behind so many or more, unless more than `most`
-/// stand before this.
+/// A bar after `least` `_id`s: between the `_id`s under one key, or before the first key that follows `least` or more, unless more
+/// than `most` are before this key.
 fn first_behind<'i, I: Iterator<Item = (&'i Key, &'i Ids)>>(
     entries: I,
     ties: Ties,
@@ -350,7 +348,8 @@ fn first_behind<'i, I: Iterator<Item = (&'i Key, &'i Ids)>>(
     None
 }
 
-/// Of `_id`s under one key, that before which so many stand, where ties are decided by them and there are more.
+/// Of the `_id`s under one key, the one that has `many` before it, if ties are decided by the `_id`s and there are more than
+/// `many`.
 fn end_behind(ids: &Ids, ties: Ties, many: usize) -> Option<&Key>
     ensures { IfSome result (λ until. ties ≡ Ties.ById) }
 {

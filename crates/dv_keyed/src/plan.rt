@@ -13,21 +13,21 @@ use dv_candidates::{Component, Path};
 use dv_match::{Choices, Condition, Conditions, Filter, Filters, Member, Range};
 use dv_value::Value;
 
-/// Which keys of an index are looked at.
+/// Which keys of an index are read.
 #[derive(Clone, Copy, Debug)]
 pub enum Bounds<'f> {
     /// Those that compare equal to the value's.
     Equal(&'f Value),
-    /// Those that compare equal to that of one of the values.
+    /// Those that compare equal to the key of one of the values.
     Among(&'f Choices),
     /// Those of the value's class that are above, at least, below or at most it, as the `Range` says.
     Within(Range, &'f Value),
 }
 
-/// How the documents are found that match a filter.
+/// How the documents that match a filter are found.
 #[derive(Clone, Copy, Debug)]
 pub enum Plan<'f> {
-    /// By looking at each document.
+    /// By reading each document.
     Scan,
     /// By the index at this place in creation order, counted from 0, within these bounds.
     Index { place: usize, bounds: Bounds<'f> },
@@ -46,10 +46,10 @@ enum ConditionKind {
 pub struct Planner;
 
 impl Planner {
-    /// The plan for a filter by indexes, which are in creation order. Its top conjunction are the conditions under its paths and,
-    /// in their place, those of its `$and` members, at any depth. The plan takes the first index whose path is there under `$eq` or
-    /// `$in`, with its first such condition; else the first whose path is there under a range operator, with that one bound; else
-    /// it is a scan. Takes no memory.
+    /// The plan for a filter by indexes, which are in creation order. The filter's top conjunction has the conditions under its
+    /// paths and, at the places of its `$and` members, the conditions of these, at any depth. The plan uses the first index whose
+    /// path has `$eq` or `$in` there, with the first such condition; else the first whose path has a range operator there, with the
+    /// first such bound alone; else it is a scan. Takes no memory.
     #[tactic(auto, unfolding(crate::specs::Choice::chosen))]
     pub fn choose<'f>(filter: &'f Filter, indexes: &[Index]) -> Plan<'f>
         ensures { plan_seen result ≡ chosen filter.now (map (λ i. i.path) indexes.now) }
@@ -61,7 +61,7 @@ impl Planner {
     }
 }
 
-/// The first index whose path stands in the top conjunction under a condition of the kind, with the first such condition.
+/// The first index whose path has a condition of the kind in the top conjunction, with the first such condition.
 fn first_index<'f>(filter: &'f Filter, indexes: &[Index], kind: ConditionKind) -> Plan<'f>
     ensures { plan_seen result ≡ first_place (has_kind kind) filter.now 0 (map (λ i. i.path) indexes.now) }
 {

@@ -11,7 +11,8 @@ use dv_order::Key;
 use dv_value::NoMemory;
 use std::alloc::Global;
 
-/// The keys under a path of a document as it was and as it will be; neither has keys if there is none.
+/// The keys under a path of a document as it was and as it will be. `old` is empty if there was no document, `new` if there will be
+/// none.
 #[derive(Debug, Drop)]
 pub struct Moved {
     pub id: Key,
@@ -19,7 +20,7 @@ pub struct Moved {
     pub new: Keys,
 }
 
-/// What an index would be after some documents are replaced: without the pairs that are gone, and with those that have come.
+/// What an index would be after some documents are replaced: without the pairs in `gone`, and with those in `come`.
 #[derive(Debug, Drop)]
 pub struct Trial {
     pub gone: Pairs,
@@ -47,7 +48,7 @@ impl Trial {
             || self.come.clash(&moved.new, &moved.id)
     }
 
-    /// Puts the new keys in place of the old ones; keys that stay are in neither set. If memory runs out, it is left with some of
+    /// Puts the new keys in place of the old ones; keys that stay are in neither set. If memory runs out, this is done for some of
     /// them.
     pub fn exchange(&mut self, alloc: Global, moved: &Moved) -> Result<(), NoMemory>
         ensures gone { OnOk result (AddsPairs (λ k. has_key k moved.now.old && not (has_key k moved.now.new)) moved.now.id self.old.gone self.new.gone) }

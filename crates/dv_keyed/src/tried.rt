@@ -19,9 +19,8 @@ use dv_order::Key;
 use dv_value::NoMemory;
 use std::alloc::Global;
 
-/// The `_id`s' keys of the pairs whose keys are in the bounds; an `_id` that has only one key may be left out, unless this is in
-/// all ranges that the filter sets. Of the two ways to find them the one that looks at fewer. Fails with `NoMemory` when memory
-/// runs out.
+/// The `_id`s' keys of the pairs whose keys are in the bounds; an `_id` that has only one key may be left out, unless this key is
+/// in all ranges that the filter sets. Uses the one of two ways that finds fewer. Fails with `NoMemory` when memory runs out.
 pub fn ids_tried<'i>(
     alloc: Global,
     index: &'i Index,
@@ -42,7 +41,7 @@ pub fn ids_tried<'i>(
     ids_within(alloc, pairs.as_pairs(), bounds)
 }
 
-/// The `_id`s' keys of the pairs whose keys stand between two ends, in no order. Fails with `NoMemory` when memory runs out.
+/// The `_id`s' keys of the pairs whose keys are between two ends, in no order. Fails with `NoMemory` when memory runs out.
 pub fn ids_between(alloc: Global, index: &Index, ends: Interval) -> Result<Vec<&Key>, NoMemory>
     ensures { IfOk result (λ ids. (i : KeyTree) → (refers_to ids.items i ≡ true) ↔ HasKeyBetween ends i index.now.pairs) }
 {

@@ -21,8 +21,8 @@ use dv_order::{Key, key_of};
 use dv_value::{List, NoMemory, Value};
 use std::alloc::Global;
 
-/// The `_id`s' keys of the pairs whose keys are in the bounds, in no order; where these are points, no others. Fails with `NoMemory`
-/// when memory runs out.
+/// The `_id`s' keys of the pairs whose keys are in the bounds, in no order; if the bounds are points, no others. Fails with
+/// `NoMemory` when memory runs out.
 pub fn ids_within<'i>(
     alloc: Global,
     index: &'i Pairs,
@@ -38,7 +38,7 @@ pub fn ids_within<'i>(
     }
 }
 
-/// The `_id`s' keys of the pairs whose key is of the value's class and stands so to it.
+/// The `_id`s' keys of the pairs whose key is of the value's class and compares to it as the range says.
 fn ids_in_range<'i>(
     alloc: Global,
     index: &'i Pairs,
@@ -53,7 +53,7 @@ fn ids_in_range<'i>(
     Ok(ids)
 }
 
-/// The `_id`s' keys of the pairs whose key is one of the values'; a value that stands there several times is looked up once.
+/// The `_id`s' keys of the pairs whose key is one of the values'; a value that is there several times is looked up once.
 fn ids_among<'i>(alloc: Global, index: &'i Pairs, values: &List) -> Result<Vec<&'i Key>, NoMemory>
     ensures { IfOk result (λ ids. (i : KeyTree) → (refers_to ids.items i ≡ true) ↔ HasKeyWithin (among values.now) i index.now) }
 {

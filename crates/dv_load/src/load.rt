@@ -76,8 +76,8 @@ fn load_documents<P: Progress>(
     Ok(())
 }
 
-/// Loads the first document of the bytes, which has this number and stands at this place of the file, and returns what stands
-/// behind it. Otherwise nothing is changed.
+/// Loads the first document of the bytes, which has this number and this offset in the file, and returns the bytes after it. If it
+/// fails, nothing is changed.
 fn load_first<'a>(
     alloc: Global,
     store: &mut Store,

@@ -1,8 +1,8 @@
-//! How far a load is, told while it goes on.
+//! The progress of a load, reported while it runs.
 
 use std::io::IsTerminal;
 
-/// How many documents are loaded from one telling to the next.
+/// How many documents are loaded from one report to the next.
 const DOCUMENTS_PER_REPORT: usize = 100_000;
 
 /// What is called to report how far the load of a file is.

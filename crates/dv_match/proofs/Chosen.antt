@@ -39,7 +39,7 @@ or-twice : (a b : Bool) → a || b ≡ a || (a || b)
 or-twice true b = refl
 or-twice false b = refl
 
--- of values that compare equal, one passes a test where any does
+-- if only one of equal values is kept, one of the kept values passes a test exactly if one of all values does
 module _ (test : Tree → Bool) (respects : RespectsEqual test) where
   abbrev passes : Value → Bool
   passes v = test (tree v)
@@ -56,7 +56,7 @@ module _ (test : Tree → Bool) (respects : RespectsEqual test) where
   any-once [] = refl
   any-once (x ∷ xs) = any-from x xs
 
--- the copies of a list, sorted, and of equal ones one
+-- the copies of a list, sorted, with only one of equal values
 pub in-order : (vs : List Tree) (copied sorted values : List Value) → map tree copied ≡ vs → IsPermutation copied sorted → IsSortedBy stands_before sorted → values ≡ dedup is_same_value sorted → AreChoicesInOrder vs values
 in-order vs copied sorted values seen moved up once = record {
   ascending = subst Ascend (sym once) (IsStrictlySortedBy-dedup total (λ x y. refl) sorted up);
@@ -65,7 +65,7 @@ in-order vs copied sorted values seen moved up once = record {
       ∙ sym (list_any-IsPermutation (λ v. test (tree v)) copied sorted moved) ∙ sym (any-map test tree copied) ∙ ap (list_any test) seen;
 }
 
--- how the value stands to another, the other way round
+-- how the value compares with another, the other way round
 turned : (v w : Tree) (o : Ordering) → order w v ≡ o → is_eq (order v w) ≡ is_eq (ordering_reverse o)
 turned v w o e = ap is_eq (order_total.antisymm v w ∙ ap ordering_reverse e)
 
@@ -97,7 +97,7 @@ module _ (values : List Value) (v : Tree) (up : Ascend values) where
       apart k d l true e p = turned v (tree (get_or values k d)) Less (p.0 k d (omega arith) (ltb-true k i e))
       apart k d l false e p = turned v (tree (get_or values k d)) Greater (p.1 k d (ltb-false k i e) l)
 
-  -- a value before the first, and one behind the last
+  -- a value before the first, and one after the last
   pub before-first : (x : Value) → 0 < length values → x ≡ get_or values 0 x → order v (tree x) ≡ Less → IsPlaceOf v values None
   before-first x some first less = record { within = tt; at = λ k d within. below k d within }
     where
@@ -129,7 +129,7 @@ none-of-them : (test : Value → Bool) (xs : List Value) → ((k : ℕ) (d : Val
 none-of-them test [] h = refl
 none-of-them test (x ∷ xs) h = ap (λ b. b || list_any test xs) (h 0 x (omega arith)) ∙ none-of-them test xs (λ k d l. h (suc k) d (omega arith))
 
--- a value is among those of a list where it has a place among their copies
+-- a value is among those of a list exactly if it has a place among their copies
 module _ (v : Tree) where
   abbrev is_it : Tree → Bool
   is_it w = is_eq (order v w)

@@ -74,7 +74,7 @@ unfolding each_filter
 filters-collected [] = refl
 filters-collected (v ∷ vs) = tied (filter_of_value v) (collected filter_of_value vs) (each_filter (elements_of (map tree vs))) more_filters filters_of (filters-collected vs) (λ y ys. refl)
 
--- the three lists of parts, where a part is refused and where none is left
+-- the three lists of parts, if a part is refused and if none is left
 module _ (fs : List Field) (i : ℕ) (ms : List Member) (so-far : collected member_of_field fs ≡ after ms (collected member_of_field (drop i fs))) where
   pub filter-fault : (f : Field) (e : FilterFault) → Some f ≡ slice_get fs i → member_of_field f ≡ Err e → filter_in (fields_of fs) ≡ Err e
   filter-fault f e here is = filter-collected fs ∙ ap (λ r. r >>= λ ms. Ok (members_of ms)) (one-fault member_of_field fs i ms so-far f e (sym here) is)

@@ -1,4 +1,4 @@
--- Where no array stands a path leads to one candidate.
+-- A path that meets no array leads to one candidate.
 use Rattle.std.proofs.Common.{◌≡◌, ◌∙◌, ap, refl, ℕ, true, ◌&&◌, List, [], ◌∷◌, ◌++◌, Some, None}
 use Rattle.std.specs.List.{flat_map}
 use Rattle.dv_value.specs.Tree.{Tree, document, array, Field, fields_of, list_of_fields}

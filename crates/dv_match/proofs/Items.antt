@@ -1,4 +1,4 @@
--- What some or every item of a list is, where a loop has come to one of them.
+-- Whether some or every item of a list passes, when a loop has come to one of them.
 use Rattle.std.proofs.Common.{◌≡◌, ℕ, zero, suc, ◌<◌, ◌≤◌, List, [], ◌∷◌, length, map, take, take_all, get_or, refl, ap, sym, ◌∙◌, arith, Bool, true, false, ◌||◌, ◌&&◌}
 use Rattle.std.proofs.Math.Bool.{and-false}
 use Rattle.std.specs.List.{list_any, list_all}
@@ -27,7 +27,7 @@ pub all-map : {X Y : Type 0} (p : Y → Bool) (view : X → Y) (xs : List X) →
 all-map p view [] = refl
 all-map p view (x ∷ xs) = ap (λ b. p (view x) && b) (all-map p view xs)
 
--- a loop over items, which are seen as the list ys
+-- a loop over items, whose views are the list ys
 module _ {X Y : Type 0} (p : Y → Bool) (view : X → Y) (xs : List X) (ys : List Y) (seen : map view xs ≡ ys) (i : ℕ) where
   seen-any : list_any p ys ≡ list_any (λ x. p (view x)) xs
   seen-any = ap (list_any p) (sym seen) ∙ any-map p view xs

@@ -18,7 +18,7 @@ pub(crate) fn place_of(values: &[Value], value: &Value) -> Option<usize>
         .ok()
 }
 
-/// The same, with two comparisons for a value before the first or behind the last.
+/// The same, with at most two comparisons for a value before the first or after the last.
 pub(crate) fn place_in_block(block: &[Value], value: &Value) -> Option<usize>
     requires { IsBlock block.now }
     ensures { IsPlaceOf (tree value.now) block.now result }

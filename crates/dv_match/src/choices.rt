@@ -12,8 +12,8 @@ use dv_order::compare;
 use dv_value::{List, NoMemory, Value};
 use std::marker::Model;
 
-/// The values of `$in`, `$nin` or `$all`, in written order. It also has copies in the order of values, each of several equal ones
-/// once, among which a value is looked up.
+/// The values of `$in`, `$nin` or `$all`, in written order. It also has copies in the order of values, only one of those that
+/// compare equal, in which a value is looked up.
 #[derive(Debug, Drop)]
 pub struct Choices {
     values: List,
@@ -54,7 +54,7 @@ impl Choices {
         &self.values
     }
 
-    /// Copies of the values in ascending order, and of those that compare equal one.
+    /// Copies of the values in ascending order, only one of those that compare equal.
     pub(crate) fn ascending(&self) -> &[Value]
         ensures { AreChoicesInOrder self.now result.now }
     {

@@ -15,7 +15,7 @@ pub enum FilterFault {
     UnknownOperator,
     /// A value that the operator before it doesn't take.
     BadOperand,
-    /// `$and`, `$or` or `$nor` of no filter.
+    /// `$and`, `$or` or `$nor` of an empty array.
     EmptyList,
     /// A name that is no path: a component is empty or holds a zero byte.
     BadPath,

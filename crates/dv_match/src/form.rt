@@ -33,7 +33,7 @@ pub enum Condition {
     Eq(Value),
     /// `$ne`: no leaf compares equal to the value.
     Ne(Value),
-    /// `$gt`, `$gte`, `$lt`, `$lte`: some leaf is of the value's class and compares so to it.
+    /// `$gt`, `$gte`, `$lt`, `$lte`: some leaf is of the value's class and compares to it as the range says.
     Bound(Range, Value),
     /// `$in`: some leaf compares equal to one of the values.
     In(Choices),
@@ -41,11 +41,11 @@ pub enum Condition {
     Nin(Choices),
     /// `$not`: not all conditions are met.
     Not(Conditions),
-    /// `$all`: there are values, and to each some leaf compares equal.
+    /// `$all`: there are values, and each of them compares equal to some leaf.
     All(Choices),
     /// `$exists`: whether some candidate isn't missing.
     Exists(bool),
-    /// `$size`: some candidate is an array of so many elements.
+    /// `$size`: some candidate is an array with this number of elements.
     Size(u64),
     /// `$elemMatch`: some candidate is an array with an element that passes.
     ElemMatch(Test),

@@ -1,4 +1,4 @@
-//! What holds of filters and of the documents that match them, each the contract of a function that does nothing.
+//! What holds of filters and of the documents that match them. Each law is the contract of a function that does nothing.
 
 ghost use Rattle.std.specs.Prelude.{◌≡◌, ℕ, not, true, false, List, [], ◌∷◌, codes, Ok, Err};
 ghost use Rattle.dv_value.specs.Tree.{Tree, Field, boolean, fields_of, null};
@@ -13,7 +13,7 @@ ghost use Rattle.dv_match.specs.Filter.{Members, no_members, none_of, no_filters
 ghost use Rattle.dv_match.specs.Laws.{MeetsNoArray, is_in_both, two_bounds, value_at_end};
 ghost use Rattle.dv_match.specs.Match.{matches, matches_member, meets, meets_all};
 
-/// `$ne`, `$nin` and `$not` are what they deny.
+/// `$ne`, `$nin` and `$not` match exactly what the operators that they deny do not match.
 #[tactic(auto, unfolding(crate::specs::Match::meets))]
 pub fn denials()
     ensures ne { (v : Tree) (wholes parts : List Candidate) → meets (unequal v) wholes parts ≡ not (meets (equal v) wholes parts) }
@@ -21,14 +21,14 @@ pub fn denials()
     ensures negated { (cs : Conditions) (wholes parts : List Candidate) → meets (unmet cs) wholes parts ≡ not (meets_all cs wholes parts) }
 {}
 
-/// `$in` of one member is `$eq`, and of none it matches nothing.
+/// `$in` of one value is `$eq`, and `$in` of no values matches nothing.
 #[tactic(auto, using(crate::proofs::Few::among_one, crate::proofs::Few::among_none))]
 pub fn in_of_few()
     ensures one { (v : Tree) (wholes parts : List Candidate) → meets (among (v ∷ [])) wholes parts ≡ meets (equal v) wholes parts }
     ensures none { (wholes parts : List Candidate) → meets (among []) wholes parts ≡ false }
 {}
 
-/// `$nor` of one filter is not that filter.
+/// `$nor` of one filter matches exactly what that filter does not match.
 #[tactic(auto, using(crate::proofs::Few::nor_one))]
 pub fn nor_of_one()
     ensures { (f : Members) (d : List Field) → matches_member (none_of (more_filters f no_filters)) d ≡ not (matches f d) }
@@ -51,7 +51,7 @@ pub fn bounds_without_arrays()
     ensures { (path : List (List ℕ)) (d : List Field) → MeetsNoArray path d → (r s : Range) (v w : Tree) → meets_all (two_bounds r v s w) (whole d path) (leaves d path) ≡ is_in_both r v s w (value_at_end path d) }
 {}
 
-/// On an array they aren't: each bound may be met by another element.
+/// On an array two bounds are no interval: each bound may be met by another element.
 #[tactic(auto, using(crate::proofs::Few::bounds_apart))]
 pub fn bounds_on_an_array()
     ensures { answer (one (codes "a") (doc ((codes "$gt", int 1) ∷ (codes "$lt", int 3) ∷ []))) (one (codes "a") (list (int 0 ∷ int 5 ∷ []))) ≡ Ok true }

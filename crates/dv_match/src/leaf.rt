@@ -1,4 +1,4 @@
-//! What is asked of one candidate.
+//! What is checked of one candidate.
 
 ghost use Rattle.std.specs.Prelude.{◌≡◌, is_some};
 ghost use Rattle.dv_value.specs.View.{tree};
@@ -21,7 +21,7 @@ pub(crate) fn is_equal(candidate: Candidate<'_>, value: &Value) -> bool
     }
 }
 
-/// Whether the candidate is of the bound's class and stands so to it.
+/// Whether the candidate is of the bound's class and is in the range.
 pub(crate) fn is_in_range(candidate: Candidate<'_>, range: Range, bound: &Value) -> bool
     ensures { result ≡ defined.is_in_range range (tree bound.now) (seen candidate.entry) }
 {
@@ -62,7 +62,7 @@ pub(crate) fn is_found(candidate: Candidate<'_>) -> bool
     matches!(candidate, Candidate::Found(_))
 }
 
-/// Whether the candidate is an array of so many elements.
+/// Whether the candidate is an array with this number of elements.
 pub(crate) fn has_size(candidate: Candidate<'_>, size: u64) -> bool
     ensures { result ≡ defined.has_size size (seen candidate.entry) }
 {

@@ -1,5 +1,5 @@
-//! Values that candidates are compared with together, each marked to which one is equal. So few of many values are looked at for
-//! a candidate, without memory.
+//! Values that candidates are compared with together. Each value to which a candidate is equal is marked. So a candidate is
+//! compared with few of many values, without memory.
 
 ghost use Rattle.std.specs.Prelude.{◌≡◌, ◌==◌, ◌||◌, ◌∷◌, [], ℕ, ◌<◌, ◌≤◌, MatchBool, Some, false, map, true};
 ghost use Rattle.std.specs.List.{list_all};
@@ -18,14 +18,14 @@ use dv_value::{Document, List, Value};
 /// How many values are in a block at most: a bit for each.
 const BLOCK: usize = 128;
 
-/// The values of a block to which candidates are equal that were looked at: a bit for each place, from the lowest on.
+/// The values of a block to which a checked candidate is equal: a bit for each place, from the lowest on.
 #[derive(Clone, Copy)]
 struct Marks {
     bits: u128,
 }
 
 impl Marks {
-    /// Nothing was looked at.
+    /// Nothing was checked.
     const NONE: Marks = Marks { bits: 0 };
 
     /// Whether the value at the place has a mark.
@@ -36,7 +36,7 @@ impl Marks {
         self.bits >> place & 1 == 1
     }
 
-    /// Whether each of the first values has one, so many of them.
+    /// Whether each of the first `count` values has a mark.
     fn are_on_first(self, count: usize) -> bool
         requires { count ≤ 128 }
         ensures { MatchBool result ((k : ℕ) → k < count → has self k ≡ true) ((k : ℕ) × (k < count) × (has self k ≡ false)) }
@@ -49,7 +49,7 @@ impl Marks {
         true
     }
 
-    /// These, and one for the value at the place.
+    /// These marks, and one for the value at the place.
     fn with(self, place: usize) -> Self
         requires { place < 128 }
         ensures { (k : ℕ) → has result k ≡ (has self k || k == place) }
@@ -59,7 +59,7 @@ impl Marks {
         }
     }
 
-    /// These, and one for the value of the block that compares equal to this one.
+    /// These marks, and one for the value of the block that compares equal to this one.
     fn with_value(self, block: &[Value], value: &Value) -> Self
         requires { IsBlock block.now }
         ensures { Marked block.now (Some (tree value.now) ∷ []) self result }
@@ -70,7 +70,7 @@ impl Marks {
         }
     }
 
-    /// These, and one for the value of the block that a candidate compares equal to.
+    /// These marks, and one for the value of the block that a candidate compares equal to.
     fn with_candidate(self, block: &[Value], candidate: Candidate<'_>) -> Self
         requires { IsBlock block.now }
         ensures { Marked block.now (seen candidate.entry ∷ []) self result }
@@ -81,7 +81,7 @@ impl Marks {
         }
     }
 
-    /// These, and those for a candidate and its elements, where it is an array.
+    /// These marks, and those for a candidate and, if it is an array, its elements.
     fn with_elements(self, block: &[Value], candidate: Candidate<'_>) -> Self
         requires { IsBlock block.now }
         ensures { Marked block.now (with_elements (seen candidate.entry)) self result }
@@ -108,8 +108,8 @@ impl Marks {
     }
 }
 
-/// Whether some leaf compares equal to each of the values, which ascend. Looks at the leaves once for each 128 of them, and
-/// compares most leaves with two of these.
+/// Whether each of the values, which ascend, compares equal to some leaf. Checks the leaves once for each 128 values, and compares
+/// most leaves with two values.
 pub(crate) fn have_equals(place: Subject<'_>, values: &[Value]) -> bool
     requires { Ascend values.now }
     ensures { result ≡ list_all (has_equal (parts place.entry)) values.now }
@@ -137,7 +137,7 @@ fn marks_of(place: Subject<'_>, block: &[Value]) -> Marks
     }
 }
 
-/// Those for the leaves of a path.
+/// The marks for the leaves of a path.
 fn marks_along(document: &Document, path: &Path, block: &[Value]) -> Marks
     requires { IsBlock block.now }
     ensures { Marked block.now (leaves document.now path.now) no_marks result }

@@ -22,7 +22,7 @@ const FEW: usize = 8;
 
 impl Filter {
     /// Whether the document matches: all the filter's members match. Takes no memory, and stops as soon as the answer is
-    /// known; for more than eight values of `$all` all leaves are looked at, once for each 128 of them.
+    /// known; for more than eight values of `$all` all leaves are checked, once for each 128 of these values.
     #[cycle(matching)]
     pub fn matches(&self, document: &Document) -> bool
         ensures { result ≡ defined.matches self.now document.now }
@@ -175,7 +175,7 @@ fn has_among(place: Subject<'_>, choices: &Choices) -> bool
     any_part(place, |candidate| is_among(candidate, choices))
 }
 
-/// Whether there are values, and to each some leaf compares equal.
+/// Whether there are values, and each of them compares equal to some leaf.
 fn has_every(place: Subject<'_>, choices: &Choices) -> bool
     ensures { result ≡ defined.holds_every choices.now (parts place.entry) }
 {
@@ -187,7 +187,7 @@ fn has_every(place: Subject<'_>, choices: &Choices) -> bool
     }
 }
 
-/// The same, looking at the leaves for one value after the other.
+/// The same, checking the leaves for one value after the other.
 fn has_each(place: Subject<'_>, values: &List) -> bool
     ensures { result ≡ defined.holds_every values.now (parts place.entry) }
 {
@@ -200,7 +200,7 @@ fn has_each(place: Subject<'_>, values: &List) -> bool
     !members.is_empty()
 }
 
-/// Whether some leaf is of the bound's class and stands so to it.
+/// Whether some leaf is of the bound's class and is in the range.
 fn has_in_range(place: Subject<'_>, range: Range, bound: &Value) -> bool
     ensures { result ≡ list_any (defined.is_in_range range (tree bound.now)) (parts place.entry) }
 {
@@ -214,7 +214,7 @@ fn has_any(place: Subject<'_>) -> bool
     any_candidate(place, |candidate| is_found(candidate))
 }
 
-/// Whether some candidate is an array of so many elements.
+/// Whether some candidate is an array with this number of elements.
 fn has_sized(place: Subject<'_>, size: u64) -> bool
     ensures { result ≡ list_any (defined.has_size size) (wholes place.entry) }
 {

@@ -93,7 +93,7 @@ pub(crate) fn truth_of(value: &Value) -> Result<bool, FilterFault>
     }
 }
 
-/// A number from 0.
+/// A number that isn't negative.
 pub(crate) fn size_of(value: &Value) -> Result<u64, FilterFault>
     ensures { result ≡ defined.size_in (tree value.now) }
 {

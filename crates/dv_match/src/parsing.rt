@@ -38,9 +38,9 @@ impl Filter {
 }
 
 impl Test {
-    /// What `$elemMatch` asks of an element: the document's operators, if its first name begins with `$` and isn't `$and`, `$or` or
-    /// `$nor`, and else the filter that the document is; or the first fault in written order. Fails with `NoMemory` when memory
-    /// runs out.
+    /// What `$elemMatch` requires of an element: the document's operators, if its first name begins with `$` and isn't `$and`,
+    /// `$or` or `$nor`, otherwise the filter that the document is; or the first fault in written order. Fails with `NoMemory` when
+    /// memory runs out.
     #[cycle(parsing)]
     #[tactic(auto, unfolding(crate::specs::Parsing::test_in))]
     pub fn parse(alloc: Global, document: &Document) -> Result<Test, FilterFault>
@@ -111,7 +111,7 @@ fn filter_of(alloc: Global, value: &Value) -> Result<Filter, FilterFault>
     }
 }
 
-/// What stands under a path.
+/// The conditions under a path.
 #[cycle(parsing)]
 #[tactic(auto, unfolding(crate::specs::Parsing::conditions_in))]
 fn conditions_of(alloc: Global, value: &Value) -> Result<Conditions, FilterFault>

@@ -1,4 +1,4 @@
-//! Where conditions are asked.
+//! What conditions are checked on.
 
 ghost use Rattle.std.specs.Prelude.{◌≡◌, Bool};
 ghost use Rattle.std.specs.List.{list_any};
@@ -11,7 +11,7 @@ ghost use Rattle.dv_match.specs.Inner.Asked.{wholes, parts};
 use dv_candidates::{Candidate, Path, any_leaf, any_whole, any_with_elements, sole_candidate};
 use dv_value::{Document, Value};
 
-/// What conditions are asked of.
+/// What conditions are checked on.
 #[derive(Clone, Copy)]
 pub(crate) enum Subject<'a> {
     /// What the path leads to in the document.
@@ -23,7 +23,7 @@ pub(crate) enum Subject<'a> {
 }
 
 impl<'a> Subject<'a> {
-    /// What the path leads to in the document, looked up once for all conditions where no array stands on the way.
+    /// What the path leads to in the document, looked up once for all conditions if there is no array on the way.
     pub(crate) fn of(document: &'a Document, path: &'a Path) -> Self
         ensures wholes { wholes result ≡ whole document.now path.now }
         ensures parts { parts result ≡ leaves document.now path.now }

@@ -18,7 +18,7 @@ two_appended old a b one two is_one is_two = is_two ∙ ap (λ (x : List ℕ). x
 pub three_appended : (old a b c one two three : List ℕ) → one ≡ old ++ a → two ≡ one ++ b → three ≡ two ++ c → three ≡ old ++ ((a ++ b) ++ c)
 three_appended old a b c one two three is_one is_two is_three = two_appended old (a ++ b) c two three (two_appended old a b one two is_one is_two) is_three
 
--- what grew behind a part grew
+-- two parts that are appended one after the other are one appended part
 pub grown : (old first mid new : List ℕ) → mid ≡ old ++ first → (part : List ℕ) × (new ≡ mid ++ part) → (part : List ℕ) × (new ≡ old ++ part)
 grown old first mid new is (part, grew) = (first ++ part, two_appended old first part mid new is grew)
 
@@ -33,7 +33,7 @@ longer old bytes new is = ap length is ∙ length-append old bytes
 
 -- ---- a length that is put in
 
--- of a document that is closed by a zero
+-- the length of a document that is closed by a zero
 measured : (old : List ℕ) (start : ℕ) → start + 4 ≤ length old →
     let all = old ++ 0 ∷ [] in
     take start all ++ (to_le_bytes w32 (length all - start) ++ drop (start + 4) all) ≡ take start old ++ framed (drop (start + 4) old)
@@ -44,13 +44,13 @@ measured old start room =
     let long : length (old ++ 0 ∷ []) - start ≡ length (drop (start + 4) old) + 5 = omega (arith, length-append old (0 ∷ []), length-drop (start + 4) old) in
     λ i. front i ++ (to_le_bytes w32 (long i) ++ back i)
 
--- the same, as a vector's length and its items say it
+-- the same, in terms of a vector's length and items
 pub closing : (old all put : List ℕ) (start len : ℕ) → start + 4 ≤ length old → all ≡ old ++ 0 ∷ [] → len ≡ length all → put ≡ take start all ++ (to_le_bytes w32 (length all - start) ++ drop (start + 4) all) → length put ≡ length all
     → take len (put ++ drop (length put) all) ≡ take start old ++ framed (drop (start + 4) old)
 closing old all put start len room is_all is_len is_put same =
     take_at put (drop (length put) all) len (same ∙ sym is_len) ∙ is_put ∙ ap (λ (x : List ℕ). take start x ++ (to_le_bytes w32 (length x - start) ++ drop (start + 4) x)) is_all ∙ measured old start room
 
--- a document behind what was there, with four bytes in front of its elements
+-- a document after the old bytes, with four bytes before its elements
 closed : (old left elements all : List ℕ) (start : ℕ) → all ≡ old ++ (left ++ elements) → start ≡ length old → length left ≡ 4 → take start all ++ framed (drop (start + 4) all) ≡ old ++ framed elements
 closed old left elements all start is_all is_start four =
     let front : take start (old ++ (left ++ elements)) ≡ old = take_at old (left ++ elements) start (sym is_start) in
@@ -137,7 +137,7 @@ batch_closed name namespace id rows old one two three start is_start is_one is_t
     let all = three_appended old (0 ∷ 0 ∷ 0 ∷ 0 ∷ 3 ∷ 99 ∷ 117 ∷ 114 ∷ 115 ∷ 111 ∷ 114 ∷ 0 ∷ []) cursor ok one two three is_one is_two is_three in
     closed old (0 ∷ 0 ∷ 0 ∷ 0 ∷ []) (3 ∷ 99 ∷ 117 ∷ 114 ∷ 115 ∷ 111 ∷ 114 ∷ 0 ∷ (cursor ++ ok)) three start all is_start refl ∙ ap (λ (bytes : List ℕ). old ++ bytes) (batch-fields name namespace id rows)
 
--- how long it is, as a vector's length shows it
+-- the length of the reply, in terms of a vector's length
 pub batch-within : (name namespace : List ℕ) (id : ℕ) (rows : List (List Field)) (old new : List ℕ) (start len : ℕ) → start ≡ length old → len ≡ length new → new ≡ old ++ batch_spelling name namespace id rows → len ≤ start + 2147483647
     → length (batch_spelling name namespace id rows) + 21 < 2 ^ 32
 batch-within name namespace id rows old new start len is_start is_len is within = omega (arith, ap length is, length-append old (batch_spelling name namespace id rows))

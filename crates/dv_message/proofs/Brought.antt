@@ -1,4 +1,4 @@
--- What sections bring, one after the other.
+-- What sections contain, one after the other.
 use Rattle.std.proofs.Common.{◌≡◌, ℕ, List, [], ◌∷◌, ◌++◌, ◌⊎◌, map, take, Result, Ok, Err, refl, sym, ap, ◌∙◌, inl, inr}
 use Rattle.std.proofs.lemmas.List.{map-append}
 use Rattle.dv_value.specs.declared.fault.BsonFault.{BsonFault}
@@ -35,7 +35,7 @@ lists_past [] fields = refl
 lists_past (read_body other ∷ brought) fields = lists_past brought fields
 lists_past (read_list n ds ∷ brought) fields = ap (λ (ls : List (List ℕ × List (List Field))). (n, ds) ∷ ls) (lists_past brought fields)
 
--- these sections are read, and bring this body and these lists
+-- these sections are read, and contain this body and these lists
 pub record AreRead (sections : List Section) (fields : List Field) (lists : List (List ℕ × List (List Field))) : Type 0 where
   pub brought : List SectionRead
   pub read : each_read section_read sections ≡ Ok brought
@@ -134,7 +134,7 @@ is_named sections name named_so fields lists e = named_all (each_read section_re
 
 -- ---- what is kept of lists
 
--- these sections are read, and of their lists it is kept what the command of this name needs
+-- these sections are read, and of their lists what the command of this name needs is kept
 pub record AreKept (command : List ℕ) (sections : List Section) (fields : List Field) (kept : CommandLists) : Type 0 where
   pub lists : CommandLists
   pub read : AreRead sections fields lists

@@ -39,7 +39,7 @@ closed_by_zero last at seen all false is e = absurd (no_end (kind_at last at) al
 closed_shows : (last at : ℕ) (seen all : List Field) → closed_by last at seen ≡ Ok all → (last ≡ 0) × (seen ≡ all)
 closed_shows last at seen all e = closed_by_zero last at seen all (eqb last 0) refl e
 
--- fields that were seen stay in front
+-- fields that were read stay the first ones
 fields_begin : (inside : Inside) (steps : ℕ) (in_array : Bool) (at : ℕ) (seen : List Field) (bytes : List ℕ) (last : ℕ) (all : List Field) → fields_at inside steps in_array at seen bytes last ≡ Ok all → (more : List Field) × (seen ++ more ≡ all)
 unfolding fields_at
 fields_begin inside zero in_array at seen [] last all e = ([], append-nil seen ∙ (closed_shows last at seen all e).1)
@@ -85,7 +85,7 @@ name_shows : (bytes : List ℕ) (cut : List ℕ × List ℕ) → name_at false [
 unfolding name_at
 name_shows bytes cut e = named_shows bytes (cut_at_zero bytes) cut refl e
 
--- there is no field, or its name is shown
+-- there is no field, or the bytes show its name
 first_shows : (inside : Inside) (steps at : ℕ) (bytes : List ℕ) (last : ℕ) (all : List Field) → fields_at inside steps false at [] bytes last ≡ Ok all → ((bytes ≡ []) × (last ≡ 0) × ([] ≡ all)) ⊎ IsShown bytes all
 unfolding fields_at
 first_shows inside zero at [] last all e = let closed = closed_shows last at [] all e in inl (refl, closed.0, closed.1)
@@ -133,7 +133,7 @@ document_shows bytes all e =
     let (n, framed) = outermost_shows (count_at bytes) bytes read.given read.first_is in
     (n, subst (IsFramed bytes n) same framed)
 
--- what a list begins with of which the first are these
+-- how a list begins whose first items are these
 taken_first : (m : ℕ) (xs : List ℕ) (y : ℕ) (ys : List ℕ) → take m xs ≡ y ∷ ys → (k : ℕ) × (rest : List ℕ) × (xs ≡ y ∷ rest) × (take k rest ≡ ys)
 taken_first zero xs y ys e = absurd cc
 taken_first (suc m) [] y ys e = absurd cc
@@ -148,7 +148,8 @@ cut_longer k bytes name rest e =
     let whole : bytes ≡ name ++ 0 ∷ (rest ++ drop k bytes) = sym (take-append-drop k bytes) ∙ ap (λ (front : List ℕ). front ++ drop k bytes) parts.0 ∙ append_assoc name (0 ∷ rest) (drop k bytes) in
     ap cut_at_zero whole ∙ cut_found name (rest ++ drop k bytes) parts.1
 
--- behind the length of a document stands the zero that closes it; or the type and the name of its first field
+-- after the length of a document come the type and the name of its first field; if it has no fields, the zero that closes it comes
+-- instead
 pub record Begins (bytes : List ℕ) (all : List Field) : Type 0 where
   pub long : 5 < length bytes
   pub some_kind : eqb (slice_index bytes 4) 0 ≡ false
@@ -185,7 +186,7 @@ begins bytes all e =
     let frame = frame_of n bytes in
     begins_by bytes n all framed.least framed.most (first_shows (body_at 99) (length frame.elements) 4 frame.elements frame.last all framed.inside)
 
--- ---- as the code looks at them
+-- ---- as the code reads them
 
 no_name_by : (bytes : List ℕ) (all : List Field) → (length bytes < 6) ⊎ (slice_index bytes 4 ≡ 0) → ((slice_index bytes 4 ≡ 0) × ([] ≡ all)) ⊎ Begins bytes all → [] ≡ command_name all
 no_name_by bytes all shown (inl (closed, empty)) = ap command_name empty
@@ -205,7 +206,7 @@ some_name bytes all typed e = some_name_by bytes all typed (begins bytes all e)
 none_is : {A : Type 0} (x : A) → None ≡ Some x → ⊥
 none_is x e = cc
 
--- the bytes behind the type, as the code cuts them off
+-- the bytes after the type, as the code cuts them off
 module _ (bytes behind : List ℕ) (all : List Field) (is : behind ≡ drop 5 bytes) (typed : slice_index bytes 4 ≡ 0 → ⊥) (read : fields_in bytes ≡ Ok all) where
   shown : Begins bytes all
   shown = some_name bytes all typed read

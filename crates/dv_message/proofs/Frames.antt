@@ -40,7 +40,7 @@ frame_shows bytes frame rest e =
 pub frames_advance : Advances section_frame
 frames_advance = record { shorter = λ bytes frame rest e. let f = frame_shows bytes frame rest e in omega (arith, f.least, f.most, ap length f.rest_is, length-drop (number_after 0 bytes) bytes) }
 
--- a frame is at the front, and has the length that it says
+-- a frame is the first bytes, and has the length that they say
 pub frame_parts : (bytes frame rest : List ℕ) → section_frame bytes ≡ Some (frame, rest) → (bytes ≡ frame ++ rest) × (5 ≤ length frame) × (number_after 0 frame ≡ length frame)
 frame_parts bytes frame rest e =
     let f = frame_shows bytes frame rest e in
@@ -124,7 +124,7 @@ behind_size bytes = refl
 documents_spelled : (bytes : List ℕ) (documents : List (List ℕ)) → IsBytes bytes → section_documents bytes ≡ Some documents → (bytes ≡ row_spelling documents) × (list_all is_framed documents ≡ true)
 documents_spelled = row_spelled section_frame (λ d. d) is_framed frames_advance frames_spelled
 
--- what stands under a name
+-- the documents under a name
 under_spelled : (name bytes : List ℕ) (found : Option (List (List ℕ))) (section : Section) → section_documents bytes ≡ found → IsBytes bytes → has_zero name ≡ false → section_under name found ≡ Some section
     → (section_spelling section ≡ 1 ∷ sized (name ++ 0 ∷ bytes)) × (is_section section ≡ true)
 under_spelled name bytes None section is h no_zero e = absurd cc

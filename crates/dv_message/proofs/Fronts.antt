@@ -10,7 +10,7 @@ abbrev pub chain : (b1 b2 b3 b4 b5 b6 b7 b8 : Bool) → StreamFront → StreamFr
 chain b1 b2 b3 b4 b5 b6 b7 b8 shown =
     cond b1 unfinished (cond b2 (closing BadLength) (cond b3 unfinished (cond b4 (closing BadOpCode) (cond b5 unfinished (cond b6 (closing Checksum) (cond b7 (closing BadFlag) (cond b8 unfinished shown)))))))
 
--- none of the tests ends them
+-- none of the tests is met
 pub record AllFail (b1 b2 b3 b4 b5 b6 b7 b8 : Bool) : Type 0 where
   pub four : b1 ≡ false
   pub limits : b2 ≡ false

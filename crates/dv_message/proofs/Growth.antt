@@ -1,4 +1,4 @@
--- What the front of a stream shows stays where more bytes come.
+-- What the front of a stream shows stays the same if more bytes follow.
 use Rattle.std.proofs.Common.{◌≡◌, ℕ, zero, suc, ◌≤◌, ◌<◌, ◌⊎◌, Bool, true, false, ◌||◌, not, cond, ltb, eqb, List, ◌++◌, length, take, drop, Option, Some, None, refl, sym, ap, subst, ◌∙◌, arith, inl, inr}
 use Rattle.std.proofs.lemmas.Bool.{cases_Bool, ltb-false, le-ltb}
 use Rattle.std.proofs.lemmas.List.{length-append, drop-append-le, take-append-le}
@@ -36,7 +36,7 @@ sections_stay : (id id' flags flags' : ℕ) (read read' : Option (List Section))
 sections_stay id id' flags flags' None read' r r' more same_id same_flags same_read same_rest = inr (rw same_read refl)
 sections_stay id id' flags flags' (Some sections) read' r r' more same_id same_flags same_read same_rest = inr (rw (same_id, same_flags, same_read, same_rest) refl)
 
--- what is shown behind the flags
+-- what is shown after the flags
 abbrev shown_by : ℕ → List ℕ → StreamFront
 shown_by n bytes =
     cond (ltb (length bytes) n) unfinished (front_by (number_after 4 bytes) (number_after 16 bytes) (sections_in (drop 20 (take n bytes))) (drop n bytes))

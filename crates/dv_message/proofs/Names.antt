@@ -68,7 +68,7 @@ module _ (name : List ℕ) (k : Bor (List ℕ)) where
   kept_inserted [] = refl
   kept_inserted (x ∷ kept) = inserted_by x kept (slice_cmp nat_cmp k.now x.now) refl (kept_inserted kept)
 
--- ---- names apart
+-- ---- distinct names
 
 apart_last : (names : List (List ℕ)) (name : List ℕ) → are_distinct names ≡ true → list_any (bytes_eq name) names ≡ false → are_distinct (names ++ name ∷ []) ≡ true
 apart_last [] name apart none = refl
@@ -97,7 +97,7 @@ names_among-append (named name documents ∷ one) two = ap (λ (ns : List (List 
 
 -- ---- as far as a loop has come
 
--- the names so far are apart, and are those that are kept
+-- the names so far are distinct, and are those that are kept
 pub record AreKept (sections : List Section) (kept : List (Bor (List ℕ))) : Type 0 where
   pub apart : are_distinct (names_among sections) ≡ true
   pub same : (name : List ℕ) → is_kept name kept ≡ list_any (bytes_eq name) (names_among sections)

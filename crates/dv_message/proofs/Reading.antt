@@ -9,7 +9,7 @@ use Rattle.dv_value.specs.Results.{◌>>=◌}
 use Rattle.dv_message.specs.Commands.{fields_in, each_read}
 use Rattle.dv_message.specs.Inner.CommandsView.{front_read}
 
--- what comes of a reader whose results are read on
+-- the result for the first item, and the results for the others
 pub record Reads {A B : Type 0} (f : A → Result B BsonFault) (x : A) (xs : List A) (all : List B) : Type 0 where
   pub first : B
   pub others : List B
@@ -35,7 +35,7 @@ read_last {B = B} f (z ∷ xs) x ys y e is =
     let done : List B → Result (List B) BsonFault = (λ all. Ok (all ++ y ∷ [])) in
     grown ∙ ap done r.both
 
--- all but the last, and the last
+-- the results for all items but the last, and for the last
 pub record ReadsLast {A B : Type 0} (f : A → Result B BsonFault) (xs : List A) (x : A) (all : List B) : Type 0 where
   pub before : List B
   pub last : B
@@ -99,7 +99,7 @@ checked_is bytes fields len e = ap (λ (read : Result (List Field × ℕ) BsonFa
 
 -- ---- as far as a walk has come
 
--- the documents in front of the rest are read, and the first of what they are is kept
+-- the documents before the rest are read, and the first of the results are kept
 pub record KeepsFront (most : ℕ) (all rest : List (List ℕ)) (kept : List (List Field)) : Type 0 where
   pub passed : List (List ℕ)
   pub read : List (List Field)

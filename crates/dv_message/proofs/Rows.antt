@@ -1,4 +1,4 @@
--- What stands in a row, one behind the other.
+-- Items one after the other.
 use Rattle.std.proofs.Common.{◌≡◌, ℕ, zero, suc, ◌^◌, ◌<◌, ◌≤◌, Bool, true, List, [], ◌∷◌, ◌++◌, length, map, Option, Some, None, refl, sym, ap, subst, ◌∙◌, append_assoc, arith}
 use Rattle.std.specs.List.{list_all, flat_map}
 use Rattle.std.proofs.lemmas.Bool.{and_parts}
@@ -7,7 +7,7 @@ use Rattle.dv_value.specs.Spelling.{IsBytes}
 use Rattle.dv_message.specs.Sections.{onto, row_from, row_within, each_in}
 use Rattle.dv_message.proofs.Bytes.{IsBytes-behind}
 
--- what is found at a front takes up a byte at least
+-- an item that is found at the front takes at least one byte
 pub record Advances {A : Type 0} (at_front : List ℕ → Option (A × List ℕ)) : Type 0 where
   pub shorter : (bytes : List ℕ) (x : A) (rest : List ℕ) → at_front bytes ≡ Some (x, rest) → length rest < length bytes
 
@@ -15,7 +15,7 @@ same_from : {A : Type 0} (found : Option (A × List ℕ)) (F G : List ℕ → Op
 same_from None F G same = refl
 same_from (Some (x, rest)) F G same = ap (onto x) (same x rest refl)
 
--- these in front of the others
+-- these items before the others
 abbrev pub before : {A : Type 0} → List A → Option (List A) → Option (List A)
 before xs None = None
 before xs (Some ys) = Some (xs ++ ys)
@@ -38,7 +38,7 @@ module _ {A : Type 0} (at_front : List ℕ → Option (A × List ℕ)) where
   unfolding each_in
   row_nothing = within_nothing 0
 
-  -- these were found, and then comes what the rest is
+  -- these items were found, and those of the rest follow
   pub record Comes (all : List ℕ) (found : List A) (rest : List ℕ) : Type 0 where
     pub by : each_in at_front all ≡ before found (each_in at_front rest)
 
@@ -86,7 +86,8 @@ module _ {A : Type 0} (at_front : List ℕ → Option (A × List ℕ)) where
     fails all found [] comes e some = absurd (omega arith)
     fails all found (b ∷ rest) comes e some = comes.by ∙ ap (before found) (row_nowhere b rest e)
 
--- what is found at a front is spelled there and passes the test; and what passes it and is spelled there, if its length is a number of 32 bits, is found
+-- an item that is found at the front is encoded there and passes the test; and one that passes it and is encoded there, with a
+-- length that is a number of 32 bits, is found
 pub record IsSpelledBy {A : Type 0} (at_front : List ℕ → Option (A × List ℕ)) (spell : A → List ℕ) (test : A → Bool) : Type 0 where
   pub spelled : (bytes : List ℕ) (x : A) (rest : List ℕ) → IsBytes bytes → at_front bytes ≡ Some (x, rest) → (bytes ≡ spell x ++ rest) × (test x ≡ true)
   pub found : (x : A) (rest : List ℕ) → test x ≡ true → length (spell x) < 2 ^ 32 → at_front (spell x ++ rest) ≡ Some (x, rest)

@@ -1,4 +1,4 @@
--- A whole message at the front of a stream is spelled there.
+-- A whole message at the front of a stream is encoded there.
 use Rattle.std.proofs.Common.{◌≡◌, ℕ, ◌+◌, ◌≤◌, ◌<◌, ◌^◌, Bool, false, ◌||◌, not, ltb, eqb, List, ◌++◌, length, take, drop, Option, Some, refl, sym, ap, ◌∙◌, arith}
 use Rattle.std.specs.Int.{w32, to_le_bytes}
 use Rattle.std.proofs.lemmas.Bool.{le-ltb, or_from, eq-eqb, not_from_true}
@@ -63,7 +63,7 @@ front_spelled bytes following message h e =
       parts,
     )
 
--- ---- and what is spelled at the front is found there
+-- ---- and what is encoded at the front is found there
 
 spelling-length : (id response_to flags : ℕ) (tail : List ℕ) → length (message_spelling id response_to flags tail) ≡ length tail + 20
 unfolding message_spelling

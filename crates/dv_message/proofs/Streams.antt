@@ -6,7 +6,7 @@ use Rattle.dv_message.specs.Sections.{number_after}
 use Rattle.dv_message.specs.Message.{Message, StreamFront, unfinished, closing, whole, stream_front, reading, closed, Split, split_behind, split_from, split_within, split}
 use Rattle.dv_message.proofs.Fronts.{front_shows}
 
--- what follows a message is the end of the bytes
+-- what follows a message is the last part of the bytes
 pub behind_message : (bytes : List ℕ) (message : Message) (following : List ℕ) → stream_front bytes ≡ whole message following → (taken : List ℕ) × (bytes ≡ taken ++ following) × (length following < length bytes)
 behind_message bytes message following e =
     let f = front_shows bytes message following e in

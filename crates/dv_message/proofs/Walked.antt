@@ -41,7 +41,7 @@ unfolding frames_in frames_within
 frames_none [] e = refl
 frames_none (b ∷ bytes) e = ap (λ (front : Option (List ℕ × List ℕ)). frames_from front (frames_within (length bytes))) e
 
--- the documents that bytes are are those that they frame
+-- if bytes consist of documents, these are the ones that they frame
 frames_by : (steps : ℕ) (bytes : List ℕ) (documents : List (List ℕ)) (front : Option (List ℕ × List ℕ)) → length bytes ≤ steps → section_frame bytes ≡ front → section_documents bytes ≡ Some documents → documents ≡ frames_in bytes
 frames_by steps [] documents front le is e =
     let none : [] ≡ documents = (let found = sym (row_nothing section_frame) ∙ e in cc) in
@@ -56,7 +56,7 @@ frames_by (suc steps) (b ∷ bytes) documents (Some (frame, rest)) le is e =
 
 -- ---- as far as a walk has come
 
--- documents are in front of the rest
+-- these documents are before the rest
 pub record Passes (all rest : List ℕ) : Type 0 where
   pub found : List (List ℕ)
   pub comes : Comes section_frame all found rest

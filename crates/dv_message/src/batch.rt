@@ -17,7 +17,7 @@ use std::alloc::AllocError;
 /// The most bytes of a document.
 const LONGEST_DOCUMENT: usize = 2_147_483_647;
 
-/// The room that is made at once for a reply. One with more or larger rows takes more as it is written.
+/// The bytes that are reserved at once for a reply. One with more or larger rows takes more as it is written.
 const ROOM: usize = 256;
 
 /// Appends a message whose body is the reply with a batch of rows, as the reply to the request `request_id`: the rows under `name`, the
@@ -36,7 +36,7 @@ pub fn append_batch(
     ensures err { OnErr result (out.new.items ≡ out.old.items) }
 {
     let start = out.len();
-    // Where there is no such room, the parts take what they need.
+    // If there is no memory for this, the parts take what they need.
     let _ = out.reserve(ROOM);
     let appended = append_unmeasured(request_id, name, namespace, id, rows, out);
     match appended {
@@ -46,7 +46,8 @@ pub fn append_batch(
     appended
 }
 
-/// Appends the same with 0 as the message's length. If memory runs out a part of it may be appended, as by all that follow here.
+/// Appends the same with 0 as the message's length. If memory runs out a part of it may be appended; this also holds for the
+/// functions below, unless they say otherwise.
 fn append_unmeasured(
     request_id: u32,
     name: &str,
@@ -126,7 +127,7 @@ fn append_rows(rows: &[Document], out: &mut Vec<u8>) -> Result<(), NoMemory>
     Ok(())
 }
 
-/// Appends a row behind the number of its place.
+/// Appends a row after the number of its place.
 fn append_row(place: usize, row: &Document, out: &mut Vec<u8>) -> Result<(), NoMemory>
     ensures ok { OnOk result (out.new.items ≡ out.old.items ++ row_spelling place row.now) }
     ensures err { OnErr result ((part : List ℕ) × (out.new.items ≡ out.old.items ++ part)) }
@@ -138,7 +139,7 @@ fn append_row(place: usize, row: &Document, out: &mut Vec<u8>) -> Result<(), NoM
     }
 }
 
-/// Appends what stands in front of a document in an array, its type and the number of its place.
+/// Appends what comes before a document in an array: its type and the number of its place.
 fn append_number(place: usize, out: &mut Vec<u8>) -> Result<(), NoMemory>
     ensures ok { OnOk result (out.new.items ≡ out.old.items ++ ((3 ∷ [] ++ decimal place) ++ 0 ∷ [])) }
     ensures err { OnErr result ((part : List ℕ) × (out.new.items ≡ out.old.items ++ part)) }
@@ -164,7 +165,7 @@ fn append_id(id: u64, namespace: &str, out: &mut Vec<u8>) -> Result<(), NoMemory
     append_three(&front, namespace.as_bytes(), b"\0", out)
 }
 
-/// The field of a cursor's id, and that of its namespace up to the text, which has so many bytes with the zero behind it.
+/// The field of a cursor's id, and the field of its namespace up to the text, which has `count` bytes with its closing zero.
 fn id_front(id: u64, count: u32) -> [u8; 20]
     ensures { result ≡ 18 ∷ 105 ∷ 100 ∷ 0 ∷ (to_le_bytes w64 id ++ 2 ∷ 110 ∷ 115 ∷ 0 ∷ to_le_bytes w32 count) }
 {
@@ -192,8 +193,8 @@ fn append_three(
     Ok(())
 }
 
-/// Ends the document that begins at `start`, where four bytes are left for its length. Fails where that is over 2,147,483,647
-/// bytes, and when memory runs out; then nothing is changed.
+/// Ends the document that begins at `start`, where four bytes are left for its length. Fails if the length would be over
+/// 2,147,483,647 bytes, and when memory runs out; then nothing is changed.
 fn close(out: &mut Vec<u8>, start: usize) -> Result<(), NoMemory>
     requires { start + 4 ≤ vec_len out.old }
     ensures ok { OnOk result (out.new.items ≡ take start out.old.items ++ framed (drop (start + 4) out.old.items)) }

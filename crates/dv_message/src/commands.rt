@@ -1,4 +1,4 @@
-//! The commands that messages bring.
+//! The commands in messages.
 
 ghost use Rattle.std.specs.Prelude.{◌≡◌, ◌⊎◌, ◌∷◌, [], List, map, Ok};
 ghost use Rattle.dv_value.specs.Tree.{Field};
@@ -19,10 +19,10 @@ use dv_command::{Command, DocumentList, DocumentLists, documents_needed};
 use dv_value::{BsonFault, Document, Str};
 use std::alloc::Global;
 
-/// The command that a message's sections bring, with no more of its lists than it needs, or the first fault in all of their
-/// documents; or that memory ran out while they were read. Documents of the given shapes share their names. The shapes of these
-/// documents are kept when it is time for others, each before what follows it is read. So after a large message no memory is left
-/// in use for what was made last.
+/// The command in a message's sections, with no more of its lists than it needs, or the first fault in all of their documents; or
+/// that memory ran out while they were read. Documents of the given shapes share their names. If it is time for other shapes, those
+/// of these documents are kept. Each is made before what follows its document is read, so the memory that is taken last for a large
+/// message does not stay in use.
 pub fn command_in(alloc: Global, sections: &[Section<'_>], shapes: &mut Shapes) -> Command
     ensures { (needed (brings.command_from (brings.read_in (map section_seen sections.now))) ≡ result) ⊎ (result ≡ Command.Invalid BsonFault.NoMemory) }
 {
@@ -56,7 +56,7 @@ fn read_sections(
     }
 }
 
-/// The same of a body alone.
+/// The same for a body alone.
 fn read_alone(alloc: Global, document: &[u8], shapes: &mut Shapes) -> Result<Read, BsonFault>
     ensures { ReadAs (λ read. Command.Sections read.body (map list_seen read.lists.items)) result (needed_read (brings.read_in (wire.body document.now ∷ []))) }
 {
@@ -67,7 +67,7 @@ fn read_alone(alloc: Global, document: &[u8], shapes: &mut Shapes) -> Result<Rea
     })
 }
 
-/// The same, whatever sections there are.
+/// The same for any sections.
 fn read_several(
     alloc: Global,
     sections: &[Section<'_>],
@@ -90,8 +90,7 @@ fn read_several(
     Ok(Read { body, lists })
 }
 
-/// The name of the command that the sections bring, if their documents can be read: it stands in front of the body, which
-/// may follow the lists.
+/// The name of the command in the sections, if their documents can be read: the first name in the body, which may follow the lists.
 fn command_name_in<'a>(sections: &'a [Section<'_>]) -> &'a str
     ensures { (body : List Field) (lists : CommandLists) → brings.read_in (map section_seen sections.now) ≡ Ok (body, lists) → result.now ≡ command_name body }
 {
@@ -105,11 +104,11 @@ fn command_name_in<'a>(sections: &'a [Section<'_>]) -> &'a str
     name
 }
 
-/// The name of the first field of the document that the bytes begin with, if it can be read; empty where it has no field.
+/// The name of the first field of the document that the bytes begin with, if it can be read; empty if it has no field.
 fn first_name_in(document: &[u8]) -> &str
     ensures { (fields : List Field) → brings.fields_in document.now ≡ Ok fields → result.now ≡ command_name fields }
 {
-    // Behind the length stands the type of the first field, or the zero that closes the document.
+    // After the length comes the type of the first field, or the zero that closes the document.
     if document.len() < 6 || document[4] == 0 {
         return "";
     }
@@ -122,7 +121,7 @@ fn first_name_in(document: &[u8]) -> &str
     }
 }
 
-/// Reads a body, and looks at its shape.
+/// Reads a body, and passes it to the shapes.
 fn read_body(alloc: Global, document: &[u8], shapes: &mut Shapes) -> Result<Document, BsonFault>
     ensures { ReadAs (λ read. read) result (brings.fields_in document.now) }
 {
@@ -131,7 +130,7 @@ fn read_body(alloc: Global, document: &[u8], shapes: &mut Shapes) -> Result<Docu
     Ok(body)
 }
 
-/// Reads the documents that stand under a name, and keeps the first of them, at most so many.
+/// Reads the documents under a name, and keeps the first of them, at most `most`.
 fn read_list(
     alloc: Global,
     name: &str,
@@ -149,8 +148,7 @@ fn read_list(
     })
 }
 
-/// Reads documents in their order, to the first fault, and keeps the first of them, at most so many. Of the others nothing is
-/// made.
+/// Reads documents in their order, to the first fault, and keeps the first of them, at most `most`. The others are only checked.
 fn read_each(
     alloc: Global,
     documents: Framed<'_>,
@@ -173,8 +171,8 @@ fn read_each(
     Ok(read)
 }
 
-/// Reads the next document of a list, which is likely to be like the one before it, and the first one like the shape that is
-/// kept, at which it looks.
+/// Reads the next document of a list, which is likely to have the names of the document before it. The first one is likely to have
+/// the kept shape, and is passed to the shapes.
 fn read_next(
     alloc: Global,
     document: &[u8],
@@ -191,7 +189,7 @@ fn read_next(
     Ok(first)
 }
 
-/// Reads the document that the bytes begin with. Where it has the names of `like`, it shares them.
+/// Reads the document that the bytes begin with. If it has the names of `like`, it shares them.
 fn read_one(alloc: Global, document: &[u8], like: &Document) -> Result<Document, BsonFault>
     ensures { ReadAs (λ read. read) result (brings.fields_in document.now) }
 {

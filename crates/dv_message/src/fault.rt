@@ -16,7 +16,7 @@ pub enum CloseFault {
     BadFlag,
     /// The flag checksumPresent is set.
     Checksum,
-    /// The sections are no body and what may come beside it.
+    /// The sections are not valid, or are not one body and lists with distinct names.
     BadSection,
     /// Memory ran out for a session's bytes, for a reply, or for a command whose reply moreToCome leaves out.
     NoMemory,

@@ -1,4 +1,4 @@
-//! Documents one behind the other, as their lengths frame them.
+//! Documents one after the other, as their lengths frame them.
 
 ghost use Rattle.std.specs.Prelude.{◌≡◌, ◌∷◌, [], MatchOption, option_map};
 ghost use Rattle.dv_message.specs.Sections as wire;
@@ -13,7 +13,7 @@ pub struct Framed<'a> {
 }
 
 impl<'a> Framed<'a> {
-    /// The documents that the bytes are; `None` where they are none.
+    /// The documents of which the bytes consist; `None` if they don't consist of documents.
     pub(crate) fn of(bytes: &'a [u8]) -> Option<Self>
         ensures { option_map framed_seen result ≡ wire.section_documents bytes.now }
     {
@@ -36,7 +36,8 @@ impl<'a> Framed<'a> {
     }
 }
 
-/// What a length at the front, at least 5, frames, itself included; and what follows it.
+/// The bytes that the length at their start covers, itself included, and the bytes after them; `None` if it is below 5 or there are
+/// too few bytes.
 #[tactic(auto, unfolding(crate::specs::Sections::section_frame))]
 pub(crate) fn frame_at(bytes: &[u8]) -> Option<(&[u8], &[u8])>
     ensures { option_map (λ parts. (parts.0.now, parts.1.now)) result ≡ wire.section_frame bytes.now }

@@ -30,7 +30,7 @@ pub struct Message<'a> {
 pub enum Front<'a> {
     /// Less than a message.
     Unfinished,
-    /// A fault that the bytes show already, or that memory ran out for looking at the sections.
+    /// A fault that the bytes show already, or that memory ran out while the sections were read.
     Closing(CloseFault),
     /// A message, and the bytes that follow it.
     Whole {
@@ -39,8 +39,8 @@ pub enum Front<'a> {
     },
 }
 
-/// Looks at the front of a stream. A message's length is shown by its fourth byte, its code by the sixteenth, its flags by the
-/// twentieth, its sections by its last. If memory runs out for looking at the sections, that is a closing fault.
+/// Reads the front of a stream. A message's length is known from its fourth byte on, its code from the sixteenth, its flags from
+/// the twentieth, its sections from its last. If memory runs out while the sections are read, that is a closing fault.
 #[tactic(auto, unfolding(crate::specs::Message::stream_front))]
 pub fn front_of(alloc: Global, bytes: &[u8]) -> Front<'_>
     ensures { (front_seen result ≡ wire.stream_front bytes.now) ⊎ (result ≡ Front.Closing CloseFault.NoMemory) }
@@ -86,9 +86,9 @@ pub fn front_of(alloc: Global, bytes: &[u8]) -> Front<'_>
     }
 }
 
-/// How many bytes of a piece come up to the end of the message that the bytes `kept` before it begin, or that the piece begins if
-/// none are kept: so many bring at most one message. As long as the message doesn't show its length, which its fourth byte does,
-/// they come up to that byte. At least 1, and at most all of them.
+/// How many bytes of a piece belong to the message that the bytes `kept` before it begin, or that the piece begins if none are
+/// kept. So they complete at most one message. If the bytes that begin the message are fewer than the four that hold its length,
+/// only the bytes up to the fourth are counted. At least 1, and at most all bytes of the piece.
 pub fn front_length(kept: &[u8], piece: &[u8]) -> usize
     requires { 0 < length piece.now }
     ensures { result ≡ wire.front_length kept.now piece.now }
@@ -98,7 +98,7 @@ pub fn front_length(kept: &[u8], piece: &[u8]) -> usize
     shown.saturating_sub(kept.len()).max(1).min(piece.len())
 }
 
-/// How many bytes the message has that these begin, as far as they show it: its length stands in its first four.
+/// The length of the message that these bytes begin, which its first four bytes hold; 4 if there are fewer.
 fn shown_length(bytes: &[u8]) -> usize
     ensures { result ≡ wire.shown_length bytes.now }
 {
@@ -123,7 +123,7 @@ fn has_more_to_come(flags: u32) -> bool
     flags >> 1 & 1 == 1
 }
 
-/// Bits 2 to 15, which nobody knows.
+/// Bits 2 to 15, which are unknown.
 fn has_unknown_flag(flags: u32) -> bool
     ensures { result ≡ wire.has_unknown_flag flags }
 {

@@ -39,7 +39,7 @@ fn append_unmeasured(request_id: u32, reply: &Document, out: &mut Vec<u8>) -> Re
     }
 }
 
-/// The bytes in front of a reply's body: the header, with 0 as its length, the flags and the kind of the section.
+/// The bytes before a reply's body: the header, with 0 as its length, the flags and the kind of the section.
 pub(crate) fn header(request_id: u32) -> [u8; 21]
     ensures { result ≡ unmeasured request_id (0 ∷ []) }
 {
@@ -51,7 +51,7 @@ pub(crate) fn header(request_id: u32) -> [u8; 21]
     ]
 }
 
-/// Puts the length of the message that begins at `start` and ends with the bytes into its first four bytes.
+/// Puts the length of the message, which goes from `start` to the end of the bytes, into its first four bytes.
 pub(crate) fn put_length(out: &mut [u8], start: usize)
     requires room { start + 4 ≤ length out.old }
     requires fits { length out.old < start + 2 ^ 32 }

@@ -29,7 +29,7 @@ pub enum Section<'a> {
 pub enum Sections<'a> {
     /// A body alone, as most messages have it.
     One(Section<'a>),
-    /// Any.
+    /// Any sections.
     Several(Vec<Section<'a>>),
 }
 
@@ -47,9 +47,9 @@ impl<'a> Sections<'a> {
     }
 }
 
-/// The sections of a message that the bytes are. `BadSection` where they are none: a section of another kind, a size, a name or a
-/// document's length that doesn't fit, not exactly one body, two lists under one name. `NoMemory` when memory runs out, which a
-/// body alone doesn't take.
+/// The sections of a message of which the bytes consist. `BadSection` if they are not valid: a section of another kind, a size, a
+/// name or a document's length that doesn't fit, not exactly one body, two lists under one name. `NoMemory` when memory runs out; a
+/// body alone takes no memory.
 pub(crate) fn sections_in(alloc: Global, bytes: &[u8]) -> Result<Sections<'_>, CloseFault>
     ensures { FoundAs sections_seen result (wire.sections_in bytes.now) }
 {
@@ -59,7 +59,7 @@ pub(crate) fn sections_in(alloc: Global, bytes: &[u8]) -> Result<Sections<'_>, C
     }
 }
 
-/// The body, where the bytes are one and nothing else.
+/// The body, if the bytes are one body and nothing else.
 fn body_alone(bytes: &[u8]) -> Option<&[u8]>
     ensures { IfSome result (λ body. wire.sections_in bytes.now ≡ Some (wire.body body.now ∷ [])) }
 {
@@ -77,7 +77,7 @@ fn body_alone(bytes: &[u8]) -> Option<&[u8]>
     }
 }
 
-/// As `sections_in`, whatever they are.
+/// As `sections_in`, for any bytes.
 #[tactic(auto, unfolding(crate::specs::Sections::sections_in))]
 fn several_in(alloc: Global, bytes: &[u8]) -> Result<Sections<'_>, CloseFault>
     ensures { FoundAs sections_seen result (wire.sections_in bytes.now) }
@@ -90,7 +90,7 @@ fn several_in(alloc: Global, bytes: &[u8]) -> Result<Sections<'_>, CloseFault>
     }
 }
 
-/// The sections, one behind the other, that the bytes are.
+/// The sections, one after the other, of which the bytes consist.
 fn row_of_sections(alloc: Global, bytes: &[u8]) -> Result<Vec<Section<'_>>, CloseFault>
     ensures { FoundAs (λ sections. map section_seen sections.items) result (wire.each_in wire.section_at bytes.now) }
 {
@@ -119,7 +119,7 @@ fn section_at(bytes: &[u8]) -> Option<(Section<'_>, &[u8])>
     Some((section, following))
 }
 
-/// The section of this kind that the framed bytes behind it make.
+/// The section of this kind with these framed bytes.
 fn section_of(kind: u8, frame: &[u8]) -> Option<Section<'_>>
     requires { 4 ≤ length frame.now }
     ensures { option_map section_seen result ≡ wire.section_of kind frame.now }
@@ -131,7 +131,7 @@ fn section_of(kind: u8, frame: &[u8]) -> Option<Section<'_>>
     }
 }
 
-/// The name that ends with the first zero, and the documents behind it.
+/// The name that ends with the first zero, and the documents after it.
 fn named_in(bytes: &[u8]) -> Option<Section<'_>>
     ensures { option_map section_seen result ≡ wire.section_named (bson.cut_at_zero bytes.now) }
 {
@@ -143,7 +143,7 @@ fn named_in(bytes: &[u8]) -> Option<Section<'_>>
     }
 }
 
-/// The bytes before the first zero, and those behind it.
+/// The bytes before the first zero, and those after it.
 pub(crate) fn cut_at_zero(bytes: &[u8]) -> Option<(&[u8], &[u8])>
     ensures { option_map (λ parts. (parts.0.now, parts.1.now)) result ≡ bson.cut_at_zero bytes.now }
 {
@@ -172,7 +172,7 @@ fn body_count(sections: &[Section<'_>]) -> usize
     count
 }
 
-/// Whether no two have one name.
+/// Whether no two have the same name.
 fn are_apart(alloc: Global, sections: &[Section<'_>]) -> Result<bool, NoMemory>
     ensures { IfOk result (λ apart. apart ≡ wire.are_distinct (wire.names_among (map section_seen sections.now))) }
 {
@@ -190,7 +190,7 @@ fn are_apart(alloc: Global, sections: &[Section<'_>]) -> Result<bool, NoMemory>
     Ok(true)
 }
 
-/// The little-endian number in the four bytes behind the first `place`.
+/// The little-endian number in the four bytes after the first `place`.
 pub(crate) fn number_behind(place: usize, bytes: &[u8]) -> u32
     requires { place + 4 ≤ length bytes.now }
     ensures { result ≡ wire.number_after place bytes.now }

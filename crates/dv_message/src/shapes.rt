@@ -9,16 +9,15 @@ const LARGEST_SHAPED: u32 = 4_096;
 /// How many levels a shape has inside a document. What lies deeper has none.
 const LEVELS: u32 = 8;
 
-/// How many documents pass between two that are looked at, once a shape is kept.
+/// How many documents are skipped between two that are compared with the shape, once a shape is kept.
 const MOST_PASSED: u32 = 4;
 
-/// How many documents of those that are looked at have another shape in a row, until that of the last one is kept: requests of
-/// several shapes that take turns leave the one that is kept.
+/// How many of the compared documents must have another shape in a row, until the last one's shape is kept instead. So the kept
+/// shape stays if requests of several shapes take turns.
 const MOST_OTHERS: u32 = 4;
 
-/// The shapes of the documents that a session's messages brought. A document that is read beside its shape shares the names,
-/// so that messages of one shape take no memory for names. A shape holds no value of a message, and none is kept of a document
-/// of over 4,096 bytes.
+/// The shapes of the documents in a session's messages. A document that is read with its shape shares the names, so that messages
+/// of one shape take no memory for names. A shape holds no value of a message, and none is kept of a document of over 4,096 bytes.
 #[derive(Debug, Drop)]
 pub struct Shapes {
     body: Shape,
@@ -26,7 +25,7 @@ pub struct Shapes {
 }
 
 impl Shapes {
-    /// None. Takes no memory.
+    /// No shapes. Takes no memory.
     pub fn new(alloc: Global) -> Self {
         Shapes {
             body: Shape::none(alloc),
@@ -34,22 +33,22 @@ impl Shapes {
         }
     }
 
-    /// That of bodies; without fields where there is none.
+    /// The shape of bodies; without fields if there is none.
     pub(crate) fn body(&self) -> &Document {
         &self.body.names
     }
 
-    /// That of the documents in lists beside bodies; without fields where there is none.
+    /// The shape of the documents in lists that come with bodies; without fields if there is none.
     pub(crate) fn listed(&self) -> &Document {
         &self.listed.names
     }
 
-    /// Looks at a body, and keeps its shape where it is time for another one.
+    /// Takes note of a body, and keeps its shape if it is time for another one.
     pub(crate) fn keep_body(&mut self, alloc: Global, body: &Document) {
         self.body.keep(alloc, body);
     }
 
-    /// Looks at a document in a list beside a body, and keeps its shape where it is time for another one.
+    /// Takes note of a document in a list, and keeps its shape if it is time for another one.
     pub(crate) fn keep_listed(&mut self, alloc: Global, document: &Document) {
         self.listed.keep(alloc, document);
     }
@@ -58,11 +57,11 @@ impl Shapes {
 /// The shape that documents are expected to have.
 #[derive(Debug, Drop)]
 struct Shape {
-    /// Null in place of each value but documents, and but arrays that begin with one.
+    /// Null in place of each value, except documents, and arrays that begin with one.
     names: Document,
-    /// How many documents came since one was looked at.
+    /// How many documents were skipped since one was compared.
     passed: u32,
-    /// How many documents were looked at since one had it.
+    /// How many documents were compared since one had this shape.
     others: u32,
 }
 
@@ -76,8 +75,8 @@ impl Shape {
         }
     }
 
-    /// Looks at a document where it is time to, and takes its shape where it is time for another one. If memory runs out there is
-    /// none then.
+    /// Compares a document with the shape if it is time to, and keeps its shape instead if it is time for another one. If memory
+    /// runs out for that, there is no shape then.
     fn keep(&mut self, alloc: Global, document: &Document) {
         if self.passed < MOST_PASSED && !self.names.is_empty() {
             self.passed += 1;
@@ -100,7 +99,7 @@ impl Shape {
     }
 }
 
-/// Whether the document has this shape, and documents inside it have theirs, down to so many levels.
+/// Whether the document has this shape, and documents inside it have theirs, down to this many levels.
 #[cycle(comparison)]
 fn has_shape(document: &Document, shape: &Document, levels: u32) -> bool {
     if document.len() != shape.len() {
@@ -114,8 +113,8 @@ fn has_shape(document: &Document, shape: &Document, levels: u32) -> bool {
     true
 }
 
-/// Whether a value has this shape: each of the two is a document or begins with one, and the first has the shape of the second, or
-/// neither does. Any value has where no levels are left.
+/// Whether a value has this shape: each of the two is a document, or an array that begins with one, and the first document has the
+/// shape of the second; or neither is. If no levels are left, any value has it.
 #[cycle(comparison)]
 fn has_value_shape(value: &Value, shape: &Value, levels: u32) -> bool {
     if levels == 0 {
@@ -128,7 +127,7 @@ fn has_value_shape(value: &Value, shape: &Value, levels: u32) -> bool {
     }
 }
 
-/// The document that a value is, or the first of an array.
+/// The document that a value is, or that an array begins with.
 fn inner(value: &Value) -> Option<&Document> {
     match value {
         Value::Doc(document) => Some(document),
@@ -140,7 +139,7 @@ fn inner(value: &Value) -> Option<&Document> {
     }
 }
 
-/// The shape of a document; without fields where it is too large. Fails when memory runs out.
+/// The shape of a document; without fields if it is too large. Fails when memory runs out.
 fn small_shape_of(alloc: Global, document: &Document) -> Result<Document, BsonFault> {
     match size(document) {
         Some(size) if size <= LARGEST_SHAPED => shape_of(alloc, document, LEVELS),
@@ -148,7 +147,7 @@ fn small_shape_of(alloc: Global, document: &Document) -> Result<Document, BsonFa
     }
 }
 
-/// The shape of a document, with so many levels inside: the same names, and null in place of values. Fails when memory runs out.
+/// The shape of a document, with this many levels inside: the same names, and null in place of values. Fails when memory runs out.
 #[cycle(making)]
 fn shape_of(alloc: Global, document: &Document, levels: u32) -> Result<Document, BsonFault> {
     let mut shape = Document::expecting(alloc, document)?;

@@ -20,7 +20,7 @@ const NO_CONNECTION: u64 = u64::MAX;
 /// How many events one poll returns at most.
 const EVENTS: usize = 1024;
 
-/// Room for the numbers of all connections that may be open, and of those of which something is told.
+/// Room for the numbers of all connections that may be open, and of those that are reported.
 const READY_ROOM: usize = 4096;
 
 /// A connection. Which bytes come from it isn't known.
@@ -106,7 +106,7 @@ impl Port {
         })
     }
 
-    /// The next connection, where one waits.
+    /// The next connection, if one waits. Fails otherwise.
     fn connection(&mut self) -> io::Result<Stream>
         ensures numbered { IfOk result (λ stream. (stream.number ≡ self.old.came + 1) × (self.new.came ≡ self.old.came + 1)) }
         ensures kept { OnErr result (self.new.came ≡ self.old.came) }
@@ -116,7 +116,7 @@ impl Port {
         }
         let number = self.came + 1;
         let (mut stream, _) = self.listener.accept()?;
-        // A small reply goes out at once. A stream that can't do so is as good otherwise.
+        // A small reply is sent at once. A stream that can't do this is used nevertheless.
         let _ = stream.set_nodelay(true);
         self.poll.registry().register(
             &mut stream,
@@ -127,7 +127,7 @@ impl Port {
         Ok(Stream { number, stream })
     }
 
-    /// Puts what was told ready behind those that are to be told once more, each once.
+    /// Lists the connections that were reported as ready after those that are to be reported once more, each once.
     fn note(&mut self) -> Result<(), Failed>
         ensures { self.new.came ≡ self.old.came }
     {
@@ -139,7 +139,7 @@ impl Port {
                 self.may_accept = true;
             } else {
                 self.ready.push(token as u64).map_err(|_| Failed)?;
-                // A short read before the end of input shows no end: it is told once more.
+                // A short read before the end of input doesn't show the end, so the connection is reported once more.
                 if event.is_read_closed() || event.is_error() {
                     self.again.push(token as u64).map_err(|_| Failed)?;
                 }
@@ -151,7 +151,7 @@ impl Port {
         Ok(())
     }
 
-    /// Begins with the one behind the last one of before, so that those who come last in a round aren't always the same.
+    /// Begins with the connection after the last one of the previous round, so that the same ones aren't always last.
     fn begin_in_turn(&mut self)
         ensures { self.new.came ≡ self.old.came }
     {
@@ -183,7 +183,7 @@ impl Outside for Port {
             Some(Duration::ZERO)
         };
         if let Err(error) = self.poll.poll(&mut self.events, timeout) {
-            // A signal that ends no program, such as the one behind a stop, tells nothing.
+            // A signal that doesn't end the program, such as the one after a stop, reports nothing.
             if error.kind() != ErrorKind::Interrupted {
                 return Err(Failed);
             }
@@ -220,12 +220,12 @@ impl Outside for Port {
                     self.again(NO_CONNECTION);
                     Err(Failed)
                 }
-                // It may be had once another one is closed, and is tried again then.
+                // It may be accepted once another one is closed, and is tried again then.
                 _ => Err(Failed),
             },
         }
     }
 
-    /// It closes where it is dropped.
+    /// It is closed when it is dropped.
     fn close(&mut self, _channel: Stream, _fate: Fate) {}
 }

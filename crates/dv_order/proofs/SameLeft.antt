@@ -1,4 +1,4 @@
--- Two lists gone through side by side from the front, where what is left of both decides.
+-- Two lists compared element by element from the front; the rest of both decides.
 use Rattle.std.specs.Prelude.{◌≡◌, ◌==◌, ◌&&◌, Bool, List, [], ◌∷◌, length, true, false, refl, ◌⊎◌}
 use Rattle.std.proofs.Common.{ap, arith}
 use Rattle.std.specs.Cmp.Lexicographic.{pointwise}

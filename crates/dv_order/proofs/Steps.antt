@@ -1,4 +1,4 @@
--- Two lists compared from the front, where what is left of both decides. And fields and elements compared so.
+-- Two lists compared from the front; the rest of both decides. And fields and elements compared in this way.
 use Rattle.std.specs.Prelude.{◌≡◌, ℕ, ◌+◌, ◌<◌, List, [], ◌∷◌, length, slice_get, Some, true, false, refl, ◌⊎◌, zero, suc}
 use Rattle.std.proofs.Common.{ap, sym, ◌∙◌, arith}
 use Rattle.std.specs.declared.cmp.Ordering.{Ordering}
@@ -10,7 +10,7 @@ use Rattle.dv_value.specs.Tree.{Tree, Field, fields_of, elements_of}
 use Rattle.dv_order.specs.Order.{class, field_order, fields_order, elements_order, order}
 use Rattle.dv_order.specs.Inner.TotalOrder.{then_assoc}
 
--- the first answer counts where it tells the two apart, and else the second
+-- the first comparison decides if it finds a difference, otherwise the second
 first_is : (r o s : Ordering) → ordering_then r o ≡ s → true ≡ is_ne r → r ≡ s
 first_is Less o s e h = e
 first_is Equal o s e h = cc
@@ -21,7 +21,7 @@ rest_is Less o s e h = cc
 rest_is Equal o s e h = e
 rest_is Greater o s e h = cc
 
--- the class and the name count where they tell two fields apart, and else the values
+-- the class and the name decide if they differ in two fields, otherwise the values
 labels_first : (f g : Field) (r : Ordering) → r ≡ ordering_then (nat_cmp (class f.1) (class g.1)) (slice_cmp nat_cmp f.0 g.0) → ordering_then r (order f.1 g.1) ≡ field_order f g
 labels_first f g r is = ap (λ s. ordering_then s (order f.1 g.1)) is ∙ then_assoc (nat_cmp (class f.1) (class g.1)) (slice_cmp nat_cmp f.0 g.0) (order f.1 g.1)
 
@@ -65,7 +65,7 @@ lengths R (u ∷ us) (v ∷ vs) m n p h = absurd (omega arith)
 pub ended : {A : Type 0} {R : A → A → Ordering} {xs ys us vs : List A} → IsLeft R xs ys us vs → (length us ≡ 0) ⊎ (length vs ≡ 0) → nat_cmp (length xs) (length ys) ≡ slice_cmp R xs ys
 ended {R = R} {xs = xs} {ys = ys} {us = us} {vs = vs} left h = lengths R us vs (length xs) (length ys) left.passed h ∙ left.decides
 
--- an element stands at each place within
+-- there is an element at each place below the length
 pub element_at : {A : Type 0} (xs : List A) (i : ℕ) → i < length xs → (x : A) × (Some x ≡ slice_get xs i)
 element_at [] i h = absurd (omega arith)
 element_at (x ∷ xs) zero h = (x, refl)

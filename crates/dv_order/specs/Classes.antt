@@ -12,7 +12,7 @@ StartsClass v (Included a) = (class a ≡ class v) × ((w : Tree) → class w �
 StartsClass v (Excluded a) = class a < class v
 StartsClass v Unbounded = ⊤
 
--- the bound is behind each value of v's class: a value of a higher class, excluded; or none
+-- the bound is after each value of v's class: a value of a higher class, excluded; or none
 abbrev pub EndsClass : Tree → Bound Tree → Type 0
 EndsClass v (Included b) = ⊥
 EndsClass v (Excluded b) = class v < class b

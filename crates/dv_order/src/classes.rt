@@ -1,4 +1,4 @@
-//! Between which values those of a class stand.
+//! The bounds of the values of a class.
 
 ghost use Rattle.std.specs.Prelude.{◌≡◌, []};
 ghost use Rattle.std.specs.Range.Bound.{bound_map};

@@ -43,7 +43,7 @@ pub(crate) fn integer_of(place: u64) -> i64
     }
 }
 
-/// The first byte, 0 where there is none, and what is behind it.
+/// The first byte, or 0 if there is none, and the bytes after it.
 fn first_of(bytes: &[u8]) -> (u8, &[u8])
     ensures number { (n acc : ℕ) → lead (suc n) acc bytes.now ≡ lead n (acc * 256 + result.0) result.1.now }
     ensures rest { (n : ℕ) → after (suc n) bytes.now ≡ after n result.1.now }
@@ -55,7 +55,7 @@ fn first_of(bytes: &[u8]) -> (u8, &[u8])
     }
 }
 
-/// The number that the first `count` bytes are the digits of, zeros where there are fewer, and what is behind them.
+/// The number whose digits are the first `count` bytes, with zeros for missing bytes; and the bytes after them.
 fn lead_of(bytes: &[u8], count: usize) -> (u64, &[u8])
     requires { count ≤ 8 }
     ensures number { result.0 ≡ lead count 0 bytes.now }

@@ -67,9 +67,9 @@ pub(crate) fn compare_binaries(
     }
 }
 
-/// The order of two documents: the first unequal pair of fields decides, and else the shorter stands first.
+/// The order of two documents: the first unequal pair of fields decides; if there is none, the shorter one is first.
 #[cycle(compare)]
-/// Apart, so that no registers are saved where numbers or strings are compared.
+/// A function of its own, so that no registers are saved where numbers or strings are compared.
 #[inline(never)]
 pub(crate) fn compare_documents(a: &Document, b: &Document) -> Ordering
     ensures { result ≡ fields_order (fields_of a.now) (fields_of b.now) }
@@ -101,7 +101,7 @@ fn compare_at(a: &Document, b: &Document, place: usize) -> Ordering
 }
 
 /// The order of the fields at a place of both documents, as far as it is decided by the class of the value and by the name.
-/// Apart, so that none of it takes stack where values in one another are compared: there may be thousands of them.
+/// A function of its own, so that it takes no stack where nested values are compared: there may be thousands of levels.
 #[inline(never)]
 fn compare_labels_at(a: &Document, b: &Document, place: usize) -> Ordering
     requires a { place < length a.now }
@@ -119,9 +119,9 @@ fn compare_labels(name: &str, a: &Value, other_name: &str, b: &Value) -> Orderin
     class_of(a).cmp(&class_of(b)).then(name.cmp(other_name))
 }
 
-/// The order of two arrays: the first unequal pair of elements decides, and else the shorter stands first.
+/// The order of two arrays: the first unequal pair of elements decides; if there is none, the shorter one is first.
 #[cycle(compare)]
-/// Apart, so that no registers are saved where numbers or strings are compared.
+/// A function of its own, so that no registers are saved where numbers or strings are compared.
 #[inline(never)]
 pub(crate) fn compare_lists(a: &List, b: &List) -> Ordering
     ensures { result ≡ elements_order (elements_of a.now) (elements_of b.now) }

@@ -145,7 +145,7 @@ impl Key {
         self.shown().order(&other)
     }
 
-    /// The key as it is looked at.
+    /// The key as it is compared.
     fn shown(&self) -> Shown<'_>
         ensures { shown_key result ≡ self.now }
     {
@@ -181,7 +181,7 @@ pub fn replace_under_first(map: &mut BTreeMap<Key, Document>, document: Document
     }
 }
 
-/// Puts the document in place of the one that stands in the map under the key, and returns whether there is one.
+/// Replaces the document that the map has under the key, if there is one, and returns whether there is.
 #[tactic(auto, using(crate::proofs::Absent::set_value_absent))]
 fn replace_under(map: &mut BTreeMap<Key, Document>, key: &Key, document: Document) -> bool
     ensures documents { map.new.entries ≡ set_value (is_at (key_order key.now)) map.old.entries document }

@@ -9,7 +9,7 @@ ghost use Rattle.dv_value.specs.Tree.{Field};
 ghost use Rattle.dv_order.specs.Key.{key_at, key_order, no_element, value};
 ghost use Rattle.dv_order.specs.Same.{is_same, same_fields};
 
-/// Any two values compare, and either way round alike.
+/// Any two values can be compared, and swapping them reverses the result.
 #[tactic(auto, using(crate::specs::Inner::TotalOrder::order_total))]
 pub fn order_is_total()
     ensures { (v w : Tree) → order v w ≡ ordering_reverse (order w v) }
@@ -58,7 +58,7 @@ pub fn no_element_stands_beside_no_value()
     ensures { (v : Tree) → is_ne (key_order no_element (value v)) ≡ true }
 {}
 
-/// The classes from low to high, each beside its neighbour.
+/// The classes from low to high, each with the next one.
 pub fn classes_stand_in_a_row()
     ensures no_element_after_min_key { key_order (value min_key) no_element ≡ Less }
     ensures null_after_no_element { key_order no_element (value null) ≡ Less }

@@ -40,7 +40,7 @@ impl<'a> LentKey<'a> {
         Key::of_lent(alloc, self)
     }
 
-    /// Where its value stands among the classes of values.
+    /// Its value's class.
     pub(crate) fn class(&self) -> u8
         ensures { result ≡ class (lent_value self.now) }
     {

@@ -1,4 +1,4 @@
-//! What stands at a place of a document.
+//! The value at a place of a document.
 
 ghost use Rattle.std.specs.Prelude.{◌≡◌, ◌<◌, Some, length, slice_get};
 ghost use Rattle.dv_value.specs.Tree.{Field};
@@ -7,7 +7,7 @@ ghost use Rattle.dv_value.specs.View.{tree};
 use dv_value::{Document, Value};
 
 /// The value of the field at the place.
-/// Apart, so that the name takes no stack where values in one another are compared: there may be thousands of them.
+/// A function of its own, so that the name takes no stack where nested values are compared: there may be thousands of levels.
 #[inline(never)]
 pub(crate) fn value_at(document: &Document, place: usize) -> &Value
     requires { place < length document.now }

@@ -1,4 +1,4 @@
-//! Values that are spelled alike.
+//! Values with the same encoding.
 
 ghost use Rattle.std.specs.Prelude.{◌≡◌, ◌<◌, ◌&&◌, Some, length, slice_get};
 ghost use Rattle.std.specs.Str.{bytes_eq};
@@ -39,7 +39,7 @@ pub fn is_same(a: &Value, b: &Value) -> bool
     }
 }
 
-/// Both are apart, so that none of it takes stack where values in one another are compared: there may be thousands of them.
+/// Both are functions of their own, so that they take no stack where nested values are compared: there may be thousands of levels.
 #[inline(never)]
 fn same_texts(a: &str, b: &str) -> bool
     ensures { result ≡ bytes_eq a.now b.now }

@@ -1,4 +1,4 @@
-//! Keys as they are looked at, whatever keeps them.
+//! Keys as they are compared, wherever they are stored.
 
 ghost use Rattle.std.specs.Prelude.{◌≡◌, IfSome, true};
 ghost use Rattle.dv_value.specs.View.{tree};
@@ -15,7 +15,7 @@ use crate::small::Small;
 use dv_value::{Document, List, Value};
 use std::cmp::Ordering;
 
-/// A key as it is looked at.
+/// A key as it is compared.
 #[derive(Clone, Copy, Debug, Drop)]
 pub(crate) enum Shown<'k> {
     /// The key that no value has.
@@ -122,7 +122,7 @@ impl<'k> Shown<'k> {
         }
     }
 
-    /// Where the key stands among the classes of values.
+    /// The key's class among the classes of values.
     fn class(&self) -> u8
         ensures { result ≡ key_class (shown_key self.now) }
     {

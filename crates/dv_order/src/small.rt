@@ -114,7 +114,7 @@ impl Small {
                     class,
                     high,
                     low,
-                    // Always so; that it is looked at stands in place of a proof, and costs nothing where keys are compared.
+                    // Always true. It is checked in place of a proof, which costs nothing where keys are compared.
                     is_exact: object_id_of(high, low) == *id,
                 }
             }

@@ -21,7 +21,7 @@ pub(crate) enum KeySource {
     /// No value has it.
     NoElement,
     Small(Small),
-    /// A text, with zeros behind it.
+    /// A text, followed by zeros.
     Short { len: u8, bytes: [u8; 22] },
     /// The same, of up to 24 bytes: as many as an ObjectId's hexadecimal digits.
     Middle { len: u8, bytes: Rc<[u8; 24]> },
@@ -35,7 +35,7 @@ pub(crate) enum KeySource {
 }
 
 impl KeySource {
-    /// That of the key of the value. Fails when memory runs out.
+    /// The source of the value's key. Fails when memory runs out.
     pub(crate) fn of(value: &Value) -> Result<Self, NoMemory>
         ensures value { IfOk result (λ source. key_at (source_value source) ≡ key_of_tree (canon (tree value.now))) }
         ensures sound { IfOk result IsSound }
@@ -46,7 +46,7 @@ impl KeySource {
         }
     }
 
-    /// That of the key of the text. Fails when memory runs out.
+    /// The source of the text's key. Fails when memory runs out.
     pub(crate) fn of_text(alloc: Global, text: &str) -> Result<Self, NoMemory>
         ensures value { IfOk result (λ source. key_at (source_value source) ≡ key_of_tree (string text.now)) }
         ensures sound { IfOk result IsSound }
@@ -57,7 +57,7 @@ impl KeySource {
         }
     }
 
-    /// That of the key of the document's first value, if it takes no memory.
+    /// The source of the key of the document's first value, if it takes no memory.
     pub(crate) fn of_first(document: &Document) -> Option<Self>
         ensures value { IfSome result (λ source. key_at (source_value source) ≡ key_at (first_value document.now)) }
         ensures sound { IfSome result IsSound }
@@ -99,7 +99,7 @@ impl KeySource {
         })
     }
 
-    /// The key as it is looked at.
+    /// The key as it is compared.
     pub(crate) fn shown(&self) -> Shown<'_>
         requires { IsSound self.now }
         ensures { shown_key result ≡ key_at (source_value self.now) }
@@ -120,7 +120,7 @@ impl KeySource {
     }
 }
 
-/// That of the key of a value that isn't small. Fails when memory runs out.
+/// The source of the key of a value that isn't small. Fails when memory runs out.
 fn of_large(value: &Value) -> Result<KeySource, NoMemory>
     requires { IsLarge (tree value.now) }
     ensures value { IfOk result (λ source. key_at (source_value source) ≡ key_of_tree (canon (tree value.now))) }
@@ -135,7 +135,7 @@ fn of_large(value: &Value) -> Result<KeySource, NoMemory>
     }
 }
 
-/// That of the key of the document's first value. Fails when memory runs out.
+/// The source of the key of the document's first value. Fails when memory runs out.
 fn of_first_value(document: &Document) -> Result<KeySource, NoMemory>
     ensures value { IfOk result (λ source. key_at (source_value source) ≡ key_at (first_value document.now)) }
     ensures sound { IfOk result IsSound }
@@ -146,7 +146,7 @@ fn of_first_value(document: &Document) -> Result<KeySource, NoMemory>
     }
 }
 
-/// That of the key of the text, whose allocator a copy tells. Fails when memory runs out.
+/// The source of the text's key. A copy of the text has its allocator. Fails when memory runs out.
 fn of_owned_text(text: &Str) -> Result<KeySource, NoMemory>
     ensures value { IfOk result (λ source. key_at (source_value source) ≡ key_of_tree (string text.now)) }
     ensures sound { IfOk result IsSound }
@@ -194,7 +194,7 @@ fn share(alloc: Global, value: Value) -> Result<KeySource, NoMemory>
     Ok(KeySource::Shared(Rc::new(alloc, value)?))
 }
 
-/// That of a text of up to 22 bytes.
+/// The source of the key of a text of up to 22 bytes.
 fn of_short(text: &str) -> Option<KeySource>
     ensures value { IfSome result (λ source. source_value source ≡ Some (string text.now)) }
     ensures sound { IfSome result IsSound }
@@ -208,7 +208,7 @@ fn of_short(text: &str) -> Option<KeySource>
     Some(KeySource::Short { len, bytes })
 }
 
-/// That of a text of up to 40 bytes. Fails when memory runs out.
+/// The source of the key of a text of up to 40 bytes. Fails when memory runs out.
 fn of_padded(alloc: Global, text: &str) -> Result<Option<KeySource>, NoMemory>
     ensures value { IfOk result (λ found. IfSome found (λ source. source_value source ≡ Some (string text.now))) }
     ensures sound { IfOk result (λ found. IfSome found IsSound) }

@@ -11,7 +11,7 @@ use Rattle.dv_value.specs.Inner.TreeLaws.{fields_again, elements_again}
 use Rattle.dv_value.specs.Inner.ListLaws.{take-read}
 use Rattle.dv_path.specs.Expression.{component_entered, expression, expr}
 
--- one more item of a list that is gone through
+-- one more item of a list that a loop visits
 pub filter_more : {X Y Z : Type 0} (f : Y → Option Z) (view : X → Y) (xs : List X) (i : ℕ) (x : X) → i < length xs → x ≡ get_or xs i x → filter_map f (map view (take (i + 1) xs)) ≡ filter_map f (map view (take i xs)) ++ filter_map f (view x ∷ [])
 filter_more f view xs i x within is =
     ap (λ ys. filter_map f (map view ys)) (take-read xs i x within is) ∙ ap (filter_map f) (map-append view (take i xs) (x ∷ [])) ∙ filter_map-append f (map view (take i xs)) (view x ∷ [])
@@ -24,7 +24,7 @@ unfolding expr
 expr-first [] fs name some is = absurd (omega arith)
 expr-first (n ∷ names) fs name some is = ap (λ m. option_and_then (expression names) (value_under m fs)) is ∙ ap (λ gs. option_and_then (expression names) (value_under n gs)) (sym (fields_again fs))
 
--- one component on from a value
+-- one component further inside a value
 module _ (path rest : List (List ℕ)) (name : List ℕ) (v : Value) (is : path ≡ name ∷ rest) where
   pub expression-document : (d : List Field) → v ≡ Value.Doc d → expression path (tree v) ≡ option_and_then (expression rest) (value_under name d)
   expression-document d e = ap (λ p. expression p (tree v)) is ∙ ap (λ w. expression (name ∷ rest) (tree w)) e ∙ ap (λ fs. option_and_then (expression rest) (value_under name fs)) (fields_again d)

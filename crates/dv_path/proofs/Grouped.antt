@@ -174,7 +174,7 @@ total-parts : (a : List ℕ) (rests qs : List (List (List ℕ))) → total (begu
 total-parts a [] qs = omega arith
 total-parts a (r ∷ rests) qs = omega (arith, total-parts a rests qs)
 
--- groups that are still to be gone through, of paths with so many components
+-- the groups that a loop has still to visit, whose paths have at most `bound` components
 pub record AreOpen (bound : ℕ) (groups : List Group) : Type 0 where
   pub apart : AreAllApart (ungrouped groups)
   pub filled : AreFilled groups
@@ -219,7 +219,7 @@ filled-front : (gs : List Group) (g : Group) → AreFilled (gs ++ g ∷ []) → 
 filled-front [] g filled = tt
 filled-front (h ∷ gs) g filled = (filled.0, filled-front gs g filled.1)
 
--- the group that stood last, with one path more
+-- the group that was the last one, with one path more
 pub has-last : (groups before : List Group) (name : List ℕ) (g : Group) → groups ≡ before ++ g ∷ [] → g.0 ≡ name → HasGroup groups before name g
 has-last groups before name g is named = record {
   named = named;

@@ -9,7 +9,7 @@ use Rattle.dv_candidates.specs.Path.{is_whole_number, number_behind, index_of}
 is-digit : (b : ℕ) → is_ascii_digit b ≡ true → (48 ≤ b) × (b ≤ 57)
 is-digit b h = (grind (arith, nat_tests, h), grind (arith, nat_tests, h))
 
--- digits as many as others say the same number only where they are the same
+-- equally many digits are the same number only if they are the same digits
 same-length : (m n : ℕ) (xs ys : List ℕ) → list_all is_ascii_digit xs ≡ true → list_all is_ascii_digit ys ≡ true → length xs ≡ length ys → number_behind m xs ≡ number_behind n ys → (m ≡ n) × (xs ≡ ys)
 same-length m n [] [] dx dy len e = (e, refl)
 same-length m n [] (y ∷ ys) dx dy len e = absurd (omega arith)
@@ -30,7 +30,7 @@ le-cases zero n h = inr (omega arith)
 le-cases (suc m) zero h = inl (omega arith)
 le-cases (suc m) (suc n) h = elim (le-cases m n (omega arith)) [ inl same ↦ inl (ap suc same) | inr less ↦ inr (omega arith) ]
 
--- more digits say no less than the number in front of them
+-- a number with more digits appended is no less than that number
 no-less : (m n : ℕ) (xs ys : List ℕ) → list_all is_ascii_digit xs ≡ true → list_all is_ascii_digit ys ≡ true → length xs ≤ length ys → number_behind m xs ≡ number_behind n ys → n ≤ m
 no-less m n xs [] dx dy le e =
     let len : length xs ≡ 0 = omega arith in
@@ -67,7 +67,7 @@ whole name h =
       ];
     }
 
--- no whole number is said by more digits, too
+-- no whole number is written with more digits as well
 longer : (x : ℕ) (xs : List ℕ) (y : ℕ) (ys : List ℕ) → IsWhole (x ∷ xs) → IsWhole (y ∷ ys) → length (x ∷ xs) ≤ length ys → number_behind 0 (x ∷ xs) ≡ number_behind 0 (y ∷ ys) → ⊥
 longer x xs y ys wx wy less e =
     let dy = and_parts (is_ascii_digit y) (list_all is_ascii_digit ys) wy.digits in

@@ -28,9 +28,9 @@ map-one : {X Y Z : Type 0} (f : X → Z) (h : Y → Z) (k : X → Y) → ((x : X
 map-one f h k same (Ok x) = ap Ok (same x)
 map-one f h k same (Err e) = refl
 
--- ---- what is left, where a path leads further
+-- ---- what is left if a path leads further
 
--- a value without what a path leads to in it, and null where it goes itself
+-- a value without what a path leads to in it, and null if the value itself is removed
 abbrev pub left_of : List (List ℕ) → Tree → Tree
 left_of names v = unwrap_or (left_behind names v) null
 
@@ -84,7 +84,7 @@ module _ (left : Tree → Candidate) (kept : Tree → Tree) (total : (v : Tree) 
   left-there fs None at = ap (value_under a) (field-missing a fs at) ∙ at
   left-there fs (Some v) at = ap (λ d. value_under a (with_field a d fs)) (total v) ∙ field-at a (kept v) fs ∙ sym (total v)
 
-  -- what is left stands where it stood
+  -- what is left is under the same name
   pub field-left : (fs : List Field) → value_under a (remove_field left a fs) ≡ option_and_then left (value_under a fs)
   field-left fs = left-there fs (value_under a fs) refl
 

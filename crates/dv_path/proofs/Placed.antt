@@ -18,7 +18,7 @@ use Rattle.std.specs.Str.{bytes_eq}
 use Rattle.dv_path.specs.Inner.Fielded.{differ, field-other, field-at, field-missing, field-again, element-at, changed-missing, changed-same}
 use Rattle.dv_path.specs.Inner.ResultLaws.{made-by}
 
--- a field that is put has what is put further on
+-- the field that is put has the value that is put further inside
 field-put : (inner : Candidate → Result Tree PathFault) (name : List ℕ) (fs after : List Field) → put_field inner name fs ≡ Ok after → (u : Tree) × (inner (value_under name fs) ≡ Ok u) × (with_field name (Some u) fs ≡ after)
 field-put inner name fs after e = made-by (λ v. with_field name (Some v) fs) (inner (value_under name fs)) after e
 
@@ -43,7 +43,7 @@ fields-slotted inner name fs t e =
     let put = field-slotted inner name fs made.0 made.1 in
     (put.0, put.1, put.2, ap (λ d. next_slot name (taken d)) (sym made.2) ∙ ap (λ gs. slot_of (value_under name gs)) (fields_again made.0) ∙ put.3)
 
--- one component on from what was put stands what was put further on
+-- one component further in the value that was put is the value that was put there
 step-slotted : (names : List (List ℕ)) (name : List ℕ) (v : Tree) (c : Candidate) (t : Tree) → put_behind (name ∷ names) v c ≡ Ok t → (d : Candidate) × (u : Tree) × (put_behind names v d ≡ Ok u) × (next_slot name (taken t) ≡ taken u)
 step-slotted names name v None t e = fields-slotted (put_behind names v) name [] t e
 step-slotted names name v (Some (document fs)) t e = fields-slotted (put_behind names v) name (list_of_fields fs) t e
@@ -59,7 +59,7 @@ behind-slotted (name ∷ names) v c t e =
     let step = step-slotted names name v c t e in
     ap (slot_behind names) step.3 ∙ behind-slotted names v step.0 step.1 step.2
 
--- what was put stands where its path leads
+-- the path leads to the value that was put
 pub slot_put : (fields : List Field) (name : List ℕ) (names : List (List ℕ)) (v : Tree) (after : List Field) → put fields (name ∷ names) v ≡ Ok after → slot after (name ∷ names) ≡ taken v
 unfolding put slot
 slot_put fields name names v after e =
@@ -156,7 +156,7 @@ kept-behind (name ∷ names) (document fs) none = ap (λ gs. Some (document (fie
 kept-behind (name ∷ names) (array vs) none = ap (λ ws. Some (array (elements_of ws))) (kept-element (left_behind names) (index_of name) (list_of_elements vs) (λ w at. kept-behind names w (λ u there. none u (ap (slot_behind names) at ∙ there)))) ∙ ap (λ ws. Some (array ws)) (elements_back vs)
 kept-behind (name ∷ names) t none = refl
 
--- where nothing stands, nothing is taken away
+-- nothing is removed if the path leads to no value
 pub remove_nothing : (fields : List Field) (path : List (List ℕ)) → ((w : Tree) → slot fields path ≡ taken w → ⊥) → remove fields path ≡ fields
 unfolding remove slot
 remove_nothing fields [] none = refl

@@ -1,4 +1,4 @@
--- What stands where a path leads, component by component.
+-- The slot that a path leads to, component by component.
 use Rattle.std.proofs.Common.{◌≡◌, ◌∙◌, ℕ, suc, ◌+◌, ◌<◌, ◌≤◌, List, [], ◌∷◌, length, drop, drop_of_length-le, get_or, refl, ap, sym, arith, add-one}
 use Rattle.std.proofs.Math.Seq.{drop-cons}
 use denote.Ref.{Bor}

@@ -10,7 +10,7 @@ use Rattle.dv_path.specs.Slots.{Slot, taken, slot}
 use Rattle.dv_path.proofs.Parting.{slot_apart}
 use Rattle.dv_path.proofs.Placed.{remove_nothing}
 
--- the same stands in both documents where the paths lead
+-- the paths lead to the same in both documents
 abbrev AreSeen : List Field → List Field → List (List (List ℕ)) → Type 0
 AreSeen old fs [] = ⊤
 AreSeen old fs (p ∷ ps) = (slot fs p ≡ slot old p) × AreSeen old fs ps

@@ -65,7 +65,7 @@ refused-map : {X Y : Type 0} (f : X → Y) (e : PathFault) (r : Result X PathFau
 refused-map f e r s is (inl memory) = inl memory
 refused-map f e r s is (inr fault) = inr (is ∙ ap (result_map f) fault)
 
--- what further on is refused is refused
+-- what is refused further inside is refused
 pub gives-refused : {X Y Z : Type 0} (f : X → Y) (view : Z → Y) (made : Result Z PathFault) (e : PathFault) (r : Result X PathFault) (s : Result Y PathFault) → made ≡ Err e → s ≡ result_map f r → (e ≡ NoMemory) ⊎ (r ≡ Err e) → Gives NoMemory view made s
 gives-refused {Z = Z} f view made e r s told is h =
     let P : Result Z PathFault → Type 0 = λ m. Gives NoMemory view m s in

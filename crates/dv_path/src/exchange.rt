@@ -11,7 +11,7 @@ use dv_candidates::Component;
 use dv_value::{Document, NoMemory, Value};
 use std::mem::replace;
 
-/// Takes out the value under the component's name, if there is one; null stands for it until another is put back.
+/// Takes out the value under the component's name, if there is one, and leaves null until another value is put back.
 pub(crate) fn take_field(
     document: &mut Document,
     component: &Component,
@@ -34,7 +34,7 @@ pub(crate) fn put_field_back(
     Ok(())
 }
 
-/// Takes the field with the component's name away.
+/// Removes the field with the component's name.
 pub(crate) fn drop_field(document: &mut Document, component: &Component) -> Result<(), NoMemory>
     ensures { OnOk result (document.new ≡ without component.now document.old) }
 {
@@ -42,7 +42,7 @@ pub(crate) fn drop_field(document: &mut Document, component: &Component) -> Resu
     Ok(())
 }
 
-/// Takes out an element; null stands for it until another is put back.
+/// Takes out an element, and leaves null until another value is put back.
 pub(crate) fn take_element(values: &mut Vec<Value>, place: usize) -> Value
     requires { place < length values.old.items }
     ensures taken { slice_get (map tree values.old.items) place ≡ Some (tree result) }

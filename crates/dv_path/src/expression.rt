@@ -43,7 +43,7 @@ fn enter(
     }
 }
 
-/// The value of what is left of the path: documents, of which thousands may stand in one another, are entered in a loop.
+/// The value of the rest of the path. Documents are entered in a loop, since thousands may be nested.
 #[cycle(expression)]
 fn within(alloc: Global, value: &Value, path: &[Component]) -> Result<Option<Value>, NoMemory>
     ensures { IfOk result (λ found. option_map tree found ≡ expressions.expression path.now (tree value.now)) }

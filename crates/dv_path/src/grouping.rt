@@ -45,7 +45,7 @@ pub(crate) fn grouped<'p>(
     Ok(groups)
 }
 
-/// Adds the path of a component and the rest behind it, to the last group if that is the component's.
+/// Adds the path of a component and the rest: to the last group if that is the component's, otherwise to a new one.
 fn add<'p>(
     alloc: Global,
     groups: &mut Vec<Group<'p>>,

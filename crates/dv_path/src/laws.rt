@@ -22,11 +22,11 @@ ghost use Rattle.dv_candidates.specs.Path.{index_of};
 #[tactic(auto, using(crate::proofs::Placed::slot_put, crate::proofs::Placed::whole_put))]
 pub fn what_was_put_is_there()
     ensures there { ForEachPut (λ fields name path v after. put fields (name ∷ path) v ≡ Ok after → slot after (name ∷ path) ≡ taken v) }
-    // Where the way holds no array it is what a filter finds there, and that alone.
+    // If there is no array on the way, it is what a filter finds there, and the only candidate.
     ensures found { ForEachPut (λ fields name path v after. EntersNoArray (name ∷ path) fields → put fields (name ∷ path) v ≡ Ok after → whole after (name ∷ path) ≡ Some v ∷ []) }
 {}
 
-/// A value that is there can be exchanged; through what blocks the way none is put.
+/// A value that is there can be replaced; no value is put through one that blocks the way.
 pub fn slots_tell_what_is_put()
     ensures taken { ForEachPath (λ fields name path. (v there : Tree) → slot fields (name ∷ path) ≡ taken there → CanPut fields (name ∷ path) v) }
     ensures blocked { (fields : List Field) (path : List (List ℕ)) (v : Tree) → slot fields path ≡ blocked → put fields path v ≡ Err NotViable }

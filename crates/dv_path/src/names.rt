@@ -30,7 +30,7 @@ pub fn has_dot(name: &str) -> bool
     name.as_bytes().contains(&b'.')
 }
 
-/// Whether a dot stands in a name, at any level of the value.
+/// Whether a name at any level of the value has a dot.
 #[cycle(dotted)]
 fn is_dotted(value: &Value) -> bool
     ensures { result ≡ defined.is_dotted (tree value.now) }

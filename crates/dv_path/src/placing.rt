@@ -79,7 +79,7 @@ fn put_last(document: &mut Document, component: &Component, value: Value) -> Res
     }
 }
 
-/// The value that is there, with the other one where the rest of the path leads from it on.
+/// The value that is there, with the other one put where the rest of the path leads inside it.
 #[cycle(placing)]
 fn put_into_value(
     alloc: Global,

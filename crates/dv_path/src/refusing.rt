@@ -11,7 +11,7 @@ use crate::placing::MOST_BEYOND;
 use dv_candidates::{Component, Path, PathFault, behind};
 use dv_value::{Document, List, Value};
 
-/// Why no value can be put where the path leads, if none can: which value it would be is no matter. Takes no memory.
+/// Why no value can be put where the path leads, if none can; it doesn't depend on the value. Takes no memory.
 pub(crate) fn refusal(document: &Document, path: &Path) -> Option<PathFault>
     ensures { (v : Tree) → result ≡ result_err (put document.now path.now v) }
 {
@@ -20,7 +20,7 @@ pub(crate) fn refusal(document: &Document, path: &Path) -> Option<PathFault>
     refusal_behind(there, behind(components))
 }
 
-/// The same where the rest of the path leads from a value on.
+/// The same for the rest of the path inside a value.
 #[cycle(refusing)]
 fn refusal_behind(there: &Value, rest: &[Component]) -> Option<PathFault>
     ensures { (v : Tree) → result ≡ result_err (put_behind rest.now v (Some (tree there.now))) }

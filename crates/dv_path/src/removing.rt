@@ -1,4 +1,4 @@
-//! Taking away what stands where a path leads.
+//! Removing the value that a path leads to.
 
 ghost use Rattle.std.specs.Prelude.{◌≡◌, IfOk};
 ghost use Rattle.std.specs.Option.{option_map};
@@ -46,7 +46,7 @@ fn remove_from_document(
     Ok(document)
 }
 
-/// What is left of the value without what the rest of the path leads to in it; `None` where it goes itself.
+/// The value without what the rest of the path leads to in it; `None` if the value itself is removed.
 #[cycle(removing)]
 fn left_of(there: Value, rest: &[Component]) -> Result<Option<Value>, NoMemory>
     ensures { IfOk result (λ left. option_map tree left ≡ left_behind rest.now (tree there)) }

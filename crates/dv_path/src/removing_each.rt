@@ -1,4 +1,4 @@
-//! Taking away what stands where each of some paths leads.
+//! Removing the values that several paths lead to.
 
 ghost use Rattle.std.specs.Prelude.{◌≡◌, Some, map, IfOk, OnOk};
 ghost use Rattle.std.specs.List.{filter};
@@ -145,7 +145,7 @@ fn remove_from_field(
     Ok(changed)
 }
 
-/// What is left of the value without what the paths lead to in it; null where it goes itself.
+/// The value without what the paths lead to in it; null if the value itself is removed.
 #[cycle(together)]
 fn left_of(alloc: Global, there: Value, paths: &[&[Component]]) -> Result<Value, NoMemory>
     requires { AreAllApart (map (λ path. path.now) paths.now) }

@@ -33,7 +33,7 @@ pub fn slot_at<'a>(document: &'a Document, path: &Path) -> Slot<'a>
     slot
 }
 
-/// What stands one component on.
+/// The slot that one more component leads to.
 fn next<'a>(slot: Slot<'a>, component: &Component) -> Slot<'a>
     ensures { slot_seen result ≡ next_slot component.now (slot_seen slot.entry) }
 {

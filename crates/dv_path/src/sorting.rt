@@ -18,7 +18,7 @@ use dv_value::{Document, List, NoMemory, Value};
 pub fn sort_key(document: &Document, path: &Path, direction: Direction) -> Result<Key, NoMemory>
     ensures { IfOk result (λ key. key ≡ sorting.sort_key document.now path.now direction) }
 {
-    // A key is known by where it stands, so it doesn't matter in which order keys are looked at.
+    // Keys that compare as equal are the same key, so the order in which candidates are read doesn't matter.
     laws::equal_is_same_but_for_widths();
     laws::keys_stand_as_their_values();
     laws::no_element_stands_beside_no_value();

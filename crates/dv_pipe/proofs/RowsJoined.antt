@@ -103,7 +103,7 @@ module _ (l : Lookup) (vs : List Tree) where
 
 -- ---- the values of rows
 
--- what a fold over the candidates of a row puts behind values
+-- what a fold over the candidates of a row appends to values
 module _ {X E T : Type 0} (seen : X → Candidate) (call : T → X → Result T E → Type 0) (values : T → List Tree)
     (steps : (t : T) (x : X) (u : T) → call t x (Ok u) → values u ≡ values t ++ local_values (seen x)) where
   folded : (test : Tree → Bool) (t u : T) (cs : List Candidate) → FoldsTo (Takes seen call) t cs u → list_any test (values u) ≡ list_any test (values t) || list_any (λ c. list_any test (local_values c)) cs

@@ -85,7 +85,7 @@ pub limit_limit : (m n : ℕ) (rows foreign : List Row) → stage (Limit m) (sta
 unfolding stage
 limit_limit m n rows foreign = take-take m n rows
 
--- the rows of one row, where there is no array
+-- the rows of one row, if there is no array
 plain : (u : form.Unwind) (d : Row) (c : Candidate) → u.preserve ≡ false → IsNoArrayCandidate c → unwound_rows u d c ≡ (if is_value_but_null c then d ∷ [] else [])
 plain u d None e h = rw e refl
 plain u d (Some null) e h = rw e refl

@@ -21,7 +21,7 @@ same-each : {X Y : Type 0} (f g : X → List Y) → ((x : X) → f x ≡ g x) �
 same-each f g same [] = refl
 same-each f g same (x ∷ xs) = ap₂ (λ a b. a ++ b) (same x) (same-each f g same xs)
 
--- no step leaves rows as they are
+-- without steps rows stay as they are
 pub through-none : (ds : List Row) → flat_map (passed []) ds ≡ ds
 through-none [] = refl
 through-none (d ∷ ds) = ap (λ l. d ∷ l) (through-none ds)
@@ -36,7 +36,7 @@ passed-more (t ∷ ss) s d =
     same-each (passed (ss ++ s ∷ [])) (λ e. flat_map (rows_of_step s) (passed ss e)) (passed-more ss s) (rows_of_step t d)
     ∙ sym (one-by-one (rows_of_step s) (passed ss) (rows_of_step t d))
 
--- a step more, behind the others
+-- one more step, after the others
 pub through-more : (ss all : List Step) (s : Step) (ds : List Row) → all ≡ ss ++ s ∷ [] → flat_map (passed all) ds ≡ flat_map (rows_of_step s) (flat_map (passed ss) ds)
 through-more ss all s ds is =
     ap (λ l. flat_map (passed l) ds) is
@@ -55,12 +55,12 @@ front-behind None xs zs ys same = ap (λ l. l ++ ys) same
 front-behind (Some n) xs zs ys same = sym (take-behind n xs ys) ∙ ap (λ l. take n (l ++ ys)) same ∙ take-behind n zs ys
 
 module _ (ss : List Step) (most : Option ℕ) (before so-far : List Row) (ds : List Row) (is : front most so-far ≡ front most (before ++ flat_map (passed ss) ds)) where
-  -- what the steps make of one row more
+  -- what the steps return for one more row
   pub front_more : (after more : List Row) (d : Row) → more ≡ ds ++ d ∷ [] → front most after ≡ front most (so-far ++ passed ss d) → front most after ≡ front most (before ++ flat_map (passed ss) more)
   front_more after more d one made =
       made ∙ front-behind most so-far (before ++ flat_map (passed ss) ds) (passed ss d) is ∙ ap (front most) (flat_map_more (passed ss) before ds d ∙ ap (λ l. before ++ flat_map (passed ss) l) (sym one))
 
-  -- where no row behind these is wanted
+  -- if no row after these is wanted
   pub front_full : (rest all : List Row) → ds ++ rest ≡ all → ((more : List Row) → front most (so-far ++ more) ≡ front most so-far) → front most so-far ≡ front most (before ++ flat_map (passed ss) all)
   front_full rest all parts full =
       let behind = flat_map (passed ss) rest in
@@ -72,7 +72,7 @@ module _ (ss : List Step) (most : Option ℕ) (before so-far : List Row) (ds : L
 pub referred_parts : (documents : List (Bor Row)) (i : ℕ) → rows_referred (take i documents) ++ rows_referred (drop i documents) ≡ rows_referred documents
 referred_parts documents i = sym (map-append (λ r. r.now) (take i documents) (drop i documents)) ∙ ap rows_referred (take-append-drop i documents)
 
--- ---- stages made steps one by one
+-- ---- stages turned into steps one by one
 
 module _ (source : List ℕ) (lists : Lists) (all stages later : List Stage) (s : Stage) (ss : List Step)
     (split : stages ≡ s ∷ later) (so-far : (rows : List Row) → through stages source lists (flat_map (passed ss) rows) ≡ through all source lists rows) where

@@ -37,7 +37,7 @@ unfolding through
 through_none [] source lists rows e = refl
 through_none (s ∷ ss) source lists rows e = absurd cc
 
--- the rows of each row that matches, which is the row alone
+-- a match returns for each row that matches the row alone
 pub matched : (form : Members) (ds : List Row) → flat_map (λ d. if matches form d then d ∷ [] else []) ds ≡ filter (matches form) ds
 matched form [] = refl
 matched form (d ∷ ds) = go (matches form d) (matched form ds)
@@ -49,7 +49,7 @@ matched form (d ∷ ds) = go (matches form d) (matched form ds)
     go true e = ap (λ l. d ∷ l) e
     go false e = e
 
--- ---- stages by what they make of one row, or of all
+-- ---- stages by what they return for one row, or for all
 
 module _ (s : Stage) (later : List Stage) (source : List ℕ) (lists : Lists) (rows : List Row) where
   abbrev IsPart : List Row → Type 0
@@ -91,7 +91,7 @@ module _ (s : Stage) (later : List Stage) (source : List ℕ) (lists : Lists) (r
 abbrev fronted : List Part → Option ℕ → List Row → Front
 fronted parts most rows = record { parts = parts; most = most; rows = rows }
 
--- the front of nothing
+-- the prefix of no rows
 pub front_nothing : (parts : List Part) (most : Option ℕ) → no_rows parts most ≡ front_of parts most []
 unfolding stable
 front_nothing parts None = refl

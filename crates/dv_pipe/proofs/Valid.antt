@@ -1,4 +1,4 @@
--- What stages make of valid rows is valid, where they were read from valid values.
+-- What stages return for valid rows is valid, if the stages were read from valid values.
 use Rattle.std.proofs.Common.{◌≡◌, ℕ, zero, suc, nat_le, Bool, List, [], ◌∷◌, ◌++◌, fold, map, filter, take, length, Option, Some, None, Result, Ok, Err, codes, if◌then◌else◌}
 use Rattle.std.specs.Bool.{⊤}
 use Rattle.std.specs.List.{AllByRecursion, flat_map}
@@ -118,7 +118,7 @@ pipeline_of-sound list values =
     bound (AllByRecursion IsSoundStage) (AllByRecursion IsSoundStage) (λ stages. if nat_le (length list) 16 then Ok stages else Err TooMany)
     (λ stages sounds. either Sound (nat_le (length list) 16) (Ok stages) (Err TooMany) sounds tt) (each stage_of (take 16 list)) (each-sound IsValue IsSoundStage stage_of stage_of-sound (take 16 list) (values-taken 16 list values))
 
--- ---- documents with a spelling
+-- ---- documents with an encoding
 
 abbrev AreSpelled : List Row → Type 0
 AreSpelled rows = AllByRecursion (λ d. AreFields (fields_of d)) rows

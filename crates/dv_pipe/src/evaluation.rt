@@ -30,7 +30,7 @@ pub fn evaluate(
     )
 }
 
-/// The rows that stages of a pipeline over `source` make of these rows. They share memory as those of `evaluate` do. Fails with
+/// The rows that stages of a pipeline over `source` return for these rows. They share memory as those of `evaluate` do. Fails with
 /// `NoMemory` when memory runs out.
 pub fn rows_through(
     alloc: Global,

@@ -32,7 +32,7 @@ pub fn filter_of_joined(
     has_one_of(alloc, &lookup.foreign, List::of(values))
 }
 
-/// The filter that a document matches where some leaf under the path compares equal to one of the values.
+/// The filter that a document matches if some leaf under the path compares equal to one of the values.
 fn has_one_of(alloc: Global, path: &Path, values: List) -> Result<Filter, NoMemory>
     ensures { IfOk result (λ filter. filter ≡ having_one_of path.now values) }
 {
@@ -53,7 +53,7 @@ fn with_values(values: Vec<Value>, local: &Path, row: &Document) -> Result<Vec<V
     Ok(all)
 }
 
-/// The values, and those that a candidate stands for: the elements of an array, and null where it is missing.
+/// The values, and those that a candidate stands for: the elements of an array, and null if it is missing.
 fn with_candidate(mut values: Vec<Value>, candidate: Candidate<'_>) -> Result<Vec<Value>, NoMemory>
     ensures { IfOk result (λ all. map tree all.items ≡ map tree values.items ++ local_values (seen candidate.entry)) }
 {
@@ -73,7 +73,7 @@ fn push_each(values: &mut Vec<Value>, list: &List) -> Result<(), NoMemory>
     Ok(())
 }
 
-/// The value of a candidate, null where it is missing.
+/// The value of a candidate, or null if it is missing.
 fn value_of(candidate: Candidate<'_>) -> Result<Value, NoMemory>
     ensures { IfOk result (λ value. tree value ≡ or_null (seen candidate.entry)) }
 {

@@ -61,14 +61,14 @@ impl Pipeline {
         self.stages.as_slice()
     }
 
-    /// Whether the pipeline over `source` reads the namespace: it is the source, or a stage looks into it. Takes no memory.
+    /// Whether the pipeline over `source` reads the namespace: it is the source, or a `$lookup` reads it. Takes no memory.
     pub fn reads(&self, source: &str, namespace: &str) -> bool
         ensures { result ≡ is_read self.now source.now namespace.now }
     {
         source == namespace || self.looks_into(source, namespace)
     }
 
-    /// Whether a stage of the pipeline over `source` looks into the namespace.
+    /// Whether a `$lookup` of the pipeline over `source` reads the namespace.
     fn looks_into(&self, source: &str, namespace: &str) -> bool
         ensures { result ≡ list_any (λ s. is_source_named namespace.now (looked_into s source.now)) self.now }
     {

@@ -1,4 +1,4 @@
-//! Stages that rows go through one by one, and what becomes of all of them behind.
+//! Stages that rows go through one by one, and what is done with all rows after them.
 
 ghost use Rattle.std.specs.Prelude.{◌≡◌, ◌∷◌, ◌⊎◌, ◌<◌, [], IfOk, length};
 ghost use Rattle.std.specs.List.{flat_map};
@@ -16,37 +16,37 @@ use dv_sort::{Sorter, laws};
 use dv_value::{Document, NoMemory};
 use std::alloc::Global;
 
-/// What becomes of rows behind steps.
+/// What is done with rows after steps.
 #[derive(Debug, Drop)]
 pub(crate) enum End<'a> {
-    /// They stay as they are: the first so many, or all.
+    /// They stay as they are: the first ones up to this number, or all.
     Front(Option<usize>),
-    /// They are put in order: the first so many, or all.
+    /// They are put in order: the first ones up to this number, or all.
     Sort(&'a SortSpec, Option<usize>),
     /// They are grouped.
     Group(&'a Group),
 }
 
-/// A stage, by how rows go through it.
+/// A stage, according to how rows go through it.
 #[derive(Drop)]
 pub(crate) enum RunPart<'a> {
     /// One by one.
     Step(Step<'a>),
-    /// All of them before the first one leaves.
+    /// All of them before the next stage begins.
     End(End<'a>),
 }
 
-/// Steps, and what becomes of rows behind them.
+/// Steps, and what is done with rows after them.
 #[derive(Drop)]
 pub(crate) struct Run<'a> {
     steps: Vec<Step<'a>>,
     end: End<'a>,
-    /// The stages behind the run.
+    /// The stages after the run.
     pub(crate) later: &'a [Stage],
 }
 
 impl<'a> Run<'a> {
-    /// The run at the front of the stages: up to the first one that needs all rows, or all of them.
+    /// The run at the start of the stages: up to the first stage that collects its rows, or all stages.
     pub(crate) fn of(
         alloc: Global,
         stages: &'a [Stage],
@@ -72,7 +72,7 @@ impl<'a> Run<'a> {
         })
     }
 
-    /// What it makes of the documents.
+    /// What the run returns for the documents.
     pub(crate) fn rows(
         &self,
         alloc: Global,
@@ -91,7 +91,7 @@ impl<'a> Run<'a> {
         self.end.rows(alloc, &lent)
     }
 
-    /// What it makes of rows.
+    /// What the run returns for rows.
     pub(crate) fn rows_behind(
         &self,
         alloc: Global,
@@ -105,7 +105,7 @@ impl<'a> Run<'a> {
 }
 
 impl End<'_> {
-    /// What becomes of the documents.
+    /// What this returns for the documents.
     fn rows(&self, alloc: Global, documents: &[&Document]) -> Result<Vec<Document>, NoMemory>
         ensures { IfOk result (λ rows. rows.items ≡ ended self.now (rows_referred documents.now)) }
     {
@@ -117,7 +117,7 @@ impl End<'_> {
     }
 }
 
-/// The stage, by how rows go through it, as far as later ones see them.
+/// The stage, according to how rows go through it. Rows that the later stages don't see may be left out.
 fn part_of<'a>(
     alloc: Global,
     stage: &'a Stage,
@@ -153,7 +153,7 @@ fn join_of<'a>(
     lookup.join(alloc, sources.beside(source, lookup.from.as_str()))
 }
 
-/// How many of the first rows the stages see, where there are more.
+/// How many of the first rows the stages see, if they don't see all.
 fn wanted(stages: &[Stage]) -> Option<usize>
     ensures { result ≡ wanted_by stages.now }
 {
@@ -163,7 +163,7 @@ fn wanted(stages: &[Stage]) -> Option<usize>
     }
 }
 
-/// What the steps make of the documents: the first `most`, behind which no row is made, or all.
+/// What the steps return for the documents: the first `most` rows, after which no row is made, or all.
 fn each(
     alloc: Global,
     steps: &[Step<'_>],
@@ -182,7 +182,7 @@ fn each(
     Ok(cut(rows, most))
 }
 
-/// The first rows, so many at most, or all.
+/// The first rows, at most `most`, or all.
 fn cut(rows: Vec<Document>, most: Option<usize>) -> Vec<Document>
     ensures { result.items ≡ front most rows.items }
 {

@@ -41,7 +41,7 @@ impl<'a> Model for Sources<'a> {
 }
 
 impl<'a> Sources<'a> {
-    /// No namespace, whose list will be allocated by `alloc`.
+    /// No namespaces. Their list will be allocated by `alloc`.
     pub fn new(alloc: Global) -> Self
         ensures { result ≡ [] }
     {
@@ -78,7 +78,7 @@ impl<'a> Sources<'a> {
     }
 
     /// The documents of the collection in the database of `source`: those that were added first under its namespace, and
-    /// none where it isn't there. Takes no memory.
+    /// none if it isn't there. Takes no memory.
     pub(crate) fn beside(&self, source: &str, collection: &str) -> &[&'a Document]
         ensures { rows_referred result.now ≡ rows_under (stages.beside source.now collection.now) self.now }
     {

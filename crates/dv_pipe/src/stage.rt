@@ -15,7 +15,7 @@ use dv_row::{PipelineFault, Project, Unwind};
 use dv_value::{NoMemory, Value};
 use std::alloc::Global;
 
-/// What makes other rows of rows.
+/// How rows are made from other rows.
 #[derive(Debug, Drop)]
 pub enum Stage {
     /// `$match`: the rows that match the filter.
@@ -26,7 +26,7 @@ pub enum Stage {
     Unwind(Unwind),
     /// `$sort`: the rows in order.
     Sort(SortSpec),
-    /// `$limit`: the first rows, so many at most.
+    /// `$limit`: the first rows, at most this many.
     Limit(u64),
     /// `$group`: a row for each group of rows.
     Group(Group),
@@ -51,7 +51,7 @@ impl Stage {
         stage_named(alloc, name, operand)
     }
 
-    /// The name of the collection that the stage looks into beside its rows, in the database of the pipeline's source.
+    /// The name of the collection that the stage reads besides its rows, in the database of the pipeline's source.
     /// Takes no memory.
     pub fn foreign(&self) -> Option<&str>
         ensures { option_map (λ name. name.now) result ≡ from_of self.now }
@@ -108,7 +108,7 @@ fn filter_of(alloc: Global, value: &Value) -> Result<Filter, PipelineFault>
     }
 }
 
-/// What a filter's fault is in a pipeline: want of memory stays what it is.
+/// What a filter's fault is in a pipeline: out of memory stays the same, any other becomes `Filter`.
 fn of_filter(fault: FilterFault) -> PipelineFault
     ensures { result ≡ defined.pipeline_fault_of_filter fault }
 {
@@ -131,7 +131,7 @@ fn sort_of(alloc: Global, value: &Value) -> Result<SortSpec, PipelineFault>
     }
 }
 
-/// A number from 1.
+/// A number of at least 1.
 fn count_of(value: &Value) -> Result<u64, PipelineFault>
     ensures { result ≡ defined.count_in (tree value.now) }
 {

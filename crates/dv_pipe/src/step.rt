@@ -13,10 +13,10 @@ use dv_value::{Document, NoMemory};
 use std::alloc::Global;
 use std::cell::Cell;
 
-/// What makes rows of one row.
+/// How rows are made from one row.
 #[derive(Debug, Drop)]
 pub(crate) enum Work<'a> {
-    /// The row, where it matches the filter.
+    /// The row, if it matches the filter.
     Match(&'a Filter),
     /// The row as it is shown.
     Project(&'a Project),
@@ -30,7 +30,7 @@ pub(crate) enum Work<'a> {
 #[derive(Drop)]
 pub(crate) struct Step<'a> {
     work: Work<'a>,
-    /// What was made of the row before, where other steps follow: it lends its names.
+    /// The result for the row before, if other steps follow. The next result shares names with it.
     made: Cell<Option<Document>>,
 }
 
@@ -46,8 +46,9 @@ impl<'a> Step<'a> {
     }
 }
 
-/// Puts what the steps make of a row behind other rows, of which the first `most` are wanted, or all. Each row that a step makes
-/// goes through all later ones before the next is made. As deep as there are steps, of which a pipeline has 16 at most.
+/// Appends what the steps return for a row to other rows, of which the first `most` are wanted, or all. Each row that a step makes
+/// goes through all later steps before the next row is made. Calls are nested as deep as there are steps; a pipeline has at most
+/// 16.
 #[cycle(steps)]
 pub(crate) fn push_row(
     alloc: Global,
@@ -86,7 +87,7 @@ pub(crate) fn push_row(
     }
 }
 
-/// The same of what the later steps make of a row that the step made.
+/// The same for what the later steps return for a row that the step made.
 #[cycle(steps)]
 fn push_made(
     alloc: Global,
@@ -99,7 +100,7 @@ fn push_made(
     ensures { OnOk result (front most rows.new.items ≡ front most (rows.old.items ++ passed later.now row)) }
 {
     if later.is_empty() {
-        // Its length is asked more than once before it is written.
+        // Its size is needed more than once before it is written.
         row.keep_size();
         rows.push(row)?;
         return Ok(());
@@ -109,7 +110,7 @@ fn push_made(
     Ok(())
 }
 
-/// The same of each of the rows, as long as one is wanted.
+/// The same for each of the rows, as long as one is wanted.
 #[cycle(steps)]
 fn push_each(
     alloc: Global,
@@ -130,7 +131,7 @@ fn push_each(
     Ok(())
 }
 
-/// Whether no row behind these is wanted.
+/// Whether no row after these is wanted.
 pub(crate) fn is_full(rows: &[Document], most: Option<usize>) -> bool
     ensures { result ≡ true → (more : List Row) → front most (rows.now ++ more) ≡ front most rows.now }
 {

@@ -61,8 +61,8 @@ abbrev pub message_of : Refusal → List ℕ
 message_of (InvalidBson fault) = codes "InvalidBSON: " ++ fault_text fault
 message_of refusal = code_name refusal
 
--- the refusal of a command of which a document can't be read, in its body or in a list beside it: for its fault, or because memory ran
--- out
+-- the refusal of a command of which a document can't be read, in its body or in a list next to it: for its fault, or because memory
+-- ran out
 abbrev pub refusal_of : BsonFault → Refusal
 refusal_of NoMemory = WantOfMemory
 refusal_of fault = InvalidBson fault

@@ -18,21 +18,20 @@ pub enum Refusal {
     /// A name, a number, a filter, a sort or an index's key breaks its rules; a document can't be stored as it is; or an update meets a
     /// value that it can't change (2).
     BadValue,
-    /// A field is missing or unknown, is both in the body and beside it, or asks for what is not supported; or an update or a stage has
-    /// none of the forms (9).
+    /// A field is missing or unknown, is both in the body and in a list next to it, or asks for what is not supported; or an update
+    /// or a stage has none of the valid forms (9).
     FailedToParse,
-    /// A field has another type than it has to, or `$inc` meets what is no number (14).
+    /// A field has a wrong type, or `$inc` meets a value that is no number (14).
     TypeMismatch,
     /// A document of the message can't be read (22).
     InvalidBson(BsonFault),
-    /// There is nothing under a namespace, or no view where one is asked for (26).
+    /// There is nothing under a namespace, or no view although one is asked for (26).
     NamespaceNotFound,
     /// A collection has no index of a name (27).
     IndexNotFound,
     /// A path of an update leads to no place for a value (28).
     PathNotViable,
-    /// Two paths of an update, or of a stage, are in each other's way, or only the name or only the path of an index is
-    /// there (40).
+    /// Two paths of an update, or of a stage, are in conflict, or another index has the name or the path of a new one (40).
     ConflictingUpdateOperators,
     /// A session has no cursor of an id over a namespace (43).
     CursorNotFound,
@@ -42,7 +41,7 @@ pub enum Refusal {
     CommandNotFound,
     /// An update changes a document's `_id`, or its encoding (66).
     ImmutableField,
-    /// A document has an equal `_id`, or a key of a unique index would come under two (11000).
+    /// A document has an equal `_id`, or a key of a unique index would be in two documents (11000).
     DuplicateKey,
     /// Memory ran out (900).
     WantOfMemory,
@@ -52,7 +51,7 @@ pub enum Refusal {
     OnView,
     /// There are more statements, stages, views, indexes or cursors than there may be, or a view would be too high (903).
     LimitReached,
-    /// A view reads the namespace of a view that is to be made or dropped, or would read itself (904).
+    /// A view reads the namespace of a view that is to be made or dropped, or a new view would read itself (904).
     ReadByView,
 }
 

@@ -1,4 +1,5 @@
--- Documents that differ in nothing but the value under a name, and rows of arrays' elements that differ in nothing else.
+-- Documents that differ only in the value under a name, and rows made of elements of two arrays if all else in the rows is the
+-- same.
 use Rattle.std.proofs.Common.{◌≡◌, ◌∙◌, ap, ap₂, sym, refl, Bool, true, false, ◌||◌, List, [], ◌∷◌, ◌++◌, ℕ, zero, suc, map, length, Some, arith}
 use Rattle.std.specs.List.{zip}
 use Rattle.std.specs.Str.{bytes_eq}
@@ -57,7 +58,7 @@ module _ (name : List ℕ) where
 
 -- ---- documents in one another
 
--- a value set in them stands in the outermost one
+-- after a value is set in them, there is a value in place of the outermost one
 inward-some : (cs : List Crossing) (v : Tree) → (w : Tree) × (set_inward cs (Some v) ≡ Some w)
 inward-some [] v = (v, refl)
 inward-some (c ∷ cs) v = (document (fields_of (set_under c.component.now (set_inward cs (Some v)) c.document)), refl)

@@ -1,4 +1,4 @@
--- Two ways gone through side by side from the front, where what is left of both decides.
+-- Two ways compared component by component from the start, where what is left of both decides.
 use Rattle.std.specs.Prelude.{◌≡◌, ℕ, List, ◌∷◌, length, true, false, ◌⊎◌}
 use Rattle.std.proofs.Common.{sym, ◌∙◌, arith}
 use Rattle.std.specs.Cmp.{nat_cmp_is}
@@ -9,7 +9,7 @@ use Rattle.dv_row.specs.Inner.Ways.{name_order, way_order}
 use Rattle.dv_value.specs.Inner.LeftLaws.{IsLeft, IsLeft-more, decided, ended, first_is, rest_is}
 
 module _ {xs ys us vs : List (List ℕ)} (left : IsLeft way_order xs ys us vs) where
-  -- where nothing is left of one, the lengths decide
+  -- if nothing is left of one, the lengths decide
   pub order-ended : (length us ≡ 0) ⊎ (length vs ≡ 0) → nat_cmp (length xs) (length ys) ≡ way_order xs ys
   order-ended = ended left nat_cmp (λ n m e. sym (nat_cmp_is n m Equal (omega arith))) (λ w ws n m e. sym (nat_cmp_is n m Less (omega arith))) (λ w ws n m e. sym (nat_cmp_is n m Greater (omega arith)))
 

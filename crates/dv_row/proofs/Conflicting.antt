@@ -1,4 +1,4 @@
--- Conflicts among paths: the order of the paths doesn't matter, and in order neighbours tell.
+-- Conflicts among paths: the order of the paths doesn't matter; if they are in order, it is enough to compare neighbours.
 use Rattle.std.proofs.Common.{◌≡◌, ◌∙◌, ap, ap₂, sym, refl, Bool, true, false, ◌&&◌, ◌||◌, not, ◌==◌, List, [], ◌∷◌, ◌++◌, ℕ, zero, suc, ◌+◌, ◌<◌, ◌≤◌, arith, length, get_or, Some, slice_get, if◌then◌else◌}
 use Rattle.std.specs.List.{list_any, sum_by}
 use Rattle.std.specs.List.Sorted.{IsPermutation}
@@ -86,7 +86,7 @@ conflict-permuted ps qs moved =
 
 -- ---- neighbours
 
--- what begins a path begins each one that stands between
+-- a path that begins another one begins each path between the two
 begins-between : (p q r : Way) → is_lt (way_order q p) ≡ false → is_lt (way_order r q) ≡ false → one_begins p r ≡ true → one_begins p q ≡ true
 begins-between [] q r h k e = refl
 begins-between (a ∷ p) [] r h k e = absurd cc
@@ -161,7 +161,7 @@ any-pushed test (p ∷ ps) q = ap (λ b. test p || b) (any-pushed test ps q) ∙
     regroup true b c = refl
     regroup false b c = refl
 
--- it comes behind the others
+-- the path comes after the others
 pub conflict-pushed : (ps : List Way) (q : Way) → paths_conflict (ps ++ q ∷ []) ≡ (paths_conflict ps || list_any (one_begins q) ps)
 conflict-pushed [] q = refl
 conflict-pushed (p ∷ ps) q =

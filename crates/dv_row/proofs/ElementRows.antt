@@ -1,4 +1,4 @@
--- The rows of an $unwind by what putting a value at a path, or taking one away, makes of a row.
+-- The rows of an $unwind as the results of putting a value at a path of a row, or of removing it.
 use Rattle.std.proofs.Common.{◌≡◌, ◌≢◌, ◌∙◌, ap, sym, refl, ℕ, Bool, true, false, List, [], ◌∷◌, map, Some, None, option_and_then, Ok, ◌⊎◌, inl, inr, if◌then◌else◌}
 use Rattle.std.specs.Str.{bytes_eq}
 use Rattle.dv_value.specs.Tree.{Tree, int32, int64, string, document, array, boolean, binary, object_id, date, null, timestamp, min_key, max_key, Field, fields_of, list_of_fields, Elements, no_elements, element, list_of_elements}
@@ -13,7 +13,7 @@ use Rattle.dv_row.specs.Unwinding.{reached, changed_under, set_through, unwound_
 use Rattle.dv_row.specs.declared.unwind.Unwind.{Unwind}
 use Rattle.dv_row.proofs.Unwound.{gone-through}
 
--- ---- one value put, or taken away
+-- ---- one value put, or removed
 
 exchanged : (name : List ℕ) (v w : Tree) (fs : List Field) → value_under name fs ≡ Some w → placing.with_field name (Some v) fs ≡ with_value_under name v fs
 exchanged name v w [] there = absurd cc

@@ -1,4 +1,4 @@
--- What is shown of a row's _id, where nothing is asked of it.
+-- What is shown of a row's _id if no member names it.
 use Rattle.std.proofs.Common.{◌≡◌, ◌∙◌, ap, ap₂, sym, refl, ℕ, Bool, true, false, ◌||◌, ◌&&◌, ◌==◌, not, List, [], ◌∷◌, ◌++◌, append-nil, filter, length, Option, Some, None, Result, Ok, Err, codes, arith, if◌then◌else◌}
 use Rattle.std.specs.List.{join_with_byte, list_any}
 use Rattle.std.specs.Str.{bytes_eq}
@@ -33,9 +33,9 @@ use Rattle.dv_row.proofs.Taken.{computed-taken, excluded-taken, included-taken, 
 abbrev id : List ℕ
 id = codes "_id"
 
--- ---- paths that ask nothing of _id
+-- ---- paths that don't name _id
 
--- what a text leads to is _id or below it only where the text begins so
+-- a path conflicts with _id only if its text is _id or it leads into _id
 apart : (name : List ℕ) (p : List (List ℕ)) → path_of name ≡ Some p → bytes_eq id name ≡ false → is_below_id p ≡ false → one_begins (id ∷ []) p ≡ false
 apart name [] leads other outside = absurd (omega (arith, length-slice_split (λ b. b == 46) name, ap length (parts-of name [] leads)))
 apart name (n ∷ []) leads other outside =
@@ -76,7 +76,7 @@ module _ (name : List ℕ) (p : List (List ℕ)) (asked more : AskedMembers) (le
   switch-more v (Some false) ok = excluded-more (is_below_id p || not (is_id_path p) && includes asked) refl ok
   switch-more v None ok = computed-more v (has_dot name) (excludes asked) (expression_in false v) refl refl refl ok
 
--- ---- members that ask nothing of _id
+-- ---- members that don't name _id
 
 member-more : (f : Field) (asked more : AskedMembers) → bytes_eq id f.0 ≡ false → AsksNothing asked → with_member f asked ≡ Ok more → AsksNothing more
 member-more f asked more other none ok = go (path_of f.0) refl ok

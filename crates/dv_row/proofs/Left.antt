@@ -9,7 +9,7 @@ use Rattle.dv_candidates.specs.Candidates.{Candidate}
 use Rattle.dv_row.specs.Expressions.{with_field_behind}
 use Rattle.dv_row.specs.Projecting.{paths_behind, with_left, with_element_left, left_of_value, left_inside, fields_left, elements_left, row_left}
 
--- a field alone, where there is a value
+-- a field alone, if there is a value
 abbrev alone : List ℕ → Candidate → List Field
 alone name None = []
 alone name (Some v) = (name, v) ∷ []
@@ -33,7 +33,7 @@ module _ (keeps : Bool) (paths : List (List (List ℕ))) where
   unfolding fields_left
   row-left_one name v = row-left_first name (left_of_value keeps (paths_behind name paths) v) [] ∙ append-nil (alone name (left_of_value keeps (paths_behind name paths) v))
 
-  -- no name comes in
+  -- no name is added
   names-left : (name : List ℕ) (d : List Field) → has_name name d ≡ false → has_name name (row_left keeps paths d) ≡ false
   unfolding fields_left
   names-left name [] h = refl
@@ -47,7 +47,7 @@ not-among : (n : List ℕ) (fs : List Field) (f : Field) (rest : List Field) →
 not-among n [] f rest h = (or_parts (bytes_eq n f.0) (has_name n rest) h).0
 not-among n (g ∷ fs) f rest h = not-among n fs f rest (or_parts (bytes_eq n g.0) (has_name n (fs ++ f ∷ rest)) h).1
 
--- a field's name is new behind those before it
+-- a field's name is none of those before it
 new-name : (fs : List Field) (f : Field) (rest : List Field) → AreNamed (fs ++ f ∷ rest) → (has_zero f.0 ≡ false) × (has_name f.0 fs ≡ false)
 new-name [] f rest named = (named.0, refl)
 new-name (g ∷ fs) f rest named =
@@ -58,13 +58,13 @@ with-field_new : (name : List ℕ) (c : Candidate) (fs : List Field) → has_zer
 with-field_new name None fs e h = sym (append-nil fs)
 with-field_new name (Some v) fs e h = rw (e, h) refl
 
--- one field more, as it is
+-- one more field, as it is
 pub copied-more : (fs : List Field) (f : Field) (rest : List Field) → AreNamed (fs ++ f ∷ rest) → with_field_behind f.0 (Some f.1) fs ≡ fs ++ f ∷ []
 copied-more fs f rest named =
     let new = new-name fs f rest named in
     with-field_new f.0 (Some f.1) fs new.0 new.1
 
--- one field more
+-- one more field
 pub row-left_more : (keeps : Bool) (paths : List (List (List ℕ))) (fs : List Field) (f : Field) (rest : List Field) → AreNamed (fs ++ f ∷ rest)
     → with_field_behind f.0 (left_of_value keeps (paths_behind f.0 paths) f.1) (row_left keeps paths fs) ≡ row_left keeps paths (fs ++ f ∷ [])
 row-left_more keeps paths fs f rest named =

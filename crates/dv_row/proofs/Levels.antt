@@ -61,7 +61,7 @@ module _ (paths : Paths) where
 
 -- ---- level by level
 
--- fields of other names: gone, or as they are
+-- fields of other names: removed, or as they are
 abbrev others : Bool → Row → Row
 others keeps d = if keeps then [] else d
 
@@ -78,7 +78,7 @@ others-left keeps name way (f ∷ d) h =
     go true rest e = e
     go false rest e = ap (λ fs. f ∷ fs) e
 
--- a level, where a path leads further
+-- what is left of a level if a path leads further
 abbrev level_left : Bool → Level → Level
 level_left keeps l = record { front = others keeps l.front; name = l.name; back = others keeps l.back }
 

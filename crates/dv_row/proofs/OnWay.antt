@@ -14,7 +14,7 @@ pub set-innermost : (cs : List Crossing) (c : Crossing) (v : Candidate) → set_
 set-innermost [] c v = refl
 set-innermost (k ∷ cs) c v = ap (λ w. Some (document (fields_of (set_under k.component.now w k.document)))) (set-innermost cs c v)
 
--- what the rest of a path leads to from what stands before it, and what setting a value there makes of that
+-- what the rest of a path leads to from a candidate, and the result of setting a value there
 abbrev reached_from : List (List ℕ) → Candidate → Candidate
 reached_from [] c = c
 reached_from (name ∷ names) c = in_document (reached (name ∷ names)) c

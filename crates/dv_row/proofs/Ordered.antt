@@ -1,4 +1,4 @@
--- Ways in order: where those stand that lead through a name.
+-- Ways in order: where those that lead through a name are.
 use Rattle.std.proofs.Common.{◌≡◌, ◌∙◌, ap, ap₂, sym, subst, refl, Bool, true, false, ◌||◌, List, [], ◌∷◌, ℕ, zero, suc, ◌+◌, ◌-◌, ◌<◌, ◌≤◌, add-one, arith, length, take, drop, map, get_or, nat_le, Some, None, slice_get, if◌then◌else◌}
 use Rattle.std.specs.Cmp.{IsTotalOrder, IsStrictWeakOrder, tied_itself}
 use Rattle.std.specs.Cmp.Lexicographic.{lists_total, nat_list_cmp_total}
@@ -91,7 +91,7 @@ beside-loosely (n ∷ ns) (m ∷ ms) name h e = loosely n m name (first-not-less
 pub same-name : (n name : List ℕ) → is_eq (name_order n name) ≡ true → n ≡ name
 same-name n name e = exact_bytes n name (equal (name_order n name) e)
 
--- without the name through which both lead they stand as before
+-- without the name through which both lead, two ways keep their order
 tails : (name : List ℕ) (x y : Way) → is_eq (way_beside name x) ≡ true → is_eq (way_beside name y) ≡ true → is_lt (way_order y x) ≡ false → is_lt (way_order (drop 1 y) (drop 1 x)) ≡ false
 tails name [] y e f h = absurd cc
 tails name (n ∷ ns) [] e f h = absurd cc
@@ -144,7 +144,7 @@ module _ (depth : ℕ) (name : List ℕ) where
       far = λ i j d upto within. rw (get_or-drop from ps i d, get_or-drop from ps j d) (order.far (from + i) (from + j) d (omega (arith, upto)) (omega (arith, within, length-drop from ps)));
     }
 
-  -- ---- what stands behind a name
+  -- ---- what follows a name
 
   passed : (w : Way) (ws : List Way) → is_eq (way_beside name w) ≡ false → paths_behind name (w ∷ ws) ≡ paths_behind name ws
   passed [] ws e = refl
@@ -189,7 +189,7 @@ module _ (depth : ℕ) (name : List ℕ) where
       taken (drop depth p) (map (drop depth) ps) (among (stands p) (from 0 p (omega arith)) (upto 0 p (omega arith)))
       ∙ ap₂ (λ (w : Way) (ws : List Way). w ∷ ws) (drop-more depth p) (kept i ps (λ k d l. from (suc k) d (omega (arith, l))) (λ k d l. upto (suc k) d (omega (arith, l))) (λ k d h l. beyond (suc k) d (omega (arith, h)) (omega (arith, l))))
 
-  -- two searches, of which the second looks through what the first leaves
+  -- two searches, of which the second searches what the first leaves
   module _ (ps qs : List Way) (from count : ℕ) (order : Ascend depth ps) (left : qs ≡ drop from ps)
       (first : IsPartitionPoint (λ p. is_lt (stands p) ≡ true) (λ p. is_lt (stands p) ≡ false) ps from) (second : IsPartitionPoint (λ p. is_le (stands p) ≡ true) (λ p. is_le (stands p) ≡ false) qs count) (within : count ≤ length qs) where
     not-before : (k : ℕ) (d : Way) → k < length qs → is_lt (stands (get_or qs k d)) ≡ false
@@ -215,7 +215,7 @@ module _ (depth : ℕ) (name : List ℕ) where
             let apart : is_lt (way_order (drop depth y) (drop depth x)) ≡ false = rw (get_or-take count qs i d (omega (arith, upto, near)), get_or-take count qs j d near) (whole.far i j d upto (omega (arith, near, within))) in
             ap₂ (λ a b. is_lt (way_order a b)) (sym (drop-more depth y)) (sym (drop-more depth x)) ∙ tails name (drop depth x) (drop depth y) (at-name i d (omega (arith, upto, l))) (at-name j d l) apart
 
-    -- without one there is none
+    -- if none is found, no way leads through the name
     pub found-none : None ≡ slice_get (take count qs) 0 → [] ≡ paths_behind name (map (drop depth) ps)
     found-none e = sym (behind-found ∙ ap (map (drop (depth + 1))) (empty (take count qs) e))
       where
@@ -257,7 +257,7 @@ module _ (depth : ℕ) where
   none-ends n ns [] h = refl
   none-ends n ns (p ∷ ps) h = ap (λ b. b || list_any ends (map (drop depth) ps)) (not-ended (drop depth p) n ns (h 0 p (omega arith))) ∙ none-ends n ns ps (λ k d l. h (suc k) d (omega (arith, l)))
 
-  -- the first one tells
+  -- whether one of the ways ends is seen from the first one
   pub first-ends : (ps : List Way) (path : Way) → Ascend depth ps → Some path ≡ slice_get ps 0 → nat_le (length path) depth ≡ list_any ends (map (drop depth) ps)
   first-ends [] path order e = absurd cc
   first-ends (p ∷ ps) path order e =

@@ -1,4 +1,4 @@
--- What is left depends on which ways stand at a value, and not on their order.
+-- What is left of a value depends on which ways lead on from it, and not on their order.
 use Rattle.std.proofs.Common.{◌≡◌, ◌∙◌, ap, ap₂, sym, refl, Bool, true, false, ◌&&◌, ◌||◌, List, [], ◌∷◌, ℕ, Some, if◌then◌else◌}
 use Rattle.std.specs.List.{list_any}
 use Rattle.std.specs.Str.{bytes_eq}

@@ -54,7 +54,7 @@ left-of keeps paths f =
     ∙ ap (λ b. if b then if_it keeps f.1 else if is_led (paths_behind f.0 paths) then left_inside keeps (paths_behind f.0 paths) f.1 else if_it (not keeps) f.1) (ends-are f.0 paths)
     ∙ ap (λ b. if is_named paths f then if_it keeps f.1 else if b then left_inside keeps (paths_behind f.0 paths) f.1 else if_it (not keeps) f.1) (led-are f.0 paths)
 
--- one that no path begins with
+-- a field that no path begins with
 pub not-led : (keeps : Bool) (paths : Paths) (f : Field) → is_met paths f ≡ false → left_of_value keeps (paths_behind f.0 paths) f.1 ≡ if_it (not keeps) f.1
 not-led keeps paths f h = chosen keeps (paths_behind f.0 paths) f.1 (left_inside keeps (paths_behind f.0 paths) f.1) ∙ go (paths_behind f.0 paths) (led-are f.0 paths)
   where
@@ -89,7 +89,7 @@ left-cons keeps paths f d = go (left_of_value keeps (paths_behind f.0 paths) f.1
 abbrev Same : (Field → Bool) → Bool → Paths → Type 0
 Same picked keeps paths = (d : Row) → filter picked (row_left keeps paths d) ≡ filter picked d
 
--- where a test asks for a name alone, and those that pass stay as they are
+-- if a test depends on the name alone, and fields that pass it stay as they are
 pub same-fields : (test : List ℕ → Bool) (keeps : Bool) (paths : Paths) → ((f : Field) → test f.0 ≡ true → left_of_value keeps (paths_behind f.0 paths) f.1 ≡ Some f.1) → Same (λ f. test f.0) keeps paths
 same-fields test keeps paths stays [] = ap (filter (λ f. test f.0)) (left-none keeps paths)
 same-fields test keeps paths stays (f ∷ d) = ap (filter (λ f. test f.0)) (left-cons keeps paths f d) ∙ go (test f.0) refl (same-fields test keeps paths stays d)

@@ -1,4 +1,4 @@
--- What comes of valid rows by what was read from valid values.
+-- The results for valid rows of what was read from valid values.
 use Rattle.std.proofs.Common.{◌≡◌, Bool, Ok}
 use Rattle.std.specs.Option.{IfSome}
 use Rattle.dv_value.specs.Spelling.{IsValue}

@@ -1,4 +1,4 @@
--- The value of a path that stands in a document, component by component.
+-- The value at a path in a document, component by component.
 use Rattle.std.proofs.Common.{◌≡◌, ◌∙◌, ap, sym, subst, refl, List, [], ◌∷◌, ◌++◌, ℕ, ◌+◌, ◌<◌, ◌≤◌, length, drop, get_or, Option, Some, None, IfSome, option_and_then}
 use Rattle.dv_value.specs.Tree.{Tree, Field, document, fields_of}
 use Rattle.dv_value.specs.Names.{value_under, value_at}
@@ -12,7 +12,7 @@ use Rattle.dv_row.specs.Unwinding.{in_document, reached}
 use Rattle.dv_row.proofs.Items.{drop-read, drop-past}
 use Rattle.dv_row.proofs.Unwound.{reached-none, reached-more}
 
--- what is left of a path leads on from a document in the one that it began with
+-- what is left of a path leads on from a document in the one from which the path starts
 pub record IsLeft (path : List (List ℕ)) (d : Row) (rest : List (List ℕ)) (inner : Row) : Type 0 where
   pub expressed : expr d path ≡ expr inner rest
   pub reaches : reached path d ≡ reached rest inner
@@ -20,7 +20,7 @@ pub record IsLeft (path : List (List ℕ)) (d : Row) (rest : List (List ℕ)) (i
 pub left-whole : (path rest : List (List ℕ)) (d : Row) → path ≡ rest → IsLeft path d rest d
 left-whole path rest d is = record { expressed = ap (expr d) is; reaches = ap (λ p. reached p d) is }
 
--- what is no document is not gone through
+-- a path does not lead through what is no document
 not-through : (look : List Field → Candidate) (v : Value) → ((fs : List Field) → v ≡ Value.Doc fs → ⊥) → in_document look (Some (tree v)) ≡ None
 not-through look (Value.Doc fs) plain = absurd (plain fs refl)
 not-through look v plain = refl

@@ -16,7 +16,7 @@ use Rattle.dv_row.proofs.Conflicting.{any-pushed, conflict-pushed}
 abbrev Way : Type 0
 Way = List (List ℕ)
 
--- ---- what is asked with a path more
+-- ---- what is asked for with one more path
 
 first-more : (a b c x : Bool) → ((a || x) || b || c) ≡ ((a || b || c) || x)
 first-more true b c x = refl
@@ -86,7 +86,7 @@ computed-taken name p v asked e leads plain parsed h after is = rw is (record {
 
 -- ---- all members
 
--- what the members in front of these ask, with their paths in written order, decides with these
+-- what the members before these ask for, with their paths in written order, decides the result together with these
 pub record IsSoFar (d rest : List Field) (asked : AskedMembers) (paths : List Way) : Type 0 where
   pub gives : members_in nothing_asked d ≡ (if paths_conflict paths then Err Conflict else members_in asked rest)
   pub asks : (p : Way) → conflicts_with_asked p asked ≡ list_any (one_begins p) paths

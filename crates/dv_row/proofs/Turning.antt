@@ -1,4 +1,4 @@
--- Documents that are gone through field by field, and those around them.
+-- Documents that are traversed field by field, and those around them.
 use Rattle.std.proofs.Common.{◌≡◌, ◌∙◌, ap, sym, subst, refl, Bool, true, false, not, ◌&&◌, ◌==◌, List, [], ◌∷◌, ◌++◌, ℕ, zero, suc, ◌+◌, ◌*◌, ◌<◌, ◌≤◌, drop, length, Some, slice_get, arith, append_assoc, append-nil, if◌then◌else◌}
 use Rattle.std.specs.List.{list_any}
 use Rattle.dv_value.specs.Names.{AreNamed, value_at}
@@ -18,7 +18,7 @@ use Rattle.dv_row.proofs.Left.{row-left_more}
 abbrev Paths : Type 0
 Paths = List (List (List ℕ))
 
--- ---- the fields behind a place
+-- ---- the fields from a place on
 
 pub value-here : (d : Row) (i : ℕ) (f : Field) → Some f ≡ slice_get d i → value_at i d ≡ f.1
 value-here [] i f here = absurd cc
@@ -62,7 +62,7 @@ module _ (keeps : Bool) (paths : Paths) where
   unfolding left_behind
   left-past d i left past = ap (λ fs. left_behind keeps paths fs left) (drop-past d i past)
 
-  -- behind the last field nothing was entered
+  -- after the last field nothing was entered
   pub around-past : (d : Row) (i : ℕ) (left inner : Row) → length d ≤ i → left_behind keeps paths (drop i d) left ≡ left_behind keeps paths (drop (i + 1) d) (with_entered (slice_get d i) inner left)
   around-past d i left inner past =
       left-past d i left past ∙ sym (ap (λ o. left_behind keeps paths (drop (i + 1) d) (with_entered o inner left)) (none-past d i past) ∙ left-past d (i + 1) left (omega arith))
@@ -99,7 +99,7 @@ module _ (keeps : Bool) (paths : Paths) where
 pub fresh-to_go : (paths : Paths) (d : Row) (l : Level) → IsFresh paths d l → fields_to_go l ≡ weighs d
 fresh-to_go paths d l fresh = ap (λ e. weighs (drop l.place e)) fresh.same_document ∙ ap (λ i. weighs (drop i d)) fresh.first
 
--- a field is entered, behind which the outer level stands
+-- a field is entered, at which the outer level is
 module _ (keeps : Bool) (l outer inner : Level) (f : Field) (here : Some f ≡ slice_get outer.document.now outer.place) (inside : Row) (fresh : IsFresh (paths_behind f.0 outer.ways) inside inner) (is : f.1 ≡ document (fields_of inside)) where
   pub entered : left_at_end keeps l ≡ left_at_end keeps outer → fields_to_go outer ≤ fields_to_go l → left_of_value keeps (paths_behind f.0 outer.ways) f.1 ≡ left_inside keeps (paths_behind f.0 outer.ways) f.1 → IsEntered keeps l outer inner
   entered so-far less led = record {
@@ -134,7 +134,7 @@ around-one (k ∷ ls) l = omega (arith, around-one ls l)
 abbrev pub to_go : List Level → Level → ℕ
 to_go around l = to_go_around around + 2 * fields_to_go l
 
--- what is left of the outermost one is decided by the level that is gone through and those around it
+-- what is left of the outermost document is decided by the level that is traversed and those around it
 pub record IsGoing (keeps : Bool) (paths : Paths) (d : Row) (around : List Level) (l : Level) : Type 0 where
   pub left : AreNamed l.document.now → row_left keeps paths d ≡ closed keeps around (left_at_end keeps l)
   pub within : to_go around l ≤ 2 * weighs d

@@ -17,7 +17,7 @@ module _ (name : List ℕ) (d : List Field) where
   reached-more [] v some e = absurd (some refl)
   reached-more (next ∷ names) v some e = ap (in_document (reached (next ∷ names))) e
 
--- what a path goes through is a document
+-- what a path leads through is a document
 pub gone-through : (look : List Field → Candidate) (c : Candidate) (w : Tree) → in_document look c ≡ Some w → (inner : Fields) × (c ≡ Some (document inner)) × (look (list_of_fields inner) ≡ Some w)
 gone-through look (Some (document inner)) w there = (inner, refl, there)
 gone-through look None w there = absurd cc

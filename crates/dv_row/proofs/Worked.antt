@@ -24,7 +24,7 @@ pub a_long_off : shown ((codes "a", long 0) ∷ []) ((codes "_id", int 1) ∷ (c
 unfolding project_in projected left_inside fields_left elements_left with_computed path_of expression_in
 a_long_off = refl
 
--- `_id` in front, what is included, and what is computed behind it, though it was written first
+-- `_id` first, then what is included, then what is computed, although that was written first
 pub computed_behind : shown ((codes "x", text (codes "$b")) ∷ (codes "y", text (codes "$c")) ∷ (codes "a", int 1) ∷ []) ((codes "_id", int 1) ∷ (codes "a", int 5) ∷ (codes "b", int 6) ∷ []) ≡ Ok ((codes "_id", int 1) ∷ (codes "a", int 5) ∷ (codes "x", int 6) ∷ [])
 unfolding project_in projected left_inside fields_left elements_left with_computed value_of expr path_of expression_in
 computed_behind = refl

@@ -23,7 +23,7 @@ use dv_path::has_dot;
 use dv_value::{Document, NoMemory, Str, Value};
 use std::alloc::Global;
 
-/// What the members ask: the paths that are included, those that are excluded, the fields that are computed.
+/// What the members ask for: the paths that are included, those that are excluded, the fields that are computed.
 #[derive(Debug, Drop)]
 pub(crate) struct Asked {
     included: Vec<Path>,
@@ -33,7 +33,7 @@ pub(crate) struct Asked {
 
 impl Project {
     /// The projection that the value is, a document that isn't empty, or its first fault in written order: `BadSpec`, or `Conflict`
-    /// if a path equals or begins one before it, or is begun by one. Fails with `NoMemory` when memory runs out.
+    /// if a path equals or begins an earlier one, or an earlier one begins it. Fails with `NoMemory` when memory runs out.
     #[tactic(auto, unfolding(crate::specs::ProjectParsing::project_in))]
     pub fn parse(alloc: Global, value: &Value) -> Result<Project, PipelineFault>
         ensures { Gives no_memory (λ project. project) result (defined.project_in (tree value.now)) }
@@ -49,8 +49,8 @@ impl Project {
     }
 }
 
-/// What the members ask, or the first fault. Whether paths conflict is asked of all at once, of those in front of a fault
-/// too, whose conflict comes first.
+/// What the members ask for, or the first fault. All paths are checked for conflicts at once. If a member has another fault, the
+/// paths before it are checked: their conflict comes first.
 fn members_of(alloc: Global, document: &Document) -> Result<Asked, PipelineFault>
     ensures { Gives no_memory seen result (defined.members_in defined.nothing_asked document.now) }
 {
@@ -68,7 +68,7 @@ fn members_of(alloc: Global, document: &Document) -> Result<Asked, PipelineFault
     Ok(asked)
 }
 
-/// The first fault of members with these paths and of one behind them that has the fault.
+/// The first fault of members with these paths, followed by a member that has the fault.
 fn first_fault(paths: Vec<Path>, fault: PipelineFault) -> PipelineFault
     ensures { result ≡ (if list_conflicts paths.items then Conflict else fault) }
 {
@@ -90,7 +90,7 @@ impl Asked {
         }
     }
 
-    /// Takes a member, and gives its path: whether that conflicts with one before is still to be asked.
+    /// Takes a member, and returns its path. Whether the path conflicts with an earlier one is not checked here.
     fn take(&mut self, alloc: Global, name: &str, value: &Value) -> Result<Path, PipelineFault>
         ensures { TakesMember result (defined.with_member (name.now, tree value.now) (seen self.old)) (seen self.old) (seen self.new) }
     {
@@ -153,7 +153,7 @@ impl Asked {
         Ok(())
     }
 
-    /// Whether something is excluded but `_id`.
+    /// Whether something other than `_id` is excluded.
     fn excludes(&self) -> bool
         ensures { result ≡ defined.excludes (seen self.now) }
     {
@@ -172,7 +172,7 @@ impl Asked {
         !(self.included.is_empty() && self.computed.is_empty())
     }
 
-    /// Whether the path conflicts with what was asked.
+    /// Whether the path conflicts with what the members ask for.
     fn conflicts(&self, path: &[Component]) -> bool
         ensures { result ≡ defined.conflicts_with_asked path.now (seen self.now) }
     {
@@ -181,7 +181,7 @@ impl Asked {
             || any_field(path, &self.computed)
     }
 
-    /// The form of what is asked.
+    /// The form of what the members ask for.
     fn into_project(self, alloc: Global) -> Result<Project, PipelineFault>
         ensures { Gives no_memory (λ project. project) result (Ok (defined.project_form (seen self))) }
     {
@@ -206,7 +206,7 @@ impl Asked {
     }
 }
 
-/// Whether the path equals or begins one of the others, or is begun by one.
+/// Whether the path equals or begins one of the others, or one of them begins it.
 fn any_path(path: &[Component], others: &[Path]) -> bool
     ensures { result ≡ list_any (defined.one_begins path.now) others.now }
 {

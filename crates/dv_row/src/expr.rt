@@ -104,7 +104,7 @@ impl Expr {
         }
     }
 
-    /// Puts the path behind others, if it has one name, and those of fields in this.
+    /// Appends the path to others, if it has one name. For a document, appends those of its fields.
     #[cycle(shown)]
     fn push_shown(&self, shown: &mut Vec<Path>) -> Result<(), NoMemory> {
         match self {
@@ -180,7 +180,7 @@ impl Computed {
         })
     }
 
-    /// Puts the paths of one name behind others, of fields in fields too.
+    /// Appends the paths of one name to others, also those of fields in fields.
     #[cycle(shown)]
     fn push_shown(&self, shown: &mut Vec<Path>) -> Result<(), NoMemory> {
         for field in &self.fields {
@@ -189,7 +189,7 @@ impl Computed {
         Ok(())
     }
 
-    /// Puts the fields that aren't missing behind those of a document. Fails when memory runs out.
+    /// Appends the fields that aren't missing to those of a document. Fails when memory runs out.
     pub(crate) fn push_computed(
         &self,
         alloc: Global,
@@ -213,7 +213,7 @@ impl Computed {
         self.fields.as_slice()
     }
 
-    /// Puts the fields that aren't missing behind those of a document.
+    /// Appends the fields that aren't missing to those of a document.
     #[cycle(values)]
     fn push_values(
         &self,
@@ -249,8 +249,8 @@ impl Computed {
     }
 }
 
-/// A row without fields that expects those of the row before it, if there is one: fields of the same names share them. Fails with
-/// `NoMemory` when memory runs out.
+/// A row without fields that expects those of the row before it, if there is one: fields of the same names share these names.
+/// Fails with `NoMemory` when memory runs out.
 pub(crate) fn row_beside(alloc: Global, before: Option<&Document>) -> Result<Document, NoMemory>
     ensures { IfOk result (λ row. row ≡ []) }
 {
@@ -260,8 +260,8 @@ pub(crate) fn row_beside(alloc: Global, before: Option<&Document>) -> Result<Doc
     }
 }
 
-/// A copy of the document with its own list of values. The row before it lends its names, if there is one. Fails with `NoMemory`
-/// when memory runs out.
+/// A copy of the document with its own list of values. It shares names with the row before it, if there is one. Fails with
+/// `NoMemory` when memory runs out.
 pub fn copy_beside(
     alloc: Global,
     document: &Document,
@@ -291,7 +291,7 @@ pub fn push_field(document: &mut Document, name: &str, value: Option<Value>) -> 
     }
 }
 
-/// The same of a field that shows the value of the one at `place` of another document, as `push_shown` of `Document` does.
+/// Like `push_field`, for a field that shows the value at `place` of another document, as `push_shown` of `Document` does.
 pub(crate) fn show_field(
     document: &mut Document,
     name: &str,

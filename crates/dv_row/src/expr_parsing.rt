@@ -20,7 +20,7 @@ use std::alloc::Global;
 impl Expr {
     /// The expression that the value is: the path after a dollar sign, the value of `$literal`, a document of expressions, whose
     /// names hold no dot and begin with no dollar sign, or the value itself, for any other value except an array. Refused with
-    /// `BadSpec` if it is none, and with `NoMemory`.
+    /// `BadSpec` if it is none, and with `NoMemory` if memory runs out.
     pub fn parse(alloc: Global, value: &Value) -> Result<Expr, PipelineFault>
         ensures { Gives no_memory expression_seen result (defined.expression_in true (tree value.now)) }
     {
@@ -93,7 +93,7 @@ fn field_of(
     Ok(ComputedField { name, expr })
 }
 
-/// The expression that a text is, which stands in the value.
+/// The expression that a text is. The value is a string with this text.
 fn text_expression(alloc: Global, text: &str, value: &Value) -> Result<Expr, PipelineFault>
     requires { tree value.now ≡ string text.now }
     ensures { Gives no_memory expression_seen result (defined.text_expression text.now) }
@@ -104,7 +104,7 @@ fn text_expression(alloc: Global, text: &str, value: &Value) -> Result<Expr, Pip
     Ok(Expr::Constant(value.try_clone()?))
 }
 
-/// A value that stands for itself, as a number and a boolean does where it is `plain`.
+/// A value that stands for itself. A number or a boolean does so only if `plain` is true.
 fn constant(plain: bool, value: &Value) -> Result<Expr, PipelineFault>
     ensures { Gives no_memory expression_seen result (defined.constant_in plain (tree value.now)) }
 {
@@ -114,7 +114,7 @@ fn constant(plain: bool, value: &Value) -> Result<Expr, PipelineFault>
     Ok(Expr::Constant(value.try_clone()?))
 }
 
-/// The value that stands alone under `$literal`.
+/// The value under `$literal`, if that is the document's only field.
 fn literal_of(document: &Document) -> Option<&Value>
     ensures { option_map (λ value. tree value.now) result ≡ defined.literal_in (fields_of document.now) }
 {

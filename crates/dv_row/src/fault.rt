@@ -11,11 +11,11 @@ use std::fmt;
 /// Why a list is no pipeline. Its text is its name.
 #[derive(Clone, Copy, Debug, PartialEq, Eq)]
 pub enum PipelineFault {
-    /// A stage that isn't there.
+    /// A stage that doesn't exist.
     UnknownStage,
-    /// What isn't a document of one name, or what its stage doesn't take.
+    /// A stage that isn't a document of one name, or an operand that its stage doesn't take.
     BadSpec,
-    /// `$match` of what is no filter.
+    /// A `$match` whose operand is no filter.
     Filter,
     /// Two paths of a `$project` that are equal, or of which one begins the other.
     Conflict,

@@ -1,6 +1,5 @@
-//! Paths behind a dollar sign.
+//! Paths after a dollar sign.
 
-ghost use Rattle.std.specs.Prelude.{◌≡◌};
 ghost use Rattle.std.specs.Prelude.{◌≡◌};
 ghost use Rattle.std.specs.Option.{option_map};
 ghost use Rattle.dv_value.specs.Results.{Gives};
@@ -13,8 +12,8 @@ use dv_candidates::Path;
 use dv_value::begins_with_dollar;
 use std::alloc::Global;
 
-/// The path behind a dollar sign. Refused with `BadSpec` where there is none, or where another dollar sign follows, and with
-/// `NoMemory`.
+/// The path after a dollar sign. Refused with `BadSpec` if there is none, or if another dollar sign follows, and with
+/// `NoMemory` if memory runs out.
 pub(crate) fn field_path(alloc: Global, text: &str) -> Result<Path, PipelineFault>
     ensures { Gives no_memory (λ path. path) result (path_in text.now) }
 {
@@ -27,7 +26,7 @@ pub(crate) fn field_path(alloc: Global, text: &str) -> Result<Path, PipelineFaul
     Ok(Path::parse(alloc, path)?)
 }
 
-/// What stands behind a dollar sign.
+/// What follows a dollar sign.
 fn behind_dollar(text: &str) -> Option<&str>
     ensures { option_map (λ behind. behind.now) result ≡ defined.behind_dollar text.now }
 {

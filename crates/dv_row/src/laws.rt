@@ -1,4 +1,4 @@
-//! What holds of what stages make of one row, each the contract of a function that does nothing.
+//! What holds of the results of stages for one row. Each law is the contract of a function that does nothing.
 
 ghost use Rattle.std.specs.Prelude.{◌≡◌, ◌≢◌, ◌⊎◌, ℕ, Bool, true, false, List, [], ◌∷◌, ◌++◌, ◌||◌, ◌&&◌, not, filter, map, Some, None, Ok, Err, codes};
 ghost use Rattle.std.specs.Option.{IfSome};
@@ -24,7 +24,7 @@ ghost use Rattle.dv_row.specs.Inner.UnwoundRows.{dropping, preserving};
 ghost use Rattle.dv_row.specs.Unwinding.{reached, unwound};
 ghost use Rattle.dv_row.specs.Inner.Valid.{AreValid, IsValid};
 
-/// What is made of a valid row is valid, if the form was read from a valid value.
+/// The results for a valid row are valid, if the form was read from a valid value.
 #[tactic(auto, using(crate::proofs::Sound::value_valid, crate::proofs::Sound::row_valid, crate::proofs::Sound::unwound_valid))]
 pub fn what_comes_of_a_valid_row_is_valid()
     ensures values { (plain : Bool) (v : Tree) (e : Expression) (row : Row) → IsValue v → expression_in plain v ≡ Ok e → IsValid row → IfSome (value_of e row) IsValue }
@@ -40,8 +40,8 @@ pub fn each_element_has_its_row()
     ensures itself { (u : unwinds.Unwind) (row : Row) (v : Tree) → reached u.path row ≡ Some v → v ≢ null → ((vs : Elements) → v ≢ array vs) → unwound u row ≡ row ∷ [] }
 {}
 
-/// For nothing, null and an array of no elements no row is returned. If such rows are preserved, each is returned: as it is, or
-/// without the empty array. For the others the same rows are returned.
+/// If the path leads to nothing, to null or to an empty array, no row is returned. If such rows are preserved, the row is returned:
+/// as it is, or without the empty array. For other rows it makes no difference whether such rows are preserved.
 #[tactic(auto, using(crate::proofs::ElementRows::no_row, crate::proofs::ElementRows::preserved_row, crate::proofs::ElementRows::without_the_array, crate::proofs::ElementRows::no_more))]
 pub fn what_is_dropped_can_be_preserved()
     ensures dropped { (path : List (List ℕ)) (row : Row) → (reached path row ≡ None) ⊎ (reached path row ≡ Some null) ⊎ (reached path row ≡ Some (array no_elements)) → dropping path row ≡ [] }
@@ -50,15 +50,16 @@ pub fn what_is_dropped_can_be_preserved()
     ensures no_more { (path : List (List ℕ)) (row first : Row) (rest : List Row) → dropping path row ≡ first ∷ rest → preserving path row ≡ first ∷ rest }
 {}
 
-/// Of a row's fields those that a path names stay, each as it is, and those that hold others stay if a path leads through them;
-/// nothing else stays, and the order is the row's.
+/// The fields of a row that a path names stay, each as it is. Documents and arrays stay if a path leads through them. Nothing else
+/// stays, and the order is the row's.
 #[tactic(auto, using(crate::proofs::ShownFields::included_names, crate::proofs::ShownFields::included_kept))]
 pub fn included_fields_alone_stay()
     ensures names { (paths : Paths) (row : Row) → names (included paths row) ≡ names (filter (λ f. is_named paths f || is_met paths f && has_parts f.1) row) }
     ensures kept { (paths : Paths) (row : Row) → filter (is_named paths) (included paths row) ≡ filter (is_named paths) row }
 {}
 
-/// The fields that an excluded path names go, and no others; those that no path meets stay as they are, in the row's order.
+/// The fields that an excluded path names are removed, and no others. Fields that no path names or leads through stay as they are,
+/// in the row's order.
 #[tactic(auto, using(crate::proofs::ShownFields::excluded_names, crate::proofs::ShownFields::excluded_kept))]
 pub fn excluded_fields_alone_go()
     ensures names { (paths : Paths) (row : Row) → names (excluded paths row) ≡ names (filter (λ f. not (is_named paths f)) row) }
@@ -71,8 +72,8 @@ pub fn other_fields_stay_where_they_stand()
     ensures { (paths : Paths) (front back : Row) (f : Field) → is_met paths f ≡ false → excluded paths (front ++ f ∷ back) ≡ excluded paths front ++ f ∷ excluded paths back }
 {}
 
-/// Each field is shown by itself. A document that paths lead into, and none of them is, is shown as a row is, by what is left of
-/// these paths; so it is with a document in it, at each level.
+/// Each field is shown independently of the others. If paths lead into a document, and none of them names it, the document is shown
+/// as a row is, with the rest of these paths. The same holds for documents in it, at each level.
 #[tactic(auto, using(crate::proofs::Levels::included_apart, crate::proofs::Levels::excluded_apart, crate::proofs::Levels::included_inside, crate::proofs::Levels::excluded_inside))]
 pub fn documents_are_shown_as_rows()
     ensures included_apart { (paths : Paths) (front back : Row) → included paths (front ++ back) ≡ included paths front ++ included paths back }
@@ -83,9 +84,9 @@ pub fn documents_are_shown_as_rows()
         → IsShownInside excluded paths name d }
 {}
 
-/// At any depth of documents, an included path that leads through the levels keeps at each of them only that document, and in it
-/// what the rest of the path keeps; an excluded one takes out what its rest takes out there, and nothing else at any level. No
-/// other field of a level has the name that the path has there.
+/// At any depth of documents, an included path that leads through the levels keeps at each of them only the document that it leads
+/// into, and in the innermost one what the rest of the path keeps. An excluded path removes what its rest removes there, and
+/// nothing else at any level. This requires that no other field of a level has the name that the path has there.
 #[tactic(auto, using(crate::proofs::Levels::included_deep, crate::proofs::Levels::excluded_deep))]
 pub fn paths_lead_through_levels()
     ensures included { (levels : List Level) (name : List ℕ) (rest : List (List ℕ)) (d : Row) → AreNamesApart levels
@@ -94,14 +95,15 @@ pub fn paths_lead_through_levels()
         → IsShownWithin excluded levels levels name rest d }
 {}
 
-/// If a stage says nothing of `_id`, that stays as it is, beside what is included or computed and beside what is excluded.
+/// If a stage doesn't name `_id`, then `_id` stays as it is, whether other fields are included, computed or excluded.
 #[tactic(auto, using(crate::proofs::Ids::unasked_id_stays))]
 pub fn an_id_that_is_not_asked_for_stays()
     ensures { (members row : List Field) (p : projects.Project) → project_in (document (fields_of members)) ≡ Ok p → has_name (codes "_id") members ≡ false
         → ids_in (projected p row) ≡ ids_in row }
 {}
 
-/// `_id` stays beside what is included and beside what is excluded, and goes if it is excluded itself, by itself or beside either.
+/// `_id` stays if another field is included or excluded. It is removed if it is excluded itself, alone or together with a field
+/// that is included or excluded.
 #[tactic(auto, using(crate::proofs::Worked::id_stays_included, crate::proofs::Worked::id_stays_excluded, crate::proofs::Worked::id_goes_alone, crate::proofs::Worked::id_goes_included, crate::proofs::Worked::id_goes_excluded))]
 pub fn examples_of_ids()
     ensures stays_beside_included { (id a b : Tree) → shown (named_a (int 1) ∷ []) (row_of id a b) ≡ Ok (named_id id ∷ named_a a ∷ []) }
@@ -111,15 +113,16 @@ pub fn examples_of_ids()
     ensures goes_beside_excluded { (id a b : Tree) → shown (named_a (int 0) ∷ named_id (int 0) ∷ []) (row_of id a b) ≡ Ok (named_b b ∷ []) }
 {}
 
-/// After what is included come the computed fields, in the stage's order, each with the value of its expression over the row; one
-/// without a value is left out. No two names are equal, and no path begins with one of them.
+/// After the included fields come the computed fields, in the stage's order, each with the value of its expression over the row. A
+/// field without a value is left out. This requires that no two of their names are equal, and that no path begins with one of them.
 #[tactic(auto, using(crate::proofs::ComputedFields::computed_stand_last))]
 pub fn computed_fields_stand_last()
     ensures { (paths : Paths) (es : List (List ℕ × Expression)) (row : Row) → AreNamed (map (λ e. bare e.0) es) → AreUnmet paths es
         → projected (Include paths (computed_of es)) row ≡ included paths row ++ computed_fields es row }
 {}
 
-/// An array of which nothing is left stays; int64s are switches; `_id` stays first, and what is computed comes last.
+/// An array stays even if nothing in it does; an int64 includes or excludes a field; `_id` stays first, and computed fields come
+/// last.
 #[tactic(auto, using(crate::proofs::Worked::arrays_stay, crate::proofs::Worked::a_long_on, crate::proofs::Worked::a_long_off, crate::proofs::Worked::computed_behind))]
 pub fn examples_of_showing()
     ensures arrays_stay { shown ((codes "a.c", int 1) ∷ (codes "b.c", int 1) ∷ []) (row_of (int 1) (list (int 7 ∷ [])) (list [])) ≡ Ok (row_of (int 1) (list []) (list [])) }
@@ -128,8 +131,8 @@ pub fn examples_of_showing()
     ensures computed_behind { shown ((codes "x", text (codes "$b")) ∷ (codes "y", text (codes "$c")) ∷ named_a (int 1) ∷ []) (row_of (int 1) (int 5) (int 6)) ≡ Ok (named_id (int 1) ∷ named_a (int 5) ∷ (codes "x", int 6) ∷ []) }
 {}
 
-/// Forms that are refused: a dollar sign with no path after it, a switch inside a document, a field that is computed beside one
-/// that is excluded, a part of `_id`, null for a boolean.
+/// Forms that are refused: a dollar sign with no path after it, a switch inside a document, a computed field together with an
+/// excluded one, a part of `_id`, null for a boolean.
 #[tactic(auto, using(crate::proofs::Worked::a_dollar_alone, crate::proofs::Worked::an_empty_component, crate::proofs::Worked::a_switch_inside, crate::proofs::Worked::computed_after_excluded, crate::proofs::Worked::excluded_after_computed, crate::proofs::Worked::a_part_of_id, crate::proofs::Worked::unwinding_a_dollar, crate::proofs::Worked::preserving_null))]
 pub fn forms_that_are_refused()
     ensures a_dollar_alone { project_in (doc ((codes "x", text (codes "$")) ∷ [])) ≡ Err BadSpec }

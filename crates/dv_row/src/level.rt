@@ -1,4 +1,4 @@
-//! Documents that are gone through field by field, one inside the other.
+//! Documents that are traversed field by field, one inside the other.
 
 ghost use Rattle.std.specs.Prelude.{◌≡◌, Bool, IfOk, IfSome};
 ghost use Rattle.dv_value.specs.Tree.{document as entered, fields_of};
@@ -11,20 +11,20 @@ use crate::ways::Ways;
 use dv_value::{Document, NoMemory, Value};
 use std::alloc::Global;
 
-/// A document that was gone through up to a field, and what is left of the fields before that one.
+/// A document that was traversed up to a field, and what is left of the fields before that one.
 #[derive(Debug, Drop)]
 pub(crate) struct Level<'a> {
     /// The ways that lead into it.
     pub(crate) ways: Ways<'a>,
     /// The document.
     pub(crate) document: &'a Document,
-    /// The field's place. It is the one that was entered, where one was.
+    /// The field's place. If a field was entered, it is that field's place.
     pub(crate) place: usize,
     /// What is left.
     pub(crate) left: Document,
 }
 
-/// How far it is gone through a document at a time.
+/// How far a document is traversed at a time.
 #[derive(Debug, Drop)]
 pub(crate) enum Turn<'a> {
     /// To the end: what is left of it.
@@ -34,7 +34,8 @@ pub(crate) enum Turn<'a> {
 }
 
 impl<'a> Level<'a> {
-    /// A document at its first field. One that was made before it lends its names. Fails when memory runs out.
+    /// A document at its first field. What is left of it will share names with `before`, if there is one. Fails when
+    /// memory runs out.
     pub(crate) fn of(
         alloc: Global,
         ways: Ways<'a>,
@@ -52,7 +53,7 @@ impl<'a> Level<'a> {
         })
     }
 
-    /// The document behind the field that was entered, of which this is left. Fails when memory runs out.
+    /// The document after the field that was entered. `inner` is what is left of that field's document. Fails when memory runs out.
     pub(crate) fn with_inner(self, inner: Document) -> Result<Self, NoMemory>
         ensures left { IfOk result (λ level. (keeps : Bool) → left_at_end keeps level ≡ left_around keeps self.entry inner) }
         ensures further { IfOk result (λ level. fields_to_go level ≡ fields_behind self.entry) }
@@ -77,7 +78,7 @@ impl<'a> Level<'a> {
     }
 }
 
-/// The document that the value is, where ways lead into it.
+/// The value's document, if it is one and ways lead into it.
 pub(crate) fn led_into<'a>(ways: &Ways<'_>, value: &'a Value) -> Option<&'a Document>
     ensures document { IfSome result (λ inner. tree value.now ≡ entered (fields_of inner.now)) }
     ensures inside { IfSome result (λ inner. (keeps : Bool) → left_of_value keeps ways.now (tree value.now) ≡ left_inside keeps ways.now (tree value.now)) }

@@ -8,7 +8,7 @@ use dv_candidates::Path;
 use dv_value::NoMemory;
 use std::marker::Model;
 
-/// Paths in written order. It also has a copy in the order of their components, among which those that lead through a name are
+/// Paths in written order. It also has a copy in the order of their components, in which the paths that lead through a name are
 /// looked up.
 #[derive(Debug, Drop)]
 pub struct Paths {
@@ -44,7 +44,7 @@ impl Paths {
         self.paths.as_slice()
     }
 
-    /// The ways that the paths lead from a row's top.
+    /// The ways of the paths from a row's top level.
     pub(crate) fn ways(&self) -> Ways<'_>
         ensures { AreSame result self.now }
     {

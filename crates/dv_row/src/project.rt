@@ -18,10 +18,10 @@ use std::alloc::Global;
 /// What is shown of a row.
 #[derive(Debug, Drop)]
 pub enum Project {
-    /// What the paths lead to, in the row's order, and after it the computed fields. Paths go into each document of an array, and
-    /// into arrays in arrays; other elements go, and fields on a path's way that are neither.
+    /// What the paths lead to, in the row's order, and after it the computed fields. Paths lead into each document of an array, and
+    /// into arrays in arrays. Other elements are removed, and so are fields on a path's way that are neither documents nor arrays.
     Include(Paths, Computed),
-    /// All but what the paths lead to.
+    /// All except what the paths lead to.
     Exclude(Paths),
 }
 
@@ -33,7 +33,7 @@ impl Project {
         self.row_behind(alloc, row, None)
     }
 
-    /// What is shown of the row, as `row`. It shares the names of what was shown of the row before it, if there is one.
+    /// What is shown of the row, as `row` returns it. It shares names with what was shown of the row before it, if there is one.
     #[tactic(auto, unfolding(crate::specs::Projecting::projected))]
     pub fn row_behind(
         &self,
@@ -66,7 +66,8 @@ impl Project {
     }
 }
 
-/// What is left of the row: what the paths lead to, or all but that. The row before it lends its names.
+/// What is left of the row: only what the paths lead to if `keeps` is true, otherwise all except that. It shares names with
+/// `before`, if there is one.
 fn row_left(
     alloc: Global,
     keeps: bool,
@@ -79,8 +80,8 @@ fn row_left(
     document_left(alloc, keeps, &paths.ways(), row, before)
 }
 
-/// What is left of a document. One that was made before it lends its names. Those around the document that is gone through
-/// wait in a list: it takes no stack for each level of them.
+/// What is left of a document. It shares names with `before`, if there is one. The documents around the one that is traversed
+/// are kept in a list, so their levels take no stack.
 #[cycle(left)]
 fn document_left<'a>(
     alloc: Global,
@@ -109,7 +110,7 @@ fn document_left<'a>(
     }
 }
 
-/// Goes on in a document, to one in it that ways lead into or to its end.
+/// Goes on in a document, up to a document in it that ways lead into, or to its end.
 #[cycle(left)]
 fn go_on<'a>(alloc: Global, keeps: bool, level: Level<'a>) -> Result<Turn<'a>, NoMemory>
     ensures named { AreNamed level.entry.document.now }
@@ -144,7 +145,7 @@ fn go_on<'a>(alloc: Global, keeps: bool, level: Level<'a>) -> Result<Turn<'a>, N
     Ok(Turn::Ended(left))
 }
 
-/// Whether a value at which the ways stand is left as it is, whatever it is.
+/// Whether a value is left as it is, whatever it is, given what follows it in the paths that lead to it.
 #[tactic(auto, unfolding(crate::specs::Projecting::left_inside))]
 fn stays(keeps: bool, ways: &Ways<'_>) -> bool
     ensures { IsTrue result → ((v : Tree) → defined.left_of_value keeps ways.now v ≡ Some v) }
@@ -156,7 +157,7 @@ fn stays(keeps: bool, ways: &Ways<'_>) -> bool
     }
 }
 
-/// What is left of a value at which the ways stand.
+/// What is left of a value, given what follows it in the paths that lead to it.
 #[cycle(left)]
 fn value_left<'a>(
     alloc: Global,
@@ -218,7 +219,7 @@ fn list_left<'a>(
     Ok(List::of(left))
 }
 
-/// A copy of the value, where it stays.
+/// A copy of the value, if it stays.
 fn if_it(stays: bool, value: &Value) -> Result<Option<Value>, NoMemory>
     ensures { IfOk result (λ kept. option_map tree kept ≡ defined.if_it stays (tree value.now)) }
 {

@@ -1,4 +1,4 @@
-//! Values that stand in a row, or were made for it.
+//! Values that are in a row, or were made for it.
 
 ghost use Rattle.std.specs.Prelude.{◌≡◌, IfOk, IfSome};
 ghost use Rattle.std.specs.Option.{option_flatten, option_map};
@@ -43,7 +43,7 @@ impl<'a> RowValue<'a> {
     }
 }
 
-/// The value of the path over the row, which stands there unless an array is on the path's way.
+/// The value of the path over the row. It is in the row unless an array is on the path's way.
 pub(crate) fn path_value<'a>(
     alloc: Global,
     row: &'a Document,
@@ -58,7 +58,7 @@ pub(crate) fn path_value<'a>(
     }
 }
 
-/// A value that was made, where there is one.
+/// A value that was made, if there is one.
 pub(crate) fn made<'a>(value: Option<Value>) -> Result<Option<RowValue<'a>>, NoMemory>
     ensures { IfOk result (λ made. option_map row_value made ≡ option_map tree value) }
 {
@@ -68,11 +68,11 @@ pub(crate) fn made<'a>(value: Option<Value>) -> Result<Option<RowValue<'a>>, NoM
     }
 }
 
-/// The value of the path in the document, as an expression means it, if one stands there; `None` where an array is on the
-/// path's way, from whose elements one is made.
+/// The value that an expression with this path has for the document, or `Some(None)` if it is missing. `None` if an array is on
+/// the path's way: then the value is made from the array's elements.
 pub(crate) fn standing<'a>(document: &'a Document, path: &[Component]) -> Option<Option<&'a Value>>
     ensures expression { IfSome result (λ found. option_map (λ value. tree value.now) found ≡ defined.expr document.now path.now) }
-    // Where an array is on the way, the path doesn't go through documents only.
+    // If an array is on the way, the path doesn't lead through documents only.
     ensures reached { option_map (λ value. tree value.now) (option_flatten result) ≡ reached path.now document.now }
 {
     let Some((last, way)) = path.split_last() else {

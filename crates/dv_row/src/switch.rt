@@ -6,7 +6,7 @@ ghost use Rattle.dv_row.specs.ExpressionParsing as defined;
 
 use dv_value::Value;
 
-/// Whether a number, of which 0 is false, or a boolean switches on or off; `None` of any other value.
+/// Whether a boolean or a number switches a field on or off: false and 0 switch it off. `None` for any other value.
 pub(crate) fn switch_of(value: &Value) -> Option<bool>
     ensures { result ≡ defined.switch_in (tree value.now) }
 {

@@ -25,13 +25,13 @@ use std::alloc::Global;
 pub struct Unwind {
     /// The path.
     pub path: Path,
-    /// Whether a row stays if the path leads to nothing, to null or to an empty array, which is taken out of it.
+    /// Whether a row stays if the path leads to nothing, to null or to an empty array, which is removed from it.
     pub preserve: bool,
 }
 
 impl Unwind {
     /// The unwinding that the value is: `"$path"`, or a document with a path and `preserveNullAndEmptyArrays`, a boolean that may
-    /// be left out. Refused with `BadSpec` if it is none, and with `NoMemory`.
+    /// be left out. Refused with `BadSpec` if it is none, and with `NoMemory` if memory runs out.
     #[tactic(auto, unfolding(crate::specs::Parsing::unwind_in))]
     pub fn parse(alloc: Global, value: &Value) -> Result<Unwind, PipelineFault>
         ensures { Gives no_memory (λ unwind. unwind) result (parsing.unwind_in (tree value.now)) }
@@ -85,7 +85,7 @@ impl Unwind {
         Ok(())
     }
 
-    /// The rows of a row, each of which is made when it is asked for. Fails with `NoMemory` when memory runs out.
+    /// The rows of a row, each of which is made when it is requested. Fails with `NoMemory` when memory runs out.
     #[tactic(auto, unfolding(crate::specs::Unwinding::unwound))]
     pub fn each_row<'a>(
         &'a self,
@@ -104,7 +104,7 @@ impl Unwind {
         }
     }
 
-    /// What is made of this where rows without elements stay, else no row.
+    /// The rows of this origin if rows without elements stay, otherwise no row.
     fn preserved<'a>(&self, origin: Origin<'a>) -> UnwoundRows<'a>
         ensures { result ≡ (if self.now.preserve then rows_of_origin origin.entry else []) }
     {
@@ -115,7 +115,7 @@ impl Unwind {
         }
     }
 
-    /// A row for each element of the array, and for none the row without the array.
+    /// A row for each element of the array. For an empty array, the row without it if rows without elements stay.
     fn each_of_elements<'a>(
         &'a self,
         alloc: Global,
@@ -144,7 +144,7 @@ impl Unwind {
     }
 }
 
-/// Whether each name is one of an option.
+/// Whether each name is that of an option.
 fn has_options(options: &Document) -> bool
     ensures { result ≡ list_all parsing.is_option options.now }
 {

@@ -25,7 +25,7 @@ pub(crate) enum Origin<'a> {
     Elements(Way<'a>, &'a [Value]),
 }
 
-/// The rows that an `$unwind` makes of a row. Each is made when it is asked for.
+/// The rows that an `$unwind` returns for a row. Each is made when it is requested.
 #[derive(Debug, Drop)]
 pub struct UnwoundRows<'a> {
     origin: Origin<'a>,
@@ -83,9 +83,9 @@ impl<'a> UnwoundRows<'a> {
         }
     }
 
-    /// For the places that both have, whether the rows there are known to be the same, which is found without making them: where
-    /// both are made of the elements of arrays, the rows that these stand in differ in nothing else, and the elements are the same.
-    /// A row at a place that isn't among them may be the same too. Fails with `NoMemory` when memory runs out.
+    /// For the places that both have, whether the rows there are known to be the same. The rows are not made for this. They are
+    /// known to be the same if both are made of the elements of arrays, the rows with these arrays differ in nothing else, and the
+    /// elements are the same. Rows at places without an entry may be the same too. Fails with `NoMemory` when memory runs out.
     pub fn common(&self, alloc: Global, other: &UnwoundRows<'_>) -> Result<Vec<bool>, NoMemory>
         ensures { IfOk result (λ common. AreCommon self.now other.now common.items) }
     {

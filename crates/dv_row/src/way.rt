@@ -21,8 +21,8 @@ pub(crate) struct Stop<'a> {
     component: &'a Component,
 }
 
-/// A copy of a document that a path leads through, and the component by which it leads on. What is made of the copy shares its
-/// long texts and binaries.
+/// A copy of a document that a path leads through, and the component by which it leads on. Copies of this copy share its long
+/// texts and binaries, even when they are changed.
 #[derive(Debug, Drop)]
 pub(crate) struct Crossing<'a> {
     document: Document,
@@ -133,7 +133,7 @@ impl<'a> Way<'a> {
     }
 }
 
-/// What stands in place of the outermost one of the documents, each in the one before it, where the value is set in the last.
+/// What replaces the outermost document after the value is set in the last one. Each document is in the one before it.
 fn set_inside(inner: &[Crossing<'_>], value: Option<Value>) -> Result<Option<Value>, NoMemory>
     ensures { IfOk result (λ set. option_map tree set ≡ set_inward inner.now (option_map tree value)) }
 {
@@ -159,14 +159,14 @@ fn are_like(inner: &[Crossing<'_>], others: &[Crossing<'_>]) -> bool
     true
 }
 
-/// Whether two documents have the same fields, but for the value under the name.
+/// Whether two documents have the same fields, except for the value under the name.
 fn same_but_under(name: &str, document: &Document, other: &Document) -> bool
     ensures { IsTrue result → (v : Tree) → with_value_under name.now v document.now ≡ with_value_under name.now v other.now }
 {
     document.len() == other.len() && same_fields_but(name, document, other)
 }
 
-/// Whether the fields that both documents have a place for are the same, but for the value under the name.
+/// Whether the fields at the places that both documents have are the same, except for the value under the name.
 fn same_fields_but(name: &str, document: &Document, other: &Document) -> bool
     ensures { result ≡ fields_but name.now document.now other.now }
 {
@@ -176,7 +176,7 @@ fn same_fields_but(name: &str, document: &Document, other: &Document) -> bool
         .all(|(field, other)| same_field_but(name, field, other))
 }
 
-/// Whether two fields have the same name, and the same value where that isn't the given name.
+/// Whether two fields have the same name, and the same value if that isn't the given name.
 fn same_field_but(name: &str, field: (&str, &Value), other: (&str, &Value)) -> bool
     ensures { result ≡ field_but name.now (field.entry.0.now, tree field.entry.1.now) (other.entry.0.now, tree other.entry.1.now) }
 {

@@ -1,4 +1,4 @@
-//! Ways that paths lead below some of their components.
+//! Ways: where paths lead after some of their components.
 
 ghost use Rattle.std.specs.Prelude.{◌≡◌, ◌==◌, ◌&&◌, not, drop, length};
 ghost use Rattle.std.specs.List.{list_any};
@@ -11,8 +11,8 @@ use dv_candidates::{Component, Path};
 use std::cmp::Ordering;
 use std::marker::Model;
 
-/// Where paths lead below their first components, of which there are `depth`. The ways stand in order, so those that lead
-/// through one name are neighbours.
+/// Where paths lead after their first `depth` components. The ways are in order, so those that lead through one name are
+/// neighbours.
 #[derive(Debug, Drop)]
 pub(crate) struct Ways<'a> {
     paths: &'a [Path],
@@ -31,7 +31,7 @@ impl<'a> Model for Ways<'a> {
 }
 
 impl<'a> Ways<'a> {
-    /// The ways that paths in order lead.
+    /// The ways of paths that are in order.
     pub(crate) fn of(paths: &'a [Path]) -> Self
         requires { Ascend 0 paths.now }
         ensures { result ≡ paths.now }
@@ -56,7 +56,7 @@ impl<'a> Ways<'a> {
         }
     }
 
-    /// Whether a way ends. One that does stands first.
+    /// Whether a way ends. A way that ends comes first.
     pub(crate) fn any_ends(&self) -> bool
         ensures { result ≡ list_any defined.ends self.now }
     {
@@ -103,7 +103,7 @@ impl<'a> Ways<'a> {
     }
 }
 
-/// How the path stands below its first components to those through a name there. One that ends stands before each.
+/// How the path's component after its first `depth` ones compares with the name. A path without one comes before each name.
 fn beside(path: &Path, depth: usize, name: &str) -> Ordering
     ensures { result ≡ seen_beside name.now (drop depth path.now) }
 {
@@ -121,7 +121,7 @@ pub(crate) fn sort(paths: &mut Vec<Path>)
     paths.sort_unstable_by(|first, second| compare(first.components(), second.components()));
 }
 
-/// The order of two paths: the first two components that differ decide by their bytes, and else the shorter path stands
+/// The order of two paths: the first two components that differ decide by their bytes; otherwise the shorter path comes
 /// first.
 fn compare(a: &[Component], b: &[Component]) -> Ordering
     ensures { result ≡ way_order a.now b.now }

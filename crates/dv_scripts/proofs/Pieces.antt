@@ -31,7 +31,7 @@ pub has_first : (bytes : List ℕ) → HasFirst bytes
 has_first [] = record { first = []; others = []; split = refl }
 has_first (b ∷ bytes) = first_by b bytes (is_lf b) refl (has_first bytes)
 
--- what stands in front of a first line, without LF, belongs to it
+-- bytes without LF that are put before the first line belong to it
 pub longer_first : (front bytes : List ℕ) → HasNoLf front → (h : HasFirst bytes) → slice_split is_lf (front ++ bytes) ≡ (front ++ h.first) ∷ h.others
 longer_first [] bytes none h = h.split
 longer_first (b ∷ front) bytes none h =
@@ -195,7 +195,7 @@ module _ (old now : OpenSessions) (number number_now : ℕ) (line piece rest lin
 too_long : (line part more : List ℕ) → 131200 < length line + length part → IsBad ((line ++ part) ++ more)
 too_long line part more long meant is = omega (arith, is.limit, long, length-append (line ++ part) more, length-append line part)
 
--- it is too long, or there is no memory for it, whatever else stands in it
+-- it is too long, or there is no memory for it, whatever else it contains
 pub not_kept : (fault : ScriptFault) (now : OpenSessions) (number : ℕ) (line part : List ℕ) → (fault ≡ BadLine number) ⊎ (fault ≡ NoMemory)
     → (fault ≡ BadLine number → 131200 < length line + length part) → (more : List ℕ) → EndsAt fault now number ((line ++ part) ++ more) [] now.hub
 not_kept fault now number line part (inl e) long more =

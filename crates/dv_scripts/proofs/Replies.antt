@@ -1,4 +1,4 @@
--- Replies, one behind the other.
+-- Replies, one after the other.
 use Rattle.std.proofs.Common.{◌≡◌, ℕ, ◌<◌, ◌≤◌, Bool, List, ◌∷◌, length, take, drop, nat_le, ◌&&◌, false, [], refl, sym, ap, ◌∙◌, arith, length-drop}
 use Rattle.std.proofs.lemmas.Bool.{cond_both, leb-true, and_parts}
 use Rattle.std.proofs.lemmas.List.{take-append-drop, length-take-le}

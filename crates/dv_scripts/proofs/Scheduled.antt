@@ -62,7 +62,7 @@ ends old new number session text (wrote, same) =
     }
 
 module _ (joined : Joined) where
-  -- behind an opening, where there is one, what comes of the session that is then there
+  -- after an opening, if there is one, the events of the session that is open then
   behind : (old mid : OpenSessions) (new : World) (number : ℕ) (session : Session) (events_by : Session → List Event) (text : List ℕ) → Finds old number session mid → Told mid.hub (events_by session) new number text
       → (all : List Said) × Plays old.hub (opening (slice_get old.sessions number) ++ events_by (session_of old.hub.next (slice_get old.sessions number))) all new × WritesAll number all text
   behind old mid new number session events_by text found told =

@@ -235,7 +235,7 @@ pub few_asked : (A : Type 0) (result : Result A ScriptFault) (fault : ScriptFaul
     → EndsAt fault mid number line part end → AsksFew old new → AsksForScript result old new
 few_asked A result fault mid number line part end old new is why few = subst (λ r. AsksForScript r old new) (sym is) (few_by A fault mid number line part end old new why few)
 
--- ---- how often a reader was asked
+-- ---- the number of reads
 
 pub none_asked : (count : ℕ) → AsksFew count count
 none_asked count = (0, omega arith, no_more count)
@@ -243,7 +243,7 @@ none_asked count = (0, omega arith, no_more count)
 pub asked : (reads old new : ℕ) → reads ≤ 2 ^ 32 → MoreBy reads old new → AsksFew old new
 asked reads old new few more = (reads, omega (arith, few), more)
 
--- ---- behind the last flush
+-- ---- after the last flush
 
 pub ran_whole : (from before after : Option (List ℕ)) (old new : OpenSessions) → OfScript (λ script text. Runs old script text new) from before after
     → OfScript (λ script text. RunsTo old script text new.hub) from before after
@@ -253,7 +253,7 @@ pub ran_kept : (from before middle after : Option (List ℕ)) (old new : OpenSes
     → OfScript (λ script text. Runs old script text new) from before after
 ran_kept from before middle after old new ran kept = (ran.0, ran.1, ran.2, Appends-kept before middle after ran.1 ran.3 kept, ran.4)
 
--- what was written behind the last line isn't handed on
+-- what was written after the last line isn't flushed
 pub ran_unflushed : (from to before after : Option (List ℕ)) (old new : OpenSessions) → OfScript (λ script text. Runs old script text new) from before after → StopsBy Write old from to before after new.hub
 ran_unflushed from to before after old new ran = (ran.0, ran.1, ran.2, ran.3, inr (new, ran.4, refl))
 
@@ -265,7 +265,7 @@ stops_kept Write old from to before middle after new h kept = (h.0, h.1, h.2, Ap
 stops_kept NoMemory old from to before middle after new h kept = (h.0, h.1, h.2, Appends-kept before middle after h.1 h.3 kept, h.4)
 stops_kept Sessions old from to before middle after new h kept = (h.0, h.1, h.2, Appends-kept before middle after h.1 h.3 kept, h.4)
 
--- behind a script that is done to its end nothing fails but that flush
+-- after a script that ran to its end nothing fails but the last flush
 pub record Flushes (A : Type 0) (result : Result A ScriptFault) : Type 0 where
   pub reader : (n : ℕ) → failures_told script_read_failed result n ≡ n
   pub writer : (n : ℕ) → FailsWriting result n (failures_behind result n)
@@ -278,7 +278,7 @@ pub flushes : (A : Type 0) (result : Result A ScriptFault) → IfErr result (λ 
 flushes A (Ok done) fault = record { reader = λ n. refl; writer = λ n. refl; reads = λ old new few. few }
 flushes A (Err e) fault = subst (λ f. Flushes A (Err f)) (sym fault) (flushes_err A)
 
--- behind another fault of the reading than the writer's
+-- after a fault other than the writer's
 fails_by : (A B : Type 0) (fault : ScriptFault) (flushed : Result B ScriptFault) (old mid new : ℕ) → (fault ≡ Write → ⊥) → mid ≡ failures_told {A = A} script_write_failed (Err fault) old → new ≡ failures_behind flushed mid
     → FailsWriting {A = A} (Err fault) old new
 fails_by A B (BadLine n) (Ok x) old mid new other before last = inl (last ∙ before)
@@ -302,7 +302,7 @@ pub on_ok : (A E : Type 0) (result : Result A E) (P : Type 0) → P → OnOk res
 on_ok A E (Ok x) P p = p
 on_ok A E (Err e) P p = tt
 
--- ---- from the script's begin, to behind the last flush
+-- ---- from the start of the script to after the last flush
 
 module _ (sessions : table.Sessions) (hub : World) (none : sessions.places ≡ replicate 1000 None) (from before middle after : Option (List ℕ)) (kept : Keeps middle after) where
   pub stops_begun : (fault : ScriptFault) (to : Option (List ℕ)) (new : World) → StopsBy fault (standing_of sessions hub) from to before middle new → StopsBy fault (no_sessions hub) from to before after new

@@ -109,7 +109,7 @@ FailsWriting (Err Write) old new = new ≡ once_more old
 FailsWriting (Err NoMemory) old new = (new ≡ old) ⊎ (new ≡ once_more old)
 FailsWriting (Err Sessions) old new = (new ≡ old) ⊎ (new ≡ once_more old)
 
--- how often the reader was asked: exactly the greatest number if the result is too many reads, otherwise at most that
+-- the number of reads: exactly the greatest number if the result is too many reads, otherwise at most that
 abbrev pub AsksForScript : {A : Type 0} → Result A ScriptFault → ℕ → ℕ → Type 0
 AsksForScript (Ok done) old new = AsksFew old new
 AsksForScript (Err (BadLine n)) old new = AsksFew old new

@@ -7,8 +7,8 @@ use dv_words::fault::DocdFault;
 use std::io;
 use std::io::BufWriter;
 
-/// Does the script on standard input, as `script` does, and writes to standard output. `NoMemory` if there is none for the writer's
-/// buffer, and else the fault of the script.
+/// Runs the script on standard input, as `script` does, and writes to standard output. Fails with `NoMemory` if there is no memory
+/// for the writer's buffer, otherwise with the fault of the script.
 pub fn run_script<R: Input + Print + AllocGlobal>(rt: &R, hub: &mut Hub) -> Result<(), DocdFault> {
     let alloc = rt.alloc();
     let writer = BufWriter::new(alloc, io::writer(rt)).map_err(|_| DocdFault::NoMemory)?;

@@ -58,7 +58,7 @@ fn first_reply(replies: &[u8]) -> (&[u8], &[u8])
     replies.split_at(first_length(replies))
 }
 
-/// How long the first reply is, which its first four bytes tell, the lowest byte first.
+/// The length of the first reply, which its first four bytes give, the lowest byte first.
 #[tactic(auto, unfolding(crate::specs::Output::first_length))]
 fn first_length(replies: &[u8]) -> usize
     ensures { result ≡ first_length replies.now }

@@ -51,7 +51,7 @@ pub fn script<R: ByteIn, W: TextOut>(
             if is_of_writer(fault) {
                 return Err(fault);
             }
-            // The first fault is the one that is told.
+            // The first fault is the one that is reported.
             let _ = flush(writer);
             Err(fault)
         }
@@ -64,7 +64,7 @@ fn is_of_writer(fault: ScriptFault) -> bool
     matches!(fault, ScriptFault::Write)
 }
 
-/// How far a script is done.
+/// The progress of a script.
 #[derive(Drop)]
 struct Progress {
     alloc: Global,
@@ -146,7 +146,7 @@ impl Progress {
         Ok(())
     }
 
-    /// Keeps what comes next of the line, where that isn't too much.
+    /// Keeps the next bytes of the line, unless the line gets too long.
     fn keep(&mut self, part: &[u8]) -> Result<(), ScriptFault>
         ensures kept { self.new ≡ record self.old { line = self.new.line } }
         ensures line { OnOk result (self.new.line.items ≡ self.old.line.items ++ part.now) }
@@ -166,7 +166,7 @@ impl Progress {
         ScriptFault::BadLine { line: self.number }
     }
 
-    /// Does the line that was read. At the script's end that is an empty one, where the last line has its LF.
+    /// Carries out the line that was read. At the script's end this is an empty one if the last line has its LF.
     fn finish_line<W: TextOut>(&mut self, hub: &mut Hub, writer: &mut W) -> Result<(), ScriptFault>
         requires { suc self.old.number < 2 ^ 64 }
         ensures next { OnOk result ((self.new.line.items ≡ []) × (self.new.number ≡ suc self.old.number)) }
@@ -182,7 +182,7 @@ impl Progress {
         Ok(())
     }
 
-    /// Does the line that was read, and returns what is to be written of it.
+    /// Carries out the line that was read, and returns what is to be written for it.
     fn do_line(&mut self, hub: &mut Hub) -> Result<String, ScriptFault>
         ensures kept { self.new ≡ record self.old { sessions = self.new.sessions } }
         ensures done { IfOk result (λ text.
@@ -261,7 +261,7 @@ impl Progress {
     }
 }
 
-/// Why a script ends that opens no session.
+/// Why a script ends if it can't open a session.
 fn unopened(fault: HubFault) -> ScriptFault
     ensures { result ≡ open_fault fault }
 {
@@ -279,7 +279,7 @@ fn flush<W: TextOut>(writer: &mut W) -> Result<(), ScriptFault>
     writer.flush().map_err(|_| ScriptFault::Write)
 }
 
-/// What stands in front of the first LF, and behind it.
+/// The bytes before the first LF, and those after it. None if there is no LF.
 fn line_end(bytes: &[u8]) -> Option<(&[u8], &[u8])>
     ensures { MatchOption result (HasNoLf bytes.now) (λ found. HasNoLf found.0.now × (bytes.now ≡ found.0.now ++ 10 ∷ found.1.now)) }
 {

@@ -1,4 +1,4 @@
-//! Why the program ends, by why a session or serving did.
+//! Why the program ends, from why a session or serving ended.
 
 ghost use Rattle.std.specs.Prelude.{◌≡◌};
 ghost use Rattle.dv_message.specs.Fault.{close_number};
@@ -8,14 +8,14 @@ use crate::serve::ServeFault;
 use dv_wire::{CloseFault, HubFault, RunFault};
 use dv_words::fault::DocdFault;
 
-/// Why the program ends whose one session was closed.
+/// Why the program ends after its one session was closed.
 pub(crate) fn of_close(fault: CloseFault) -> DocdFault
     ensures { result ≡ DocdFault.Closed (close_number fault) }
 {
     DocdFault::Closed(fault.number())
 }
 
-/// Why the program ends whose one session ended before the end of input.
+/// Why the program ends after its one session ended before the end of input.
 pub(crate) fn of_run(fault: RunFault) -> DocdFault
     ensures { result ≡ fault_of_run fault }
 {

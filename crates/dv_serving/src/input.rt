@@ -6,8 +6,8 @@ use dv_wire::Hub;
 use dv_words::fault::DocdFault;
 use std::io;
 
-/// Has one session, of standard input's bytes, as `run` of `dv_wire` does: the replies go to standard output. `Closed` if the session
-/// was closed, and else why it ended before the end of input.
+/// Runs one session of standard input's bytes, as `run` of `dv_wire` does, and writes the replies to standard output. Fails with
+/// `Closed` if the session was closed, otherwise with why it ended before the end of input.
 pub fn run_session<R: Input + Print + AllocGlobal>(rt: &R, hub: &mut Hub) -> Result<(), DocdFault> {
     let mut reader = CountedReader::of(rt.reader());
     let mut writer = CountedWriter::of(io::writer(rt));

@@ -113,7 +113,7 @@ fn write_fate<W: TextOut>(writer: &mut W, number: u64, fate: Fate) -> Result<(),
     }
 }
 
-/// Serves so many connections, at most 1,000 at a time, each by a session of the hub, until all came and went. What happens to the
+/// Serves so many connections, at most 1,000 at a time, each by a session of the hub, until all have ended. What happens to the
 /// hub is a schedule. Fails as `host` does.
 pub fn listen_on<O: Outside>(
     alloc: Global,

@@ -16,13 +16,13 @@ use std::net::{TcpListener, TcpStream};
 /// Why serving ends before the last connection.
 #[derive(Clone, Copy, Debug, PartialEq, Eq)]
 pub enum ServeFault {
-    /// No connection is had.
+    /// No connection could be accepted.
     Accept,
     /// The writer failed.
     Write,
 }
 
-/// What connections come from.
+/// The source of connections.
 pub trait Listener {
     ghost use Rattle.std.specs.Prelude.{◌≡◌, ℕ, List, Option, IfOk, OnErr};
     ghost use Rattle.dv_host.specs.Outside.{Accepts};
@@ -94,7 +94,7 @@ impl Listener for BlockingPort {
         counted(connection(&self.listener), &mut self.failures)
     }
 
-    /// Each side closes where it is dropped.
+    /// Each side is closed when it is dropped.
     fn close(&mut self, _input: Self::Input, _output: Self::Output) {}
 }
 
@@ -103,7 +103,7 @@ fn connection(
     listener: &TcpListener,
 ) -> io::Result<(CountedReader<TcpStream>, CountedWriter<TcpStream>)> {
     let (stream, _) = listener.accept()?;
-    // A small reply goes out at once. A stream that can't do so is as good otherwise.
+    // A small reply is sent at once. A stream that can't do this is used nevertheless.
     let _ = stream.set_nodelay(true);
     let writer = stream.try_clone()?;
     Ok((CountedReader::of(stream), CountedWriter::of(writer)))
@@ -142,7 +142,7 @@ pub fn serve_on<L: Listener, W: TextOut>(
     Ok(())
 }
 
-/// Has the session of the next connection, and closes it.
+/// Runs the session of the next connection, and closes the connection.
 fn serve_next<L: Listener>(
     alloc: Global,
     hub: &mut Hub,

@@ -1,4 +1,4 @@
--- A row that isn't before the bar is no part of the front.
+-- A row that isn't before the bar is not in the prefix.
 use Rattle.std.proofs.Common.{◌≡◌, ◌∙◌, ◌+◌, ◌<◌, ◌≤◌, ap, sym, refl, subst, cond, Bool, true, false, not, ℕ, zero, suc, List, [], ◌∷◌, ◌++◌, length, length-append, fold, take, arith, Option, Some, None, IfSome}
 use Rattle.std.specs.Cmp.{IsStrictWeakOrder}
 use Rattle.std.specs.List.{AllByRecursion, slice_get}
@@ -63,7 +63,7 @@ module _ {X : Type 0} (lt : X → X → Bool) where
   length-ordered : (xs : List X) → length (ordered lt xs) ≡ length xs
   length-ordered xs = omega (arith, length-folded [] xs)
 
-  -- what stands at a place of a list in order stands before none in front of it
+  -- the item at a place of a list in order comes before none of the items before it
   behind-front : (o : IsStrictWeakOrder lt) (n : ℕ) (ys : List X) (b : X) → Up lt o ys → slice_get ys n ≡ Some b → AllByRecursion (λ y. lt b y ≡ false) (take n ys)
   behind-front o zero ys b u here = tt
   behind-front o (suc n) [] b u here = tt
@@ -116,7 +116,7 @@ behind-bar items parts (Some n) ds (Some bar) keys d a own h =
     let behind = ap (λ ks. is_lt (keys_order parts ks (items bar))) (sym own) ∙ not-false _ h in
     ap (λ rows. record { parts = parts; most = Some n; rows = rows }) (unchanged parts n ds (items bar) d a behind)
 
--- ---- one before the bar
+-- ---- a row before the bar
 still-before : (parts : List Part) (n : ℕ) (ds : List (List Field)) (bar : List KeyTree) (d : List Field) → AreBefore parts n ds bar → is_lt (keys_order parts (row_keys parts d) bar) ≡ true
     → AreBefore parts n (ds ++ d ∷ []) bar
 unfolding stable

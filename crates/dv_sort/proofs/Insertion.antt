@@ -11,7 +11,7 @@ use Rattle.dv_sort.specs.Sorting.{placed, ordered, front}
 abbrev pub inserts : {X : Type 0} → (X → X → Bool) → List X → X → List X
 inserts lt ys x = placed lt x ys
 
--- ---- a row beyond the front never comes back
+-- ---- a row after the prefix never returns to it
 module _ {X : Type 0} (lt : X → X → Bool) where
   take-cons : (k : ℕ) (y : X) (ys : List X) → take k (y ∷ take k ys) ≡ take k (y ∷ ys)
   take-cons zero y ys = refl
@@ -33,7 +33,7 @@ module _ {X : Type 0} (lt : X → X → Bool) where
   pub ordered-push : (xs : List X) (x : X) → ordered lt (xs ++ x ∷ []) ≡ placed lt x (ordered lt xs)
   ordered-push xs x = fold_push (inserts lt) [] xs x
 
-  -- ---- each as often
+  -- ---- each element as often as before
   placed-permutes : (x : X) (ys : List X) → IsPermutation (x ∷ ys) (placed lt x ys)
   placed-permutes x [] = IsPermutation-refl (x ∷ [])
   placed-permutes x (y ∷ ys) = chosen (lt x y) (placed-permutes x ys)
@@ -51,7 +51,7 @@ module _ {X : Type 0} (lt : X → X → Bool) where
 
 -- ---- in order, and stable
 module _ {X : Type 0} (lt : X → X → Bool) (o : IsStrictWeakOrder lt) where
-  -- no element of a list stands before x
+  -- no element of a list comes before x
   abbrev pub Above : X → List X → Type 0
   Above x ys = AllByRecursion (λ y. lt y x ≡ false) ys
 
@@ -96,7 +96,7 @@ module _ {X : Type 0} (lt : X → X → Bool) (o : IsStrictWeakOrder lt) where
   tied : (x y : X) → lt x y ≡ false → lt y x ≡ false → ties lt x y ≡ true
   tied x y p q = ap (λ b. not b && not (lt y x)) p ∙ ap not q
 
-  -- what ties with an element that stands before y ties with nothing from y on
+  -- what ties with an element that comes before y ties with nothing from y on
   apart : (x d y z : X) → lt d y ≡ true → lt z y ≡ false → ties lt x d ≡ true → ties lt x z ≡ false
   apart x d y z before from tie = either (lt x d) (lt d x) (lt x z) (lt z x) refl refl refl refl tie
     where
@@ -146,7 +146,7 @@ module _ {X : Type 0} (lt : X → X → Bool) (o : IsStrictWeakOrder lt) where
   pub ordered-stable : (xs : List X) → IsStableBy lt xs (ordered lt xs)
   ordered-stable xs x = ties-folded x [] xs tt
 
-  -- ---- there is one such list
+  -- ---- there is only one such list
   all-kept : (P : X → Type 0) (t : X → Bool) (xs : List X) → AllByRecursion P xs → AllByRecursion P (filter t xs)
   all-kept P t [] a = tt
   all-kept P t (x ∷ xs) a = either (t x) (all-kept P t xs a.1)
@@ -165,7 +165,7 @@ module _ {X : Type 0} (lt : X → X → Bool) (o : IsStrictWeakOrder lt) where
   tied-itself : (x : X) → ties lt x x ≡ true
   tied-itself x = tied x x (not-itself x) (not-itself x)
 
-  -- what is first in a list that holds it with its ties stands behind nothing of another that has the same
+  -- the first element of a list doesn't come before the first one of a list in order that has the same ties of that element
   not-behind : (y z : X) (ys zs : List X) → Up (z ∷ zs) → filter (ties lt y) (y ∷ ys) ≡ filter (ties lt y) (z ∷ zs) → lt y z ≡ false
   not-behind y z ys zs u e =
       let kept : AllByRecursion (λ w. lt w z ≡ false) (filter (ties lt y) (z ∷ zs)) = all-kept (λ w. lt w z ≡ false) (ties lt y) (z ∷ zs) (not-itself z, u.0) in
@@ -206,7 +206,7 @@ module _ {X : Type 0} (lt : X → X → Bool) (o : IsStrictWeakOrder lt) where
   pub only-order : (xs ys : List X) → IsSortedBy lt ys → IsStableBy lt xs ys → ys ≡ ordered lt xs
   only-order xs ys s t = one-order ys (ordered lt xs) (up-sorted ys s) (up-ordered xs) (λ x. t x ∙ sym (ordered-stable xs x))
 
-  -- a list in order is its own
+  -- a list in order stays as it is
   pub ordered-up : (xs : List X) → Up xs → ordered lt xs ≡ xs
   ordered-up xs u = one-order (ordered lt xs) xs (up-ordered xs) u (λ x. ordered-stable xs x)
 
@@ -220,7 +220,7 @@ module _ {X : Type 0} (lt : X → X → Bool) (o : IsStrictWeakOrder lt) where
   up-take (suc k) [] u = tt
   up-take (suc k) (y ∷ ys) u = (above-take y k ys u.0, up-take k ys u.1)
 
--- ---- the same order of what elements are seen as
+-- ---- the same order of the views of elements
 module _ {X Y : Type 0} (lt : X → X → Bool) (lt' : Y → Y → Bool) (view : X → Y) (P : X → Type 0) (agree : (x y : X) → P x → P y → lt x y ≡ lt' (view x) (view y)) where
   map-placed : (d : X) (xs : List X) → P d → AllByRecursion P xs → map view (placed lt d xs) ≡ placed lt' (view d) (map view xs)
   map-placed d [] p a = refl

@@ -33,7 +33,7 @@ sorted-front parts most ds =
     let lt = stands_before parts in
     ordered-up lt (before-ranks parts) (take most (stable parts ds)) (up-take lt (before-ranks parts) most (stable parts ds) (up-ordered lt (before-ranks parts) ds))
 
--- the first of rows that were sorted have the front of all
+-- the first ones of sorted rows have the same prefix as all rows
 pub front-kept : (parts : List Part) (most : ℕ) (xs ys : List Row) → documents ys ≡ stable parts (documents xs) → take most (stable parts (documents (take most ys))) ≡ take most (stable parts (documents xs))
 front-kept parts most xs ys e =
     ap (λ l. take most (stable parts l)) (front-sorted parts most xs ys e)
@@ -48,7 +48,7 @@ row-more parts most ds d =
 pub documents-push : (rows : List Row) (row : Row) → documents (rows ++ row ∷ []) ≡ documents rows ++ row.document ∷ []
 documents-push rows row = map-append (λ (r : Row). r.document) rows (row ∷ [])
 
--- ---- what a sorter is seen as
+-- ---- the view of a sorter
 
 pub none-yet : (parts : List Part) (most : Option ℕ) (rows : List Row) → rows ≡ [] → front_of parts most (documents rows) ≡ no_rows parts most
 unfolding stable
@@ -63,7 +63,7 @@ pushed parts most old kept new row same items =
     ∙ sym (row-more parts most (documents kept) row.document)
     ∙ ap (λ l. with_row (record { parts = parts; most = most; rows = l }) row.document) same
 
--- ---- rows cut to the front, where a number is given
+-- ---- rows cut to the prefix, if a number is given
 
 pub cut-sorted : (parts : List Part) (most : Option ℕ) (n : ℕ) (xs ys rows : List Row) → most ≡ Some n → documents ys ≡ stable parts (documents xs) → rows ≡ take n ys → documents rows ≡ front most (stable parts (documents xs))
 cut-sorted parts most n xs ys rows some e items = ap documents items ∙ front-sorted parts n xs ys e ∙ ap (λ o. front o (stable parts (documents xs))) (sym some)

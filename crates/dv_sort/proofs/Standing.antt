@@ -1,4 +1,4 @@
--- How documents stand, by their keys: an order in which any two compare.
+-- The order of documents by their keys: any two of them compare.
 use Rattle.std.proofs.Common.{◌≡◌, ◌∙◌, ap, sym, refl, subst, cond, arith, ◌<◌, true, false, ℕ, List, [], ◌∷◌, length}
 use Rattle.std.specs.Cmp.{IsTotalOrder, IsStrictWeakOrder, nat_cmp_total, ranks, on_total, then_total, back_total, tied_itself}
 use Rattle.std.specs.Ordering.{MatchOrdering, nat_cmp, is_lt, on, then_cmp, ordering_then, ordering_reverse}

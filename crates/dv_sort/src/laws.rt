@@ -1,4 +1,4 @@
-//! What holds of documents in the order of a sort, each the contract of a function that does nothing.
+//! What holds of documents in the order of a sort. Each law is the contract of a function that does nothing.
 
 ghost use Rattle.std.specs.Prelude.{◌≡◌, ℕ, List, [], ◌∷◌, ◌++◌, Option, Some, min};
 ghost use Rattle.std.specs.List.Sorted.{IsPermutation, IsSortedBy, IsStableBy};
@@ -19,7 +19,8 @@ pub fn rows_stand_in_order()
     ensures stable { (parts : List Part) (rows : List (List Field)) → IsStableBy (stands_before parts) rows (stable parts rows) }
 {}
 
-/// These are all that sorting is: rows that are in order, and in which equal rows have kept theirs, are the sorted ones.
+/// These two properties determine the result: rows that are in order, and in which equal rows have kept their order, are the
+/// sorted ones.
 pub fn order_is_all()
     ensures { (parts : List Part) (rows others : List (List Field)) → IsSortedBy (stands_before parts) others → IsStableBy (stands_before parts) rows others → others ≡ stable parts rows }
 {}
@@ -36,13 +37,13 @@ pub fn without_a_path()
     ensures { (rows : List (List Field)) → stable [] rows ≡ rows }
 {}
 
-/// The prefix of a prefix is that of the lesser number.
+/// The prefix of a prefix is the prefix of the lesser number of rows.
 #[tactic(auto, using(crate::proofs::Told::lesser_front))]
 pub fn front_of_a_front()
     ensures { (m n : ℕ) (rows : List (List Field)) → front (Some m) (front (Some n) rows) ≡ front (Some (min m n)) rows }
 {}
 
-/// A row that isn't in the prefix never comes back: the prefix of a prefix and one row more is the prefix of all.
+/// A row that isn't in the prefix never returns to it: the prefix of a prefix and one more row is the prefix of all.
 pub fn one_row_more()
     ensures { (parts : List Part) (most : Option ℕ) (rows : List (List Field)) (d : List Field) → with_row (front_of parts most rows) d ≡ front_of parts most (rows ++ d ∷ []) }
 {}

@@ -1,4 +1,4 @@
-//! How rows stand by their keys.
+//! The order of rows by their keys.
 
 ghost use Rattle.std.specs.Prelude.{◌≡◌, map};
 ghost use Rattle.dv_path.specs.Parts.{part};
@@ -8,8 +8,8 @@ use dv_order::Key;
 use dv_path::{Direction, SortPart};
 use std::cmp::Ordering;
 
-/// How two lists of keys stand, which have one key for each part: by the first part whose keys differ. It goes as deep as
-/// there are parts, and a sort has at most 32.
+/// The order of two lists of keys, which have one key for each part: the first part whose keys differ decides. Calls are nested
+/// as deep as there are parts; a sort has at most 32.
 pub(crate) fn order_of(parts: &[SortPart], first: &[Key], second: &[Key]) -> Ordering
     ensures { result ≡ defined.keys_order (map part parts.now) first.now second.now }
 {
@@ -25,7 +25,7 @@ pub(crate) fn order_of(parts: &[SortPart], first: &[Key], second: &[Key]) -> Ord
     }
 }
 
-/// How two keys stand in a direction.
+/// The order of two keys in a direction.
 fn directed(direction: Direction, first: &Key, second: &Key) -> Ordering
     ensures { result ≡ defined.directed direction first.now second.now }
 {

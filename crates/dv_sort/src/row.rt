@@ -19,7 +19,7 @@ pub(crate) struct Row {
     pub(crate) document: Document,
 }
 
-/// The keys by which the sort has the document. Fails when memory runs out.
+/// The keys by which the sort orders the document. Fails when memory runs out.
 pub(crate) fn row_keys(
     alloc: Global,
     spec: &SortSpec,

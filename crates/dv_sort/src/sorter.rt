@@ -1,4 +1,4 @@
-//! Sorting documents as they come.
+//! Sorting documents as they arrive.
 
 ghost use Rattle.std.specs.Prelude.{◌≡◌, ◌≤◌, length, take, slice_get, IfOk, IfSome, OnErr, OnOk};
 ghost use Rattle.std.specs.Option.{option_map};
@@ -16,11 +16,11 @@ use dv_value::{Document, NoMemory};
 use std::alloc::Global;
 use std::marker::Model;
 
-/// The first documents of all that came, in the order of a sort; documents that the sort doesn't distinguish keep their order.
+/// The first documents of all that arrived, in the order of a sort; documents that the sort doesn't distinguish keep their order.
 ///
-/// Each document's keys are made once, and documents aren't copied. If `most` are wanted, at most twice as many are kept, a
-/// document costs a number of comparisons logarithmic in `most`, and a document that sorts after the `most` first ones of the last
-/// cut costs one comparison and is dropped. Otherwise all are kept, and sorted at the end.
+/// Each document's keys are made once, and documents aren't copied. If `most` are wanted, at most twice as many are kept (one if
+/// `most` is 0), a document costs on average a number of comparisons logarithmic in `most`, and a document that doesn't come before
+/// the first one that the last cut removed costs one comparison and is dropped. Otherwise all are kept, and sorted at the end.
 #[derive(Debug, Drop)]
 pub struct Sorter<'a> {
     spec: &'a SortSpec,
@@ -49,7 +49,7 @@ impl<'a> Model for Sorter<'a> {
 }
 
 impl<'a> Sorter<'a> {
-    /// A sorter to which no document came yet, and of which the first `most` are wanted, or all. Takes no memory; what it
+    /// A sorter at which no document has arrived yet. The first `most` documents are wanted, or all. Takes no memory; what it
     /// takes later is allocated by `alloc`.
     pub fn new(alloc: Global, spec: &'a SortSpec, most: Option<usize>) -> Self
         ensures { result ≡ no_rows spec.now most }
@@ -77,7 +77,7 @@ impl<'a> Sorter<'a> {
         Ok(())
     }
 
-    /// The first documents of all that came, in order. Fails with `NoMemory` when memory runs out.
+    /// The first documents of all that arrived, in order. Fails with `NoMemory` when memory runs out.
     pub fn into_rows(self) -> Result<Vec<Document>, NoMemory>
         ensures { IfOk result (λ rows. rows.items ≡ self.entry.rows) }
     {
@@ -95,8 +95,8 @@ impl<'a> Sorter<'a> {
     }
 }
 
-/// Keeps the first `most` rows in order, where there are twice as many, and the keys of the next one as the bar. Fails when
-/// memory runs out, and then leaves the rows and the bar as they are.
+/// If there are at least twice as many rows as are wanted, keeps the first `most` in order, and the keys of the next one as the
+/// bar. Fails when memory runs out, and then leaves the rows and the bar as they are.
 fn keep_front(
     rows: &mut Vec<Row>,
     bar: &mut Option<Vec<Key>>,
@@ -121,7 +121,7 @@ fn keep_front(
     Ok(())
 }
 
-/// Cuts off all but the first `most` rows, and gives the keys of the next one, where there is one.
+/// Cuts off all rows after the first `most`, and returns the keys of the next one, if there is one.
 fn cut(rows: &mut Vec<Row>, most: usize) -> Option<Vec<Key>>
     requires { most ≤ length rows.old.items }
     ensures rows { rows.new.items ≡ take most rows.old.items }
@@ -135,7 +135,7 @@ fn cut(rows: &mut Vec<Row>, most: usize) -> Option<Vec<Key>>
     Some(keys)
 }
 
-/// Whether a row with these keys stands beside the bar or behind it, where there is one.
+/// Whether there is a bar, and a row with these keys is equal to it or comes after it.
 fn stands_behind(spec: &SortSpec, keys: &[Key], bar: &Option<Vec<Key>>) -> bool
     ensures { result ≡ is_behind spec.now keys.now (option_map (λ keys. keys.items) bar.now) }
 {

@@ -1,4 +1,4 @@
--- How often readers and writers have failed, and how often they were asked.
+-- How often readers and writers have failed, and the number of reads.
 use Rattle.std.specs.Prelude.{◌≡◌, ℕ, zero, suc, ◌+◌, ◌%◌, ◌^◌, Result, Ok, Err}
 
 -- one more, in a count of 64 bits, which begins again at 0

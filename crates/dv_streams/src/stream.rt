@@ -20,7 +20,7 @@ pub trait ByteIn {
     // How often it has failed, as 64 bits count it.
     ghost failures: { Self → ℕ };
 
-    // How often it was asked for bytes, as 64 bits count it.
+    // The number of reads, as 64 bits count it.
     ghost reads: { Self → ℕ };
 
     /// Puts the next bytes at the front of the piece, and returns how many they are: 0 only at the end of input. Fails if the

@@ -48,7 +48,7 @@ pub trait TextOut: ByteOut {
     ghost use Rattle.dv_streams.specs.Stream.{MoreBy};
     ghost use Rattle.dv_streams.specs.Failures.{failures_behind};
 
-    // How often it has handed on what it took, as 64 bits count it.
+    // The number of flushes that succeeded, as 64 bits count it.
     ghost flushes: { Self → ℕ };
 
     /// Writes a text, all of it. `write!` calls this. Fails if the writer does.
@@ -76,7 +76,7 @@ pub struct CountedReader<R: Read> {
 }
 
 impl<R: Read> CountedReader<R> {
-    /// A reader that wasn't asked yet.
+    /// A reader that wasn't read yet.
     pub fn of(reader: R) -> Self
         ensures { result ≡ record { reader = reader; reads = 0; failures = 0 } }
     {

@@ -1,4 +1,4 @@
-//! Documents as tests write them, by their bytes. What stands beside these as text is what `tools/client/notation.py` spells so.
+//! Documents as tests write them, by their bytes. The text next to these is in the notation of `tools/client/notation.py`.
 
 use dv_bson::{read_document, write_document};
 use dv_value::{Document, List, Value};
@@ -26,7 +26,7 @@ pub fn array_in(document: &Document) -> Result<&List, Fail> {
     }
 }
 
-/// Puts a field of this name after the others. No contract says so, and a test that makes documents is proved in less time.
+/// Puts a field of this name after the others. There is no contract, so that a test that makes documents is proved in less time.
 pub fn add(document: &mut Document, name: &str, value: Value) -> Result<(), Fail> {
     Ok(document.push(name, value)?)
 }

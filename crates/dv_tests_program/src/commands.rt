@@ -6,8 +6,8 @@ use dv_testing::spelled::{bytes_of, document};
 use std::alloc::Global;
 use std::test::Fail;
 
-/// The bytes of the reply to a command with lists of documents beside its body. Fails if there is no reply, or one that reports that
-/// memory ran out.
+/// The bytes of the reply to a command with lists of documents besides its body. Fails if there is no reply, or one that reports
+/// that memory ran out.
 pub(crate) fn told(
     alloc: Global,
     store: &mut Store,

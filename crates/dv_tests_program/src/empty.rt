@@ -1,4 +1,4 @@
-//! Empty stores and hubs. Nothing drops them: what it takes to prove a drop of all that they may hold is longer than the tests.
+//! Empty stores and hubs. Nothing drops them: to prove a drop of all that they may hold would take longer than to prove the tests.
 
 use dv_core::Store;
 use dv_wire::Hub;

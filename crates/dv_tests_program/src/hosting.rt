@@ -7,12 +7,12 @@ use std::alloc::Global;
 use std::io::{Cursor, Read};
 use std::test::Fail;
 
-/// What a client does, and what comes of it.
+/// What a client does, and the outcome.
 struct Case {
     sends: &'static [&'static [u8]],
-    /// How many bytes it sends at once, and takes.
+    /// How many bytes it sends and takes at once.
     at_once: usize,
-    /// How often it takes nothing before it fails; 0 where it takes all that it is given.
+    /// The number of the `give` that fails, after those before it took nothing; 0 if it takes all that it is given.
     refusals: usize,
     fate: Fate,
     /// How many of its bytes are taken.
@@ -28,7 +28,7 @@ const SHORT: &[u8] = b"\x19\0\0\0\x07";
 
 /// A ping, and in the same piece a length that closes the session; two pings in one piece; an end within a message; an insert in
 /// three pieces; two pings of which the second is never taken, since the reply to the first isn't; and a find, byte by byte, of
-/// what was inserted meanwhile. Each is gone before the next one.
+/// what was inserted meanwhile. The clients end in this order.
 static CASES: [Case; 6] = [
     Case {
         sends: &[PING, SHORT],
@@ -80,12 +80,12 @@ static CASES: [Case; 6] = [
     },
 ];
 
-/// The clients, apart, so that no proof spells all of them out.
+/// The clients, in a function of their own, so that no proof spells all of them out.
 fn cases() -> &'static [Case] {
     &CASES
 }
 
-/// A client that has come.
+/// A client that has connected.
 #[derive(Drop)]
 struct Client {
     number: u64,
@@ -135,7 +135,8 @@ impl Channel for Client {
     }
 }
 
-/// Clients, of which each that came may always be ready. One call of `accept` fails, and `wait` does where all are gone.
+/// Clients, each of which may always be ready once it has connected. One call of `accept` fails, and `wait` fails when all are
+/// closed.
 #[derive(Drop)]
 struct Clients {
     alloc: Global,
@@ -192,13 +193,13 @@ impl Outside for Clients {
     }
 
     fn close(&mut self, client: Client, fate: Fate) {
-        // Where it finds no room, it is missing at the end.
+        // If memory runs out, it is missing at the end.
         let _ = self.gone.push((client, fate));
     }
 }
 
-/// What serving so many clients in so many turns comes to, and those that are gone, where this call of `accept` fails; none does
-/// where it is 0.
+/// The result of serving so many clients in so many turns, and the clients that were closed. The call of `accept` with this number
+/// fails; none does if it is 0.
 fn hosted(
     alloc: Global,
     connections: u64,
@@ -217,7 +218,7 @@ fn hosted(
     (done, clients.gone)
 }
 
-/// The number of the first client that isn't gone as it should be.
+/// The number of the first client that didn't end as it should.
 fn first_wrong(alloc: Global, gone: &[(Client, Fate)]) -> Result<Option<u64>, Fail> {
     for (case, (client, fate)) in cases().iter().zip(gone) {
         let replies = case.replies.concat(alloc)?;
@@ -242,7 +243,7 @@ fn answers_each_of_many_connections(rt: HostRuntime) -> Result<(), Fail> {
     Ok(())
 }
 
-/// In 20 turns not all bytes of the last one come; it is closed in any case.
+/// In 20 turns not all bytes of the last client arrive; it is closed in any case.
 #[test]
 fn ends_where_so_many_came_and_went(rt: HostRuntime) {
     let rows = [

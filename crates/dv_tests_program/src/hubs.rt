@@ -1,4 +1,4 @@
-//! Sessions side by side: as many as there may be, and events that are played.
+//! Several sessions at once: as many as there may be, and events that are played.
 
 use crate::empty;
 use dv_testing::messages::{PING, PONG};
@@ -11,10 +11,10 @@ use std::test::Fail;
 /// A header whose operation code isn't that of OP_MSG.
 const STRANGE: &[u8] = b"/\0\0\0\x0a\0\0\0\0\0\0\0\xd4\x07\0\0";
 
-/// The front of a message of 1,000,000 bytes.
+/// The first bytes of a message of 1,000,000 bytes.
 const FRONT: &[u8] = b"\x40\x42\x0f\0\x01\0\0\0\0\0\0\0\xdd\x07\0\0\0\0\0\0";
 
-/// A hub of which a thousand sessions are open.
+/// A hub with a thousand open sessions.
 fn full(alloc: Global) -> ManuallyDrop<Hub> {
     let mut hub = empty::hub(alloc);
     for _ in 0..1000 {
@@ -28,12 +28,12 @@ fn is_full(hub: &mut Hub) -> bool {
     hub.open() == Err(HubFault::TooManySessions)
 }
 
-/// Closes the session by bytes that are none of its.
+/// Closes the session by bytes that are no message.
 fn close(alloc: Global, hub: &mut Hub, session: SessionId) -> Fed {
     hub.feed(session, STRANGE, &mut Vec::new(alloc))
 }
 
-/// Closed ones are among the thousand.
+/// Closed sessions are among the thousand until they end.
 #[test]
 fn a_thousand_sessions_are_open_at_most(rt: HostRuntime) {
     let alloc = rt.alloc();
@@ -50,7 +50,7 @@ fn a_thousand_sessions_are_open_at_most(rt: HostRuntime) {
     assert!(rt; is_full(&mut hub));
 }
 
-/// How many bytes of an unfinished message are dropped that has so many behind its front.
+/// How many bytes are dropped of an unfinished message that has so many after its first ones.
 fn unfinished(alloc: Global, count: usize) -> Result<usize, Fail> {
     let mut hub = empty::hub(alloc);
     let session = hub.open()?;
@@ -66,7 +66,7 @@ fn a_long_message_may_stay_unfinished(rt: HostRuntime) -> Result<(), Fail> {
     Ok(())
 }
 
-/// What a hub says of a session that is opened, takes a ping and ends.
+/// What a hub returns for a session that is opened, takes a ping and ends.
 fn played(alloc: Global) -> Result<Vec<Said>, Fail> {
     let first = SessionId { number: 0 };
     let mut events = Vec::new(alloc);

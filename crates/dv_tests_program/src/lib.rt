@@ -1,5 +1,5 @@
-//! Tests of the store, of sessions, scripts and connections, of what neither a contract nor a script says. Worked examples are
-//! `docd`'s data.
+//! Tests of the store, of sessions, scripts and connections: what neither a contract nor a script says. Worked examples are data of
+//! `docd`.
 #![tactic(auto)]
 
 #[cfg(test)]

@@ -11,7 +11,7 @@ use std::test::Fail;
 /// `{_id: 1}` twice.
 const TWO: &[u8] = b"\x0e\0\0\0\x10_id\0\x01\0\0\0\0\x0e\0\0\0\x10_id\0\x01\0\0\0\0";
 
-/// What loading a file under the name `f` comes to.
+/// The result of loading a file under the name `f`.
 fn loaded(alloc: Global, store: &mut Store, namespace: &str, file: &[u8]) -> Result<String, Fail> {
     match load_file(alloc, store, namespace, &mut CountedReader::of(file)) {
         Ok(()) => Ok(String::from_str(alloc, "ok")?),
@@ -22,9 +22,9 @@ fn loaded(alloc: Global, store: &mut Store, namespace: &str, file: &[u8]) -> Res
     }
 }
 
-/// Files that are loaded one after the other into one store, and what they come to. What stands in front of a fault is in the
-/// way of what comes later. The last but one is a document without `_id`, and the last one under a name that is none of a
-/// database.
+/// Files that are loaded one after the other into one store, and the results. Documents before a fault stay in the store, and later
+/// ones with their `_id` are refused. The last file but one is a document without `_id`, and the last one is loaded under a name
+/// without a database.
 const LOADED: &[(&str, &[u8], &str)] = &[
     ("t.c", b"", "ok"),
     (

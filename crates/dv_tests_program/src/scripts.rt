@@ -7,7 +7,7 @@ use dv_testing::fakes::{FailingReader, FailingWriter};
 use std::alloc::Global;
 use std::test::Fail;
 
-/// What a script writes and how it ends, whose bytes come one at a read, of which this one fails.
+/// What a script writes and how it ends. Each read returns one byte, and the read with this number fails.
 fn ran(alloc: Global, text: &str, failing: usize) -> Result<String, Fail> {
     let mut hub = empty::hub(alloc);
     let mut reader = CountedReader::of(FailingReader::failing(text.as_bytes(), failing));
@@ -23,7 +23,7 @@ fn ran(alloc: Global, text: &str, failing: usize) -> Result<String, Fail> {
     Ok(told)
 }
 
-/// Scripts, the read that fails (0 where none does), and what they write and come to. A CR belongs to its line.
+/// Scripts, the number of the read that fails (0 if none does), and what they write and how they end. A CR belongs to its line.
 const SCRIPTS: &[(&str, usize, &str)] = &[
     ("", 0, "Ok(())"),
     ("# nothing\n\n", 0, "Ok(())"),
@@ -50,7 +50,7 @@ fn runs_scripts(rt: HostRuntime) -> Result<(), Fail> {
     Ok(())
 }
 
-/// What a script comes to over a writer of which this call fails.
+/// How a script ends if the call of its writer with this number fails.
 fn ended(alloc: Global, failing: usize) -> Result<(), ScriptFault> {
     let mut hub = empty::hub(alloc);
     let mut reader = CountedReader::of(b"0 end\n".as_slice());
@@ -60,7 +60,7 @@ fn ended(alloc: Global, failing: usize) -> Result<(), ScriptFault> {
 
 #[test]
 fn tells_a_writer_that_fails(rt: HostRuntime) {
-    // A flush, a write for each of eight bytes, a flush in front of the next read, and one at the end.
+    // A flush, a write for each of eight bytes, a flush before the next read, and one at the end.
     for failing in 1..=11 {
         assert_eq!(rt; ended(rt.alloc(), failing), Err(ScriptFault::Write));
     }

@@ -56,7 +56,7 @@ const CLIENTS: &[(&[u8], usize)] = &[(PING, 0), (b"\x19\0\0\0\x07", 0), (PING, 5
 const ENDINGS: &str =
     "connection 1 ended\nconnection 2 closed 1\nconnection 3 failed\nconnection 4 ended\n";
 
-/// What serving so many of these connections writes and comes to, and how many were closed.
+/// What serving so many of these connections writes and returns, and how many were closed.
 fn served(alloc: Global, connections: u32) -> (Vec<u8>, Result<(), ServeFault>, usize) {
     let mut hub = empty::hub(alloc);
     let mut listener = Clients {
@@ -97,7 +97,7 @@ where
     Ok(clients)
 }
 
-/// What serving so many connections at the port comes to.
+/// The result of serving so many connections at the port.
 fn served_at(alloc: Global, listener: TcpListener, connections: u32) -> Result<(), ServeFault> {
     let mut hub = empty::hub(alloc);
     let mut writer = CountedWriter::of(Vec::new(alloc));

@@ -8,7 +8,7 @@ use dv_wire::{Fed, Hub, SessionId, run};
 use std::alloc::Global;
 use std::test::Fail;
 
-/// What a session of the hub over these bytes comes to, one at a read, of which this one fails.
+/// The outcome of a session of the hub over these bytes. Each read returns one byte, and the read with this number fails.
 fn told(
     alloc: Global,
     hub: &mut Hub,
@@ -25,8 +25,8 @@ fn told(
     }
 }
 
-/// What a session over these bytes comes to, one at a read and one at a write, of which these calls fail, and what the writer
-/// took.
+/// The outcome of a session over these bytes, and what the writer took. Each read returns one byte and each write takes one, and
+/// the calls with these numbers fail.
 fn session(
     alloc: Global,
     bytes: &[u8],
@@ -56,7 +56,7 @@ fn has_sessions(rt: HostRuntime) -> Result<(), Fail> {
 
 #[test]
 fn tells_failures_of_sessions(rt: HostRuntime) -> Result<(), Fail> {
-    // One read for each of the 47 bytes, and one that tells the end; one write for each of the 34 bytes.
+    // One read for each of the 47 bytes, and one that reports the end; one write for each of the 34 bytes.
     for failing in 1..=48 {
         let (told, taken) = session(rt.alloc(), PING, failing, 0)?;
         let answered = if failing == 48 { PONG } else { b"" };
@@ -71,7 +71,8 @@ fn tells_failures_of_sessions(rt: HostRuntime) -> Result<(), Fail> {
     Ok(())
 }
 
-/// What another session finds behind an insert whose reply this writer doesn't take, and what the session itself takes then.
+/// What another session finds after an insert whose reply this writer doesn't take, and what the hub then returns for bytes of the
+/// first session.
 fn found_behind(alloc: Global, narrow: &mut FailingWriter) -> Result<(Vec<u8>, Fed), Fail> {
     let mut hub = empty::hub(alloc);
     let told = told(alloc, &mut hub, INSERT, 0, narrow)?;

@@ -1,4 +1,4 @@
-//! Commands at their limits, which no script brings.
+//! Commands at their limits, which no script has.
 
 use crate::commands::told;
 use crate::empty;
@@ -63,7 +63,7 @@ fn largest(alloc: Global) -> Result<(Vec<u8>, Vec<u8>), Fail> {
     Ok((largest, larger))
 }
 
-/// No message brings so long a document, but a command may be made without one.
+/// No message has so long a document, but a command may be made without a message.
 #[test]
 fn a_document_has_at_most_16_mebibytes(rt: HostRuntime) -> Result<(), Fail> {
     let (largest, larger) = largest(rt.alloc())?;
@@ -72,14 +72,14 @@ fn a_document_has_at_most_16_mebibytes(rt: HostRuntime) -> Result<(), Fail> {
     Ok(())
 }
 
-/// How many bytes a find's reply has behind an insert of such a document.
+/// How many bytes a find's reply has after an insert of such a document.
 fn grown(alloc: Global, store: &mut Store, id: i32, length: usize) -> Result<usize, Fail> {
     stored(alloc, store, id, length)?;
     Ok(told(alloc, store, FIND, Vec::new(alloc))?.len())
 }
 
-/// How many it has behind two documents of as many bytes together as a batch may have, the first of them alone and both,
-/// and behind a third, which comes with the next batch.
+/// How many bytes it has after the first of two documents, after both, which together have as many bytes as a batch may have, and
+/// after a third, which is returned with the next batch.
 fn batches(alloc: Global) -> Result<(usize, usize, usize), Fail> {
     let mut store = empty::store(alloc);
     let first = grown(alloc, &mut store, 1, 16_777_150)?;
@@ -117,7 +117,7 @@ fn a_command_has_at_most_100000_statements(rt: HostRuntime) -> Result<(), Fail> 
 const CUT: &[u8] =
     b"=\0\0\0\x10index\0\x03\0\0\0\x10code\0\x84\x03\0\0\x02errmsg\0\x0d\0\0\0WantOfMemory\0\x10done\0\x05\0\0\0\0";
 
-/// Memory is never wanting here, so that no statement is cut.
+/// Memory never runs out here, so no statement is cut.
 #[test]
 fn a_cut_statement_tells_what_is_done(rt: HostRuntime) -> Result<(), Fail> {
     let alloc = rt.alloc();

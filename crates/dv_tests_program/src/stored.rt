@@ -26,7 +26,7 @@ const TWO: &[u8] =
 /// `{_id: 3, a: 5}`.
 const ONE: &[u8] = b"\x15\0\0\0\x10_id\0\x03\0\0\0\x10a\0\x05\0\0\0\0";
 
-/// The bytes of the rows that the store keeps of the view, one behind the other.
+/// The bytes of the rows that the store keeps of the view, one after the other.
 fn kept(alloc: Global, store: &Store) -> Result<Vec<u8>, Fail> {
     let Some(rows) = store.stored_rows("t.v") else {
         return Err(Fail::from("no view, or a stale one"));
@@ -38,7 +38,7 @@ fn kept(alloc: Global, store: &Store) -> Result<Vec<u8>, Fail> {
     Ok(bytes)
 }
 
-/// The same behind these commands.
+/// The same after these commands.
 fn kept_behind(alloc: Global, commands: &[&[u8]]) -> Result<Vec<u8>, Fail> {
     let mut store = empty::store(alloc);
     for body in commands {

@@ -1,4 +1,4 @@
--- What stands in a document or a list weighs less than it does.
+-- A value in a document or a list weighs less than the document or the list.
 use Rattle.std.specs.Prelude.{◌≡◌, ℕ, List, Some, map, slice_get, slice_index_or, length}
 use Rattle.std.proofs.Common.{◌≤◌, ◌<◌}
 use Rattle.dv_value.specs.Tree.{Tree, Field, fields_of, elements_of}

@@ -1,4 +1,4 @@
-//! Updates at their limits, which no script brings.
+//! Updates at their limits, which no script has.
 
 use dv_testing::spelled::{add, document};
 use dv_update::{Update, UpdateFault};
@@ -18,7 +18,7 @@ fn far(alloc: Global) -> Result<Document, Fail> {
     Ok(paths)
 }
 
-/// The number of the fault with which an update is refused that has this operator on such a path, and else 0.
+/// The number of the fault with which an update with this operator on such a path is refused, or 0 if it isn't.
 fn fault_of(alloc: Global, operator: &str) -> Result<u8, Fail> {
     let mut update = Document::new(alloc);
     add(&mut update, operator, Value::Doc(far(alloc)?))?;

@@ -23,7 +23,7 @@ fn checked(alloc: Global, file: &[u8]) -> Result<String, Fail> {
     }
 }
 
-/// Files, and what a check says of them. The first document's length is looked at before its end, and that before its closing
+/// Files, and what a check reports for them. The first document's length is checked before its end, and its end before its closing
 /// zero.
 const CHECKED: &[(&[u8], &str)] = &[
     (b"", "ok 0\n"),
@@ -58,7 +58,7 @@ fn counts_documents(rt: HostRuntime) -> Result<(), Fail> {
     Ok(())
 }
 
-/// What a check of the two documents comes to over a reader and a writer of which these calls fail.
+/// The result of a check of the two documents, if the calls of its reader and its writer with these numbers fail.
 fn checked_over(alloc: Global, read: usize, written: usize) -> Result<(), CheckFault> {
     let mut reader = CountedReader::of(FailingReader::failing(TWO, read));
     let mut writer = CountedWriter::of(FailingWriter::failing(alloc, written));
@@ -67,7 +67,7 @@ fn checked_over(alloc: Global, read: usize, written: usize) -> Result<(), CheckF
 
 #[test]
 fn tells_streams_that_fail(rt: HostRuntime) {
-    // One read for each of 28 bytes, and one that tells the end.
+    // One read for each of 28 bytes, and one that reports the end.
     for failing in 1..=29 {
         assert_eq!(rt; checked_over(rt.alloc(), failing, 0), Err(CheckFault::Read));
     }

@@ -1,6 +1,6 @@
-//! Tests of what needs no store: values, paths, updates, files, and the program's words. They are of what neither a contract
-//! nor a script says: that another library agrees, and what is too large for a script. Tests stand in crates of their own, since
-//! a crate with tests is proved twice. Worked examples are `docd`'s data.
+//! Tests of what needs no store: values, paths, updates, files, and the program's arguments. They test what neither a contract nor
+//! a script says: that another library agrees, and what is too large for a script. Tests are in crates of their own, since a crate
+//! with tests is proved twice. Worked examples are data of `docd`.
 #![tactic(auto)]
 
 #[cfg(test)]

@@ -1,4 +1,4 @@
-//! The program's words, and the texts of its faults.
+//! The program's arguments, and the texts of its faults.
 
 use dv_value::BsonFault;
 use dv_words::fault::{DocdFault, ScriptFault, status};
@@ -6,7 +6,7 @@ use dv_words::words::{Job, Load, words};
 use std::alloc::Global;
 use std::test::Fail;
 
-/// What the words, without the program's name, come to: the job, or the fault and its status.
+/// The result for these arguments, without the program's name: the job, or the fault and its status.
 fn asked(alloc: Global, line: &str) -> Result<String, Fail> {
     let mut all = Vec::new(alloc);
     all.push(String::from_str(alloc, "docd")?)?;
@@ -50,7 +50,7 @@ fn told(alloc: Global, job: &Job) -> Result<String, Fail> {
     Ok(text)
 }
 
-/// Puts loads behind a job's text.
+/// Appends loads to a job's text.
 fn add_loads(text: &mut String, loads: &[Load]) -> Result<(), Fail> {
     for load in loads {
         write!(text, " {} < {}", load.namespace, load.file)?;
@@ -58,7 +58,7 @@ fn add_loads(text: &mut String, loads: &[Load]) -> Result<(), Fail> {
     Ok(())
 }
 
-/// Words, and what they come to.
+/// Arguments, and the result for them.
 const ASKED: &[(&str, &str)] = &[
     ("run", "run false"),
     ("run --hex", "run true"),

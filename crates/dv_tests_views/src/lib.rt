@@ -1,5 +1,5 @@
-//! Tests of stages that are kept by changes, and of views, of what neither a contract nor a script says. Worked
-//! examples are `docd`'s data.
+//! Tests of stages that are updated by changes, and of views: what neither a contract nor a script says. Worked examples are data
+//! of `docd`.
 #![tactic(auto)]
 
 #[cfg(test)]

@@ -1,4 +1,5 @@
-//! Views of a registry that isn't told what stood where a change is: that they stay live. No clause says so, since it takes memory.
+//! Views of a registry that receives changes without the row that was there: that they stay live. No clause says so, since memory
+//! may run out.
 
 use crate::turns::{gone, put};
 use dv_change::Change;
@@ -9,7 +10,7 @@ use std::alloc::Global;
 use std::mem::ManuallyDrop;
 use std::test::Fail;
 
-/// The view `t.v` of the stages over `t.c`, which has no document yet. Nothing drops it: so a test's proof is short.
+/// The view `t.v` of the stages over `t.c`, which has no document yet. Nothing drops it, so that a test's proof is short.
 fn registry(alloc: Global, stages: &[u8]) -> Result<ManuallyDrop<Registry>, Fail> {
     let stages = document(alloc, stages)?;
     let pipeline = Pipeline::parse(alloc, array_in(&stages)?.as_slice())?;
@@ -18,12 +19,12 @@ fn registry(alloc: Global, stages: &[u8]) -> Result<ManuallyDrop<Registry>, Fail
     Ok(views)
 }
 
-/// The views are told of the changes, and no more is said of that: so a test's proof is short.
+/// Passes the changes to the views. There is no contract, so that a test's proof is short.
 fn tell(views: &mut Registry, namespace: &str, changes: &[Change]) {
     views.apply(namespace, changes);
 }
 
-/// How a view of the documents with `{a: 7}` is behind changes of `t.c`, and what it has counted.
+/// The state of a view of the documents with `{a: 7}` after changes of `t.c`, and what it has counted.
 fn behind(alloc: Global, changes: &[Change]) -> Result<(Option<ViewState>, Option<u64>), Fail> {
     // {p: [{$match: {a: 7}}]}
     let mut views = registry(
@@ -41,7 +42,7 @@ const FOUND: [&[u8]; 3] = [
     b"\x15\0\0\0\x10_id\0\x02\0\0\0\x10a\0\x07\0\0\0\0",
 ];
 
-/// A row that matches no longer is handed on as gone only by one who knows that it matched.
+/// That a row no longer matches is returned as a removal only if it is known that the row matched before.
 #[test]
 fn a_view_stays_live_behind_documents_that_are_put_and_gone(rt: HostRuntime) -> Result<(), Fail> {
     let alloc = rt.alloc();

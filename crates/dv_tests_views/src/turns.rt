@@ -1,4 +1,4 @@
-//! Stages that are kept by changes: what they hand on, and what they count.
+//! Stages that are updated by changes: what they return, and what they count.
 
 ghost use Rattle.std.specs.Prelude.{OnOk};
 
@@ -25,16 +25,16 @@ pub(crate) fn put(alloc: Global, number: u64, row: &[u8]) -> Result<Change, Fail
     Ok(Change::Put { pos, row })
 }
 
-/// The row at the number goes.
+/// The row at the number is removed.
 pub(crate) fn gone(alloc: Global, number: u64) -> Result<Change, Fail> {
     let pos = place(alloc, number)?;
     Ok(Change::Gone { pos })
 }
 
-/// What a change tells: the number that its position ends with, and the one under `a` in the row that it puts there.
+/// What a change does: the number that its position ends with, and the number under `a` in the row that it puts there.
 type Told = (u64, Option<i32>);
 
-/// What the change tells.
+/// What the change does.
 fn told(alloc: Global, change: &Change) -> Result<Told, Fail> {
     let (pos, value) = match change {
         Change::Put { pos, row } => (pos, row.get("a")),
@@ -51,7 +51,7 @@ fn told(alloc: Global, change: &Change) -> Result<Told, Fail> {
     }
 }
 
-/// What each of the changes tells, in order.
+/// What each of the changes does, in order.
 fn told_by(alloc: Global, changes: &Vec<Change>) -> Result<Vec<Told>, Fail> {
     let mut all = Vec::new(alloc);
     for change in changes {
@@ -138,7 +138,7 @@ fn feed<T: Turn>(
     Ok(turn.change(Input::Left, change, ticks, out)?)
 }
 
-/// The counts behind each of three rows that are put at 10 one after the other, and what is told of the changes handed on.
+/// The counts after each of three rows that are put at 10 one after the other, and what each of the returned changes does.
 fn turned<T: Turn>(
     alloc: Global,
     turn: &mut T,

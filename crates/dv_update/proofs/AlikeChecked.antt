@@ -87,7 +87,7 @@ module _ (n : ℕ) (high : 100 ≤ n) (old d e : List Field) (within : levels (d
   checked-alike : checked old d ≡ checked old e
   checked-alike = both-deep (nat_lt level_limit (levels (document (fields_of d)))) (nat_lt level_limit (levels (document (fields_of e)))) refl refl
 
--- what stands in for a result is refused as it is, and else is the result
+-- what stands in for a result is refused as the result is; if neither is refused, they are equal
 pub alike_checked : (old d e : List Field) → levels (document (fields_of old)) ≤ 100 → Alike d e → checked old d ≡ checked old e
 unfolding Alike
 alike_checked old d e within alike = checked-alike most_levels (omega arith) old d e within alike

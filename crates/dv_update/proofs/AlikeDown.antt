@@ -1,4 +1,4 @@
--- What documents that are alike down to a level have in common.
+-- What documents that are the same down to a level have in common.
 use Rattle.std.proofs.Common.{◌≡◌, ◌∙◌, ap, ap₂, sym, refl, List, [], ◌∷◌, ℕ, zero, suc, ◌+◌, ◌-◌, ◌<◌, map, length, length-append, Option, Some, None, slice_get, decimal, arith, subst}
 use Rattle.std.specs.Option.{option_map}
 use Rattle.std.proofs.Math.ListN.{replicate}
@@ -13,7 +13,7 @@ use Rattle.dv_path.specs.Slots.{Slot, taken, free, blocked, slot_of, element_slo
 use Rattle.dv_update.specs.Inner.StandIn.{in_one_piece, down_to, fields_down_to}
 use Rattle.dv_update.proofs.DownTo.{Path, below, value-marked, element-there, fields-opened, elements-opened}
 
--- ---- what stands where a path leads
+-- ---- the slot at the end of a path
 
 abbrev pub slot_down_to : ℕ → Slot → Slot
 slot_down_to n (taken v) = taken (down_to n v)
@@ -125,7 +125,7 @@ was-shallow (suc n) (array vs) h =
     elements-opened n vs ∙ ap array (items-were n (was-shallow n) vs (omega arith))
 was-shallow (suc n) v h = refl
 
--- values that are alike down to a level are equal where one of them isn't as deep
+-- values that are the same down to a level are equal if one of them isn't that deep
 pub equal-shallow : (n : ℕ) (v w : Tree) → down_to n v ≡ down_to n w → levels w < n → v ≡ w
 equal-shallow n v w alike h =
     let here : down_to n w ≡ w = stays-shallow n w h in

@@ -1,4 +1,4 @@
--- Edits of documents that are alike down to a level.
+-- Edits of documents that are the same down to a level.
 use Rattle.std.proofs.Common.{◌≡◌, ◌∙◌, ap, ap₂, sym, refl, subst, List, [], ◌∷◌, ◌++◌, ℕ, zero, suc, ◌-◌, ◌<◌, ◌≤◌, map, Bool, true, false, length, Option, Result, Ok, Err, arith}
 use Rattle.dv_value.specs.Names.{value_under}
 use Rattle.dv_value.specs.Spelling.{levels}
@@ -18,7 +18,7 @@ use Rattle.dv_update.specs.declared.fault.UpdateFault.TheVariants as faults
 use Rattle.dv_update.proofs.AlikeDown.{slot_down_to, slot-of, slot-marked, equal-shallow}
 use Rattle.dv_update.proofs.DownTo.{Path, below, below-sum, value-marked, put-field-marked, behind-marked, array-marked, elements-opened}
 
--- ---- results that are alike
+-- ---- results that are the same down to a level
 
 abbrev pub marked : ℕ → Result (List Field) UpdateFault → Result (List Field) UpdateFault
 marked n (Ok d) = Ok (fields_down_to n d)
@@ -32,7 +32,7 @@ told-marked : (n : ℕ) (r : Result (List Field) PathFault) → marked n (told r
 told-marked n (Ok d) = refl
 told-marked n (Err e) = refl
 
--- what is made of the one where something is made of the other
+-- the result for one document, if there is a result for the other
 pub alike_made : (r s : Result (List Field) UpdateFault) (e : List Field) → marked most_levels r ≡ marked most_levels s → s ≡ Ok e → (d : List Field) × (r ≡ Ok d) × Alike d e
 unfolding Alike
 alike_made (Ok d) (Ok f) e same is = let there : f ≡ e = cc in let here : fields_down_to most_levels d ≡ fields_down_to most_levels f = cc in (d, refl, here ∙ ap (fields_down_to most_levels) there)
@@ -46,7 +46,7 @@ alike_refused (Ok d) (Err g) e same is = absurd cc
 alike_refused (Err g) (Ok f) e same is = absurd cc
 alike_refused (Err g) (Err h) e same is = let there : g ≡ h = cc in ap Err there ∙ is
 
--- ---- what is put, and what stands there
+-- ---- what is put, and what is there
 
 module _ (m : ℕ) (name : List ℕ) (names : Path) (d e : List Field) where
   put-below : (v w : Tree) → down_to m v ≡ down_to m w → fields_down_to (below names m) d ≡ fields_down_to (below names m) e → result_map (fields_down_to (below names m)) (put d (name ∷ names) v) ≡ result_map (fields_down_to (below names m)) (put e (name ∷ names) w)
@@ -69,7 +69,7 @@ module _ (m : ℕ) (name : List ℕ) (names : Path) (d e : List Field) where
   slot-below : fields_down_to (below names m) d ≡ fields_down_to (below names m) e → slot_down_to m (slot d (name ∷ names)) ≡ slot_down_to m (slot e (name ∷ names))
   slot-below alike = slot-from d ∙ ap (λ fs. slot_behind names (slot_of (value_under name fs))) alike ∙ sym (slot-from e)
 
--- how many levels are left behind a path
+-- how many levels are left after a path
 abbrev Reaches : ℕ → Path → Type 0
 Reaches m names = below names m ≡ most_levels
 

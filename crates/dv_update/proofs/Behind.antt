@@ -1,4 +1,4 @@
--- An array with one value more, behind its elements.
+-- An array with one more value after its elements.
 use Rattle.std.proofs.Common.{◌≡◌, ◌∙◌, ap, refl, ℕ, suc, ◌+◌, ◌<◌, ◌≤◌, Bool, true, false, ◌&&◌, List, [], ◌∷◌, ◌++◌, length, decimal, map, max, get_or, sym, arith}
 use Rattle.std.proofs.lemmas.Fmt.{length-decimal-le}
 use Rattle.dv_value.specs.Spelling.{payload, elements_spelling, levels, elements_levels}

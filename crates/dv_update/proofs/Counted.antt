@@ -1,4 +1,4 @@
--- Filled arrays stand in what is made in the end, and are as long as is counted.
+-- Filled arrays are in the result, and are at least as long as is counted.
 use Rattle.std.proofs.Common.{◌≡◌, ◌∙◌, ap, sym, refl, ℕ, suc, ◌+◌, ◌≤◌, ◌<◌, ◌&&◌, nat_lt, Bool, true, false, IsTrue, List, [], ◌∷◌, ◌++◌, take, length, Option, Some, None, is_some, slice_get, Result, Ok, Err, ◌⊎◌, inl, inr, if◌then◌else◌, arith, subst}
 use Rattle.std.specs.List.{list_any, AllByRecursion}
 use Rattle.std.specs.Str.{bytes_eq}
@@ -39,7 +39,7 @@ PutsAreThere = (fields : List Field) (name : List ℕ) (path : Path) (v : Tree) 
 abbrev pub TakenMayChange : Type 0
 TakenMayChange = (fields : List Field) (name : List ℕ) (path : Path) (v there : Tree) → slot fields (name ∷ path) ≡ taken there → (after : List Field) × (put fields (name ∷ path) v ≡ Ok after)
 
--- ---- what an edit is, where nothing is refused
+-- ---- what an edit does if nothing is refused
 
 told-ok : (r : Result (List Field) PathFault) (d : List Field) → told r ≡ Ok d → r ≡ Ok d
 told-ok (Ok x) d e = let same : x ≡ d = cc in ap Ok same
@@ -56,7 +56,7 @@ IsPut q d after = (v : Tree) × (put d q v ≡ Ok after)
 value-put : (q : Path) (d after : List Field) (r : Result Tree UpdateFault) → (r >>= λ v. set_at q v d) ≡ Ok after → IsPut q d after
 value-put q d after r e = let found = bound-ok r (λ v. set_at q v d) after e in (found.0, told-ok (put d q found.0) after found.2)
 
--- by an edit that puts something where nothing is
+-- a value is put by an edit that puts something where there is nothing
 pub new-put : (q : Path) (o : Operation) → is_some (new_value o) ≡ true → (d after : List Field) → edit_at q o d ≡ Ok after → IsPut q d after
 new-put q (assign v) new d after e = (v, told-ok (put d q v) after e)
 new-put q take_away new d after e = absurd cc
@@ -77,7 +77,7 @@ pull-put q p d after (taken v) e = absurd cc
 pull-put q p d after free e = inl cc
 pull-put q p d after blocked e = inl cc
 
--- by any edit, where something changes
+-- a value is put by any edit that changes something
 edit-put : (q : Path) (o : Operation) → is_removal o ≡ false → (d after : List Field) → edit_at q o d ≡ Ok after → (d ≡ after) ⊎ IsPut q d after
 edit-put q (assign v) other d after e = inr (new-put q (assign v) refl d after e)
 edit-put q take_away other d after e = absurd cc
@@ -87,7 +87,7 @@ edit-put q (pull p) other d after e = pull-put q p d after (slot d q) e
 
 -- ---- what stays
 
--- what each value that is put leaves as it is, edits do
+-- what is left unchanged by each value that is put is left unchanged by edits
 module _ (Stays : Slot → Type 0) (a : Path) where
   edit-keeps-so : (q : Path) → ((v : Tree) (d after : List Field) → Stays (slot d a) → put d q v ≡ Ok after → Stays (slot after a))
       → (o : Operation) → is_removal o ≡ false → (d after : List Field) → edit_at q o d ≡ Ok after → Stays (slot d a) → Stays (slot after a)
@@ -114,7 +114,7 @@ module _ (slots : SlotsStay) where
   edits-keep : (a : Path) (n : ℕ) (es : List Edit) → AllByRecursion (λ e. begins e.0 a ≡ false) es → (d after : List Field) → edited (other_edits es) d ≡ Ok after → IsArray (slot d a) n → IsArray (slot after a) n
   edits-keep a n es apart d after e is = edits-keep-so (λ s. IsArray s n) a (λ q apart v d after. put-keeps-array slots v d a q n after apart) es apart d after e is
 
--- ---- the place that is filled is there
+-- ---- the place that is filled exists
 
 not-begun : (a : Path) (name : List ℕ) (names : Path) → begins (a ++ name ∷ names) a ≡ false
 not-begun [] name names = refl
@@ -128,7 +128,7 @@ slot-further : (a b : Path) (s : Slot) → slot_behind (a ++ b) s ≡ slot_behin
 slot-further [] b s = refl
 slot-further (name ∷ a) b s = slot-further a b (next_slot name s)
 
--- where something stands behind a place of an array, the array has the place
+-- if there is a value at a path through a place of an array, the array has the place
 has-place : (name : List ℕ) (names : Path) (place : ℕ) (s : Slot) (v : Tree) → index_of name ≡ Some place → slot_behind (name ∷ names) s ≡ taken v → IsArray s 0 → IsArray s (suc place)
 has-place name names place s v at there is = (is.0, is.1, by (slice_get vs place) refl here)
   where
@@ -161,7 +161,7 @@ module _ (slots : SlotsStay) (there : PutsAreThere) where
       let split : slot_behind (h.name ∷ h.names) (slot after a) ≡ taken new.0 = sym (slot-further a (h.name ∷ h.names) (taken (document (fields_of after)))) ∙ ap (slot after) (sym h.whole) ∙ whole in
       has-place h.name h.names (place_of f) (slot after a) new.0 h.at split stays
 
-  -- in a document each array stands that is filled, with so many elements at least
+  -- each array that is filled is in the document, with at least this many elements
   abbrev Stand : List Field → (Fill → ℕ) → List Fill → Type 0
   Stand d count fs = AllByRecursion (λ f. IsArray (slot d (array_of f)) (count f)) fs
 
@@ -175,7 +175,7 @@ module _ (slots : SlotsStay) (there : PutsAreThere) where
       let one : conflicts e x ≡ false = (or_parts (conflicts e x) (list_any (conflicts e) es) none).0 in
       (((or_parts (begins e.0 x.0) (begins x.0 e.0) one).0, (or_parts (begins e.0 x.0) (begins x.0 e.0) one).1), apart-each e es (or_parts (conflicts e x) (list_any (conflicts e) es) none).1)
 
-  -- what begins no path of a fill begins no way to its array
+  -- what doesn't begin the path of a fill doesn't begin the path to its array
   not-begins : (p q : Path) (n : ℕ) → begins p q ≡ false → begins p (take n q) ≡ false
   not-begins p q n none = by (begins p (take n q)) refl
     where
@@ -184,7 +184,7 @@ module _ (slots : SlotsStay) (there : PutsAreThere) where
       by false is = refl
 
   module _ (d0 : List Field) where
-    -- each fill of an edit keeps what all edits keep
+    -- an edit keeps the arrays that the other edits fill
     stand-on : (e : Edit) (es : List Edit) → Apart e es → is_removal e.1 ≡ false → (d after : List Field) → edit_at e.0 e.1 d ≡ Ok after → Stand d (λ f. 0) (fills d0 es) → Stand after (λ f. 0) (fills d0 es)
     stand-on e [] apart other d after made is = tt
     stand-on e (x ∷ es) apart other d after made is = by (fill_of d0 x) refl is (stand-on e es apart.1 other d after made)
@@ -245,7 +245,7 @@ module _ (slots : SlotsStay) (there : PutsAreThere) where
         by None is rest = rest
         by (Some f) is rest = ((has-array d0 e f (fills-so d0 e f is)).there, rest)
 
-    -- ---- fills stand in the order of their paths
+    -- ---- fills are in the order of their paths
 
     abbrev Ordered : List Fill → Type 0
     Ordered [] = Unit {0}
@@ -269,7 +269,7 @@ module _ (slots : SlotsStay) (there : PutsAreThere) where
 
     -- ---- counting
 
-    -- where the next one leads into another array all further ones do
+    -- if the next fill leads into another array, all further ones do
     no-more : (f : Fill) (fs : List Fill) → Ordered (f ∷ fs) → leads_into_same f fs ≡ false → AllByRecursion (λ g. begins (array_of f) (array_of g) ≡ false) fs
     no-more f [] order none = tt
     no-more f (g ∷ fs) order none = (not-begins (array_of f) g.0 _ none, later fs order.1.0 order.0.1)
@@ -285,7 +285,7 @@ module _ (slots : SlotsStay) (there : PutsAreThere) where
             by true is = sym (begins-between-both (array_of f) f.0 g.0 h.0 order.0.0 behind.0 begun is) ∙ none
             by false is = refl
 
-    -- an array whose place is filled makes a document so much longer than null in its stead
+    -- a document with an array whose place is filled is at least this much longer than with null instead of the array
     emptied : TakenMayChange → (t : List Field) (place : ℕ) (a : Path) → IsArray (slot t a) (suc place) → (after : List Field) × (put t a null ≡ Ok after) × (long after + least place ≤ long t)
     unfolding slot
     emptied law t place [] h = absurd (let e = h.1 in cc)

@@ -1,4 +1,4 @@
--- Documents that are alike down to a level.
+-- Documents that are the same down to a level.
 use Rattle.std.proofs.Common.{◌≡◌, ◌∙◌, ap, ap₂, sym, refl, List, [], ◌∷◌, ℕ, zero, suc, ◌+◌, ◌||◌, map, Bool, true, false, length, Option, Some, None, slice_get, nat_lt, nat_le, Result, Err, arith, if◌then◌else◌}
 use Rattle.std.specs.Option.{option_map}
 use Rattle.std.specs.Str.{bytes_eq}
@@ -24,7 +24,7 @@ pub below-sum : (names : Path) (m : ℕ) → below names m ≡ length names + m
 below-sum [] m = omega arith
 below-sum (name ∷ names) m = omega (arith, below-sum names m)
 
--- ---- fields and elements, each changed alike
+-- ---- fields and elements, all changed in the same way
 
 module _ (n : ℕ) where
   pub value-marked : (name : List ℕ) (fs : List Field) → value_under name (fields_down_to n fs) ≡ option_map (down_to n) (value_under name fs)

@@ -9,7 +9,7 @@ use Rattle.dv_update.proofs.AlikeDown.{length-item}
 use Rattle.dv_value.specs.Inner.Spelled.{length-array}
 use Rattle.dv_update.proofs.Putting.{items}
 
--- as many digits as a number has at least
+-- at least as many digits as the number has
 record Digits (n : ℕ) (digits : List ℕ) : Type 0 where
   one : 1 ≤ length digits
   two : 10 ≤ n → 2 ≤ length digits
@@ -41,7 +41,7 @@ digits = decimal_by_steps Digits one-digit more
         longer : length (ds ++ ((48 + n % 10) ∷ [])) ≡ length ds + 1
         longer = length-append ds ((48 + n % 10) ∷ [])
 
--- one more counts from a number on
+-- `suc i - t` is one more than `i - t` if `i` is at least `t`, and otherwise the same
 from-there : (t i : ℕ) → ((t ≤ i) × (suc i - t ≡ (i - t) + 1)) ⊎ ((i < t) × (suc i - t ≡ i - t))
 from-there zero i = inl (omega arith, omega arith)
 from-there (suc t) zero = inr (omega arith, omega arith)
@@ -68,7 +68,7 @@ one-more i k two three four five one = elim (from-there 10 i) [
   ])
 ]
 
--- so many elements from a place on
+-- this many elements from a place on
 elements-long : (n i : ℕ) (vs : List Tree) → n ≤ length vs → i + n ≤ 100001 → elements_least (i + n) ≤ items i vs + elements_least i
 elements-long zero i vs some few = let same : i + 0 ≡ i = omega arith in rw same (omega arith)
 elements-long (suc n) i [] some few = absurd (omega arith)

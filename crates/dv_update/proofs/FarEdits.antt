@@ -1,4 +1,4 @@
--- Edits whose paths have many components, of documents that are alike down to a level.
+-- Edits whose paths have many components, of documents that are the same down to a level.
 use Rattle.std.proofs.Common.{◌≡◌, ◌∙◌, ap, ap₂, sym, refl, List, [], ◌∷◌, ◌++◌, ℕ, ◌+◌, ◌-◌, Bool, true, false, length, drop, Option, Some, None, Result, Ok, Err, arith}
 use Rattle.std.specs.Str.{bytes_eq}
 use Rattle.std.proofs.Math.ListN.{replicate}
@@ -40,7 +40,7 @@ pub slot-joined : (d : List Field) (s r : Path) → slot d (s ++ r) ≡ slot_beh
 unfolding slot
 slot-joined d s r = behind-joined s r (taken (document (fields_of d)))
 
--- ---- what an operator does where nothing stands, or nothing can
+-- ---- what an operator does where there is no value, or there can be none
 
 pub new_at_free : (path : Path) (o : Operation) (d : List Field) (v : Tree) → slot d path ≡ free → new_value o ≡ Some v → edit_at path o d ≡ set_at path v d
 new_at_free path (assign w) d v here is = let same : w ≡ v = cc in ap (λ u. set_at path u d) same
@@ -56,11 +56,11 @@ none_at_free path (increase n) d here other is = absurd cc
 none_at_free path (append vs) d here other is = absurd cc
 none_at_free path (pull p) d here other is = ap (pull_from path p d) here
 
--- what dv_path's law says of what blocks the way
+-- what dv_path's law says of a blocked path
 abbrev pub Blocks : Type 0
 Blocks = (fields : List Field) (path : Path) (v : Tree) → slot fields path ≡ blocked → put fields path v ≡ Err NotViable
 
--- and of what was put
+-- what dv_path's law says of a value that was put
 abbrev pub IsThere : Type 0
 IsThere = (fields : List Field) (name : List ℕ) (path : Path) (v : Tree) (after : List Field) → put fields (name ∷ path) v ≡ Ok after → slot after (name ∷ path) ≡ taken v
 
@@ -79,7 +79,7 @@ none_at_blocked path (increase n) d here other is = absurd cc
 none_at_blocked path (append vs) d here other is = absurd cc
 none_at_blocked path (pull p) d here other is = ap (pull_from path p d) here
 
--- ---- what stands where a path of as many components as are made leads
+-- ---- the slot at the end of a path of 300 components
 
 was-free : (s : Slot) → slot_down_to 0 s ≡ free → s ≡ free
 was-free free e = refl
@@ -114,7 +114,7 @@ module _ (s : Path) (far : length s ≡ 300) (d e : List Field) (alike : Alike d
       at [] far = absurd (omega arith)
       at (name ∷ names) far = sets-alike 0 name names (omega (arith, below-sum names 0)) d e alike t u same
 
--- so many bytes in one piece
+-- a piece of this many bytes
 abbrev pub piece : ℕ → Tree
 piece size = binary 0 (replicate (size - 5) 0)
 
@@ -131,7 +131,8 @@ as-piece w size filled = filled
 
 -- ---- the two steps
 
--- what is made of the one document where something is made of the other that stands in for it, and what stands there
+-- an edit's result for a document, if `e` is its result for what stands in for the document; and the value at the end of the
+-- beginning
 pub record IsFar (made : Result (List Field) UpdateFault) (s r : Path) (size : ℕ) (e : List Field) : Type 0 where
   pub after : List Field
   pub is : made ≡ Ok after
@@ -196,7 +197,7 @@ module _ (there : IsThere) (s q : Path) (far : length s ≡ 300) (start : begins
     pub first_stands : (f : List Field) → set_at s w e ≡ Ok f → IsFar (edit_at q o d) s (drop (length s) q) size f
     first_stands f is = far_made None first.made (free-there s far d e alike none) (free-stays (drop (length s) q)) first.put first.way some (omega (arith, first.size, long)) f is
 
-  -- one behind another path with this beginning
+  -- a path after another one with this beginning
   module _ (before rest : Path) (before-size : ℕ) (last : IsLast d s before before-size) (parts : parting before (drop (length s) q) ≡ Some rest) (long : size + 5 ≡ before-size + names_length rest + length (payload v)) where
     next : IsAdded (drop (length s) q) v last.there.0 rest
     next = added v before (drop (length s) q) last.there.0 rest last.there.2 parts

@@ -49,9 +49,9 @@ module _ (names : Path) (name : List ℕ) (vs : List Tree) (place : ℕ) (index 
   pub too-far : slice_get vs place ≡ None → 100000 < place → None ≡ found
   too-far none far = let le : nat_le place 100000 ≡ false = grind (arith, nat_tests, far) in rw (← index, none, le) refl
 
--- ---- where a fill stands
+-- ---- the place of a fill
 
--- a path leads on from an array, beyond whose end it leads
+-- a path leads to an array and beyond its end
 pub record LeadsBeyond (path rest : Path) (s : Slot) : Type 0 where
   pub way : Path
   pub name : List ℕ
@@ -123,7 +123,7 @@ some-fill d e is = by (fill_of d e) refl is
     by None found h = absurd cc
     by (Some f) found h = (f, fills-so d e f found)
 
--- one that isn't made
+-- an edit that is left out
 pub left-out : (with_id : Bool) (d : List Field) (e : Edit) → left_out with_id d e ≡ true → (f : Fill) × Fills d e f × (with_id ≡ false → leads_into_id e.0 ≡ false)
 left-out with_id d e is =
     let found = some-fill d e (and_parts _ _ is).0 in
@@ -133,7 +133,7 @@ left-out with_id d e is =
     not-true true h = cc
     not-true false h = refl
 
--- the array to which it leads
+-- the array to which the fill leads
 pub record HasArray (d : List Field) (e : Edit) (f : Fill) : Type 0 where
   pub name : List ℕ
   pub names : Path

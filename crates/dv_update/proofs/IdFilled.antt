@@ -30,7 +30,7 @@ use Rattle.dv_update.proofs.RemovalsLast.{SlotsStay}
 abbrev Any : Tree → Type 0
 Any v = ⊤
 
--- where a path into `_id` leads, nothing stood, and something does
+-- at the end of a path into `_id` there was no value, and now there is one
 record IsFilled (old after : List Field) : Type 0 where
   path : Path
   begins : is_some (leading_id old) ≡ true
@@ -50,7 +50,7 @@ module _ (slots : SlotsStay) (there : PutsAreThere) (old : List Field) where
     apart-from e es (or_parts (conflicts e x) (list_any (conflicts e) es) none).1,
   )
 
-  -- what the edit puts stands in the end
+  -- what the edit puts is there in the end
   one-fills : (d after : List Field) (e : Edit) (es : List Edit) → list_any (conflicts e) es ≡ false → (f : Fill) → Fills old e f → is_some (leading_id old) ≡ true → leads_into_id e.0 ≡ true → edited (other_edits (e ∷ es)) d ≡ Ok after → IsFilled old after
   one-fills d after e es none f fills begun leads made =
       let other : is_removal e.1 ≡ false = not-removal e.1 fills.new in

@@ -1,4 +1,4 @@
--- What is put where a path of many components leads: documents of which each stands in one other one.
+-- What is put at the end of a path of many components: documents nested one in another.
 use Rattle.std.proofs.Common.{◌≡◌, ◌∙◌, ap, sym, refl, List, [], ◌∷◌, ◌++◌, ℕ, ◌+◌, ◌||◌, Bool, true, false, length, Option, Some, None, slice_get, nat_lt, nat_le, Ok, Err, arith, if◌then◌else◌}
 use Rattle.std.specs.Cmp.{tied_itself}
 use Rattle.std.specs.List.{AllByRecursion}
@@ -80,7 +80,7 @@ nothing-length : length (payload (document (fields_of []))) ≡ 5
 unfolding payload framed
 nothing-length = refl
 
--- ---- where nothing stands
+-- ---- where there is no value
 
 pub record IsMade (names : Path) (v : Tree) : Type 0 where
   pub made : Tree
@@ -107,7 +107,7 @@ first_made (name ∷ names) v =
       size = omega (arith, document-length-last [] (name, inner.made), nothing-length, inner.size);
     }
 
--- ---- behind another path
+-- ---- after another path
 
 pub record IsAdded (q : Path) (v t : Tree) (rest : Path) : Type 0 where
   pub made : Tree
@@ -167,7 +167,7 @@ module _ (v : Tree) where
           rw way.2 (rw (← same) (inside a q way.0 way.1 rest way.3 (further is)))
       by Greater o is further = absurd cc
 
--- ---- put behind a beginning
+-- ---- put along a path that continues a beginning
 
 module _ (r : Path) (v t : Tree) (d : Option Tree) (made : put_behind r v d ≡ Ok t) where
   same-there : (c : Option Tree) → slot_of c ≡ slot_of d → c ≡ d

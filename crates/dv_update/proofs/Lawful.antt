@@ -41,7 +41,7 @@ greater Less h = cc
 greater Equal h = cc
 greater Greater h = refl
 
--- what stands behind a path stands behind those before it
+-- what comes after a path comes after those before it
 behind-both : (d e x : Path) → path_order d e ≡ Less → is_gt (path_order d x) ≡ true → is_gt (path_order e x) ≡ true
 behind-both d e x l h =
     let less : path_order x d ≡ Less = back x d ∙ ap ordering_reverse (greater (path_order d x) h) in
@@ -103,7 +103,7 @@ traded before after d e none =
 pub set_again : (path : Path) (v : Tree) (d : List Field) → slot d path ≡ taken v → set_at path v d ≡ Ok d
 set_again path v d here = ap told (put-again d path v here)
 
--- ---- what comes out
+-- ---- the result
 
 pub record IsChecked (old new : List Field) : Type 0 where
   pub id : both_same (leading_id old) (leading_id new) ≡ true
@@ -137,7 +137,7 @@ fitting update d after e =
     let depth : levels (document (fields_of after)) ≤ 100 = grind (arith, nat_tests, is.depth) in
     record { size = size; depth = depth }
 
--- what is said of a result by whether it keeps its `_id`, is too large and is too deep
+-- the verdict on a result, by whether it keeps its `_id`, is too large and is too deep
 abbrev verdict : Bool → Bool → Bool → List Field → Result (List Field) UpdateFault
 verdict same large deep new = if not same then Err IdChanged else if large then Err TooLarge else if deep then Err TooDeep else Ok new
 

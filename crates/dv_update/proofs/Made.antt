@@ -1,4 +1,4 @@
--- What edits leave as it is, and elements that are taken out.
+-- What edits leave unchanged, and elements that are removed.
 use Rattle.std.proofs.Common.{◌≡◌, ◌∙◌, ap, sym, refl, List, [], ◌∷◌, ◌++◌, ℕ, zero, suc, ◌<◌, ◌≤◌, length, map, drop, get_or, Bool, true, false, ◌||◌, Ok, arith, drop_of_length-le, append-nil}
 use Rattle.std.specs.List.{list_any}
 use Rattle.dv_value.specs.Tree.{Tree, Field, elements_of, array}
@@ -11,7 +11,7 @@ use Rattle.dv_update.specs.Update.{Pulled}
 use Rattle.dv_update.proofs.PutThere.{put-again}
 use Rattle.dv_order.specs.Inner.SameLaws.{same-is}
 
--- to set what stands there changes nothing
+-- to set what is there changes nothing
 pub set_there : (d : List Field) (path : Path) (w v : Tree) → taken w ≡ slot d path → true ≡ is_same w v → set_at path v d ≡ Ok d
 set_there d path w v here same =
     let is : w ≡ v = same-is w v (sym same) in
@@ -41,7 +41,7 @@ none-kept p (v ∷ vs) e = by (is_pulled p v) refl e (none-kept p vs)
     by true h f rest = cc
     by false h f rest = grind (arith, h, rest f)
 
--- to take no element out changes nothing
+-- to remove no element changes nothing
 pub pull_none : (d : List Field) (path : Path) (p : Pulled) (vs : List Tree) → taken (array (elements_of vs)) ≡ slot d path → false ≡ list_any (is_pulled p) vs → set_at path (array (elements_of (left p vs))) d ≡ Ok d
 pull_none d path p vs here none =
     let same : left p vs ≡ vs = none-kept p vs (sym none) in

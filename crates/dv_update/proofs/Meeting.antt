@@ -1,4 +1,4 @@
--- What edits meet where their paths lead: the same beside what other paths put, and nothing where they fill an array.
+-- What edits meet at their paths: the same whatever other paths put, and nothing if they fill an array.
 use Rattle.std.proofs.Common.{◌≡◌, ◌∙◌, ap, ap₂, sym, refl, ℕ, zero, suc, ◌≤◌, ◌<◌, ◌&&◌, ◌||◌, nat_lt, nat_le, Bool, true, false, List, [], ◌∷◌, length, Option, Some, None, is_none, slice_get, Result, Ok, Err, ◌⊎◌, inl, inr, if◌then◌else◌, arith}
 use Rattle.std.specs.Cmp.{tied_itself}
 use Rattle.std.specs.Cmp.Lexicographic.{slice_cmp}
@@ -31,7 +31,7 @@ use Rattle.dv_update.proofs.RemovalsLast.{SlotsStay}
 use Rattle.dv_update.proofs.Stepwise.{Before}
 use Rattle.dv_update.specs.Inner.PathOrderLaws.{component_order_total}
 
--- ---- what an edit meets: what stands where its path leads, and why nothing can be put there
+-- ---- what an edit meets: the slot at its path, and why nothing can be put there
 
 abbrev pub Met : Type 0
 Met = Slot × Option PathFault
@@ -83,16 +83,16 @@ met-elements b q w vs = pair refl (refused-further (λ xs. array (elements_of xs
     by None = refl
     by (Some j) = pair refl (test j (may-stand j ws))
 
--- where a value may stand it is met
+-- if a value may be put there, the element is met
 met-there : (q : Path) (w : Tree) (j : ℕ) (vs : List Tree) → may-stand j vs ≡ true → met-place q w j vs ≡ met q w (slice_get vs j)
 met-there q w j vs may = pair refl (ap (λ b. if b then result_err (put_behind q w (slice_get vs j)) else Some IndexTooLarge) may)
 
 met-same : (q : Path) (w : Tree) (j : ℕ) (us vs : List Tree) → slice_get us j ≡ slice_get vs j → may-stand j us ≡ may-stand j vs → met-place q w j us ≡ met-place q w j vs
 met-same q w j us vs there may = pair (ap (λ c. slot_behind q (slot_of c)) there) (ap₂ (λ b c. if b then result_err (put_behind q w c) else Some IndexTooLarge) may there)
 
--- ---- what is put where one path leads is no matter to one that stands behind it
+-- ---- what is put at one path doesn't affect a path that comes after it
 
--- two paths of which one stands before the other one, with a component more
+-- two paths, each with one more component, of which the first comes before the second
 abbrev Parts : List ℕ → Path → List ℕ → Path → Type 0
 Parts a p b q = ((component_order a b ≡ Less) × (a ≡ b → ⊥)) ⊎ ((a ≡ b) × Before p q)
 
@@ -121,7 +121,7 @@ longer zero x (v ∷ vs) = inl (omega arith, refl)
 longer (suc i) x [] = elim (longer i x []) [ inl h ↦ absurd (omega (arith, h.0)) | inr h ↦ inr (omega arith, ap suc h.1) ]
 longer (suc i) x (v ∷ vs) = elim (longer i x vs) [ inl h ↦ inl (omega (arith, h.0), ap suc h.1) | inr h ↦ inr (omega (arith, h.0), ap suc h.1) ]
 
--- what may stand in an array at a later place
+-- a value that is put doesn't change whether one may be put at a later place of an array
 may-stay : (i j : ℕ) (x : Tree) (vs : List Tree) → i < j → may-stand i vs ≡ true → may-stand j (with_element i x vs) ≡ may-stand j vs
 may-stay i j x vs less may = elim (longer i x vs) [
   | inl h ↦ ap (λ n. nat_lt j n || nat_le j 100000) h.1
@@ -223,7 +223,7 @@ module _ (slots : SlotsStay) where
         ∙ field-kept a p b q (kept p q) (parts a p b q h) w d inner.0 inner.1
         ∙ sym (met-document b q w d)
 
--- ---- where an array is filled, nothing stands and something may
+-- ---- where an array is filled, there is no value, and one may be put
 
 met-nothing : (q : Path) (w : Tree) → met q w None ≡ (free, None)
 met-nothing [] w = refl

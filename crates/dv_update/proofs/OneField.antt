@@ -22,7 +22,7 @@ use Rattle.dv_update.specs.declared.fault.UpdateFault.TheVariants.{IdChanged, To
 use Rattle.dv_update.specs.declared.outcome.Outcome.{Outcome}
 use Rattle.dv_update.proofs.Behind.{length-behind, levels-behind, other-behind}
 
--- what dv_value's law says of spellings
+-- what dv_value's law says of encodings
 abbrev pub FieldAdds : Type 0
 FieldAdds = (f : Field) (fields : List Field) → length (spelling (f ∷ fields)) ≡ length (payload f.1) + length f.0 + 2 + length (spelling fields)
 
@@ -33,7 +33,7 @@ and-between false = refl
 itself : (s : List ℕ) → bytes_eq s s ≡ true
 itself s = (bytes_eq-Decides s s).1 refl
 
--- ---- fields that begin with the same `_id`, are longer by no more than so much, and not too deep
+-- ---- fields that begin with the same `_id`, are longer by no more than this much, and not too deep
 
 record Grown (d e : List Field) (more : ℕ) : Type 0 where
   id : leading_id e ≡ leading_id d
@@ -122,7 +122,7 @@ module _ (name : List ℕ) where
             omega (arith, adds (f.0, v) fs, adds f fs, longer, ap (λ x. length (payload x)) same)
         by false e rest = omega (arith, adds f (with_field name (Some v) fs), adds f fs, rest e)
 
-    -- ---- whether they stay
+    -- ---- whether the fields stay the same
 
     stays-as : (d : List Field) → same_fields (fields_of d) (fields_of (with_field name (Some v) d)) ≡ both_same (value_under name d) (Some v)
     stays-as [] = refl
@@ -147,7 +147,7 @@ module _ (name : List ℕ) where
   unfolding slot
   slot-one d = ap (λ fs. slot_of (value_under name fs)) (fields_again d)
 
-  -- ---- as code meets it
+  -- ---- in the form that the code needs
 
   module _ (other : bytes_eq name (codes "_id") ≡ false) (adds : FieldAdds) (d : List Field) (v : Tree) where
     set-so : HasRoom d (2 + length name) 1 v → applied_under name (assign v) d ≡ Ok (with_field name (Some v) d)

@@ -31,7 +31,7 @@ component-exact a b e =
     let bytes = slice_cmp nat_cmp a b in
     exact_bytes a b (second-equal numbers bytes (second-equal (bool_cmp (is_name a) (is_name b)) (ordering_then numbers bytes) e))
 
--- paths that stand beside each other are one
+-- paths that are equal in the order are the same
 pub path-exact : (p q : Path) → path_order p q ≡ Equal → p ≡ q
 path-exact [] [] e = refl
 path-exact [] (b ∷ q) e = cc
@@ -49,7 +49,7 @@ same-component a b p q e = (bytes_eq-Decides a b).0 (and_parts (bytes_eq a b) (b
 not-less : (o : Ordering) → o ≡ Equal → (p : Ordering) → ordering_then o p ≡ p
 not-less o e p = ap (λ r. ordering_then r p) e
 
--- what begins a path doesn't stand behind it
+-- what begins a path doesn't come after it
 pub begins-first : (p q : Path) → begins p q ≡ true → path_order q p ≡ Less → ⊥
 begins-first [] [] e l = cc
 begins-first [] (b ∷ q) e l = cc
@@ -63,7 +63,7 @@ both-less Less s t e f = cc
 both-less Equal s t e f = (refl, e, f)
 both-less Greater s t e f = cc
 
--- what begins two paths begins each one that stands between
+-- what begins two paths begins each path between them
 pub begins-between-both : (e p q r : Path) → path_order p q ≡ Less → path_order q r ≡ Less → begins e p ≡ true → begins e r ≡ true → begins e q ≡ true
 begins-between-both [] p q r l m h g = refl
 begins-between-both (e ∷ es) [] q r l m h g = cc
@@ -76,7 +76,7 @@ begins-between-both (e ∷ es) (a ∷ p) (b ∷ q) (c ∷ r) l m h g =
     let split = both-less (component_order a b) (path_order p q) (path_order q r) l (ap (λ o. ordering_then o (path_order q r)) (sym back) ∙ m) in
     ap₂ (λ x y. x && y) ((bytes_eq-Decides e b).1 (here ∙ component-exact a b split.0)) (begins-between-both es p q r split.1 split.2 (and_parts (bytes_eq e a) (begins es p) h).1 (and_parts (bytes_eq e c) (begins es r) g).1)
 
--- what begins a path begins each one that stands between
+-- what begins a path begins each path between the two
 pub begins-between : (p q r : Path) → path_order p q ≡ Less → path_order q r ≡ Less → begins p r ≡ true → begins p q ≡ true
 begins-between p q r l m e = begins-between-both p p q r l m (begins-itself p) e
 

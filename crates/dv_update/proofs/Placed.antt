@@ -193,7 +193,7 @@ is-false false f = refl
 pub clash : (b : Bool) → b ≡ false → b ≡ true → ⊥
 clash b h g = cc
 
--- the one that follows is behind each of the others
+-- an edit that comes before all edits of a list comes before each of them
 below-later : (e x : Edit) (es rest : List Edit) → AllByRecursion (λ d. path_order e.0 d.0 ≡ Less) (es ++ x ∷ rest) → path_order e.0 x.0 ≡ Less
 below-later e x [] rest h = h.0
 below-later e x (d ∷ es) rest h = below-later e x es rest h.1
@@ -222,7 +222,7 @@ conflict-here [] x rest h = cc
 conflict-here (e ∷ []) x rest h = or-first _ _ (or-first _ _ (or-first _ _ h))
 conflict-here (e ∷ d ∷ es) x rest h = or-second _ _ (conflict-here (d ∷ es) x rest h)
 
--- those that are taken out, and what is left
+-- the edits that were taken out, and those that are left
 pub record IsTaken (all done left : List Edit) : Type 0 where
   pub whole : all ≡ done ++ left
   pub apart : has_conflict done ≡ false

@@ -1,4 +1,4 @@
--- To put what stands there changes nothing.
+-- To put what is there changes nothing.
 use Rattle.std.proofs.Common.{◌≡◌, ◌∙◌, ap, sym, refl, List, [], ◌∷◌, ℕ, zero, suc, ◌||◌, Bool, true, length, Option, Some, None, slice_get, nat_lt, nat_le, arith, Result, Ok, Err, if◌then◌else◌}
 use Rattle.std.proofs.lemmas.Bool.Decides.{nat_tests}
 use Rattle.std.proofs.lemmas.Option.{slice_get_within}
@@ -38,7 +38,7 @@ module _ (put : Option Tree → Result Tree PathFault) where
 
 -- ---- along a path
 
--- what a path gives from a value on, for each value there
+-- in any value, to put again what is at the end of the path changes nothing
 abbrev Again : List (List ℕ) → Tree → Type 0
 Again names v = (t : Tree) → slot_behind names (taken t) ≡ taken v → put_behind names v (Some t) ≡ Ok t
 

@@ -1,4 +1,4 @@
--- What is put where a path leads: how long what stands there then is, and that what stands elsewhere stays.
+-- What is put at a path: the length of the value there afterwards, and that values elsewhere stay.
 use Rattle.std.proofs.Common.{◌≡◌, ◌∙◌, ap, sym, refl, subst, ℕ, zero, suc, ◌+◌, ◌≤◌, ◌||◌, ◌&&◌, inl, inr, nat_lt, nat_le, Bool, true, false, List, [], ◌∷◌, ◌++◌, length, Option, Some, None, slice_get, Ok, Err, if◌then◌else◌, arith}
 use Rattle.std.specs.Str.{bytes_eq}
 use Rattle.std.specs.Option.{unwrap_or}
@@ -73,7 +73,7 @@ no-shorter place u [] = omega arith
 no-shorter zero u (v ∷ vs) = omega arith
 no-shorter (suc place) u (v ∷ vs) = omega (arith, no-shorter place u vs)
 
--- ---- two components that pick one place in arrays are one
+-- ---- two components that lead to the same place in arrays are equal
 
 abbrev one : List Tree → List Field
 one vs = ([], array (elements_of vs)) ∷ []
@@ -123,18 +123,18 @@ element-made q v (Some j) vs us e = by (may-stand j vs) refl e
     by true is f = let found = made-by (λ x. with_element j x vs) (put_behind q v (slice_get vs j)) us f in (j, found.0, refl, found.1, found.2, is)
     by false is f = absurd cc
 
--- ---- what stands stays, where a value is put that doesn't replace it
+-- ---- a value stays if another one is put that doesn't replace it
 
--- a value stands of which something holds
+-- there is a value, and `Holds` is true of it
 abbrev pub Stands : (Tree → Type 0) → Slot → Type 0
 Stands Holds s = (v : Tree) × (s ≡ taken v) × Holds v
 
--- it holds still where a value is put further inside
+-- `Holds` is still true after a value is put further inside
 abbrev Keeps : Tree → (Tree → Type 0) → Type 0
 Keeps w Holds = (b : List ℕ) (q : Path) (t u : Tree) → Holds t → put_behind (b ∷ q) w (Some t) ≡ Ok u → Holds u
 
 module _ (slots : SlotsStay) (w : Tree) (Holds : Tree → Type 0) (keeps : Keeps w Holds) where
-  -- of each value that is put along a path
+  -- the value at the end of path a still has the property after a value is put at the end of path q
   abbrev Stays : Path → Path → Type 0
   Stays a q = (c : Option Tree) (u : Tree) → begins q a ≡ false → Stands Holds (slot_behind a (slot_of c)) → put_behind q w c ≡ Ok u → Stands Holds (slot_behind a (taken u))
 
@@ -203,7 +203,7 @@ module _ (slots : SlotsStay) (w : Tree) (Holds : Tree → Type 0) (keeps : Keeps
       let inner = made-by (λ x. with_field b (Some x) d) (put_behind q w (value_under b d)) after put in
       rw (← inner.2, fields_again (with_field b (Some inner.0) d)) (field-stays e b a q (value-stays a q) d inner.0 apart (rw (← fields_again d) is) inner.1)
 
--- an array of so many elements at least
+-- an array of at least this many elements
 abbrev pub IsArray : Slot → ℕ → Type 0
 IsArray s n = (vs : Elements) × (s ≡ taken (array vs)) × (n ≤ length (list_of_elements vs))
 

@@ -1,4 +1,4 @@
--- Removals behind all other edits.
+-- Removals after all other edits.
 use Rattle.std.proofs.Common.{◌≡◌, ◌∙◌, ap, sym, refl, List, [], ◌∷◌, ℕ, Bool, true, false, ◌&&◌, ◌⊎◌, inl, inr, Result, Ok, Err, if◌then◌else◌}
 use Rattle.std.specs.List.{list_any}
 use Rattle.std.specs.Str.{bytes_eq}
@@ -18,7 +18,7 @@ use Rattle.dv_update.specs.PathOrder.{begins}
 use Rattle.dv_update.specs.Removals.{is_removal, removals, other_edits}
 use Rattle.dv_update.specs.Update.{Operation, assign, take_away, increase, append, pull, Pulled, Edit}
 
--- ---- paths of edits without a conflict part
+-- ---- the paths of edits without a conflict are apart
 
 pub part : (p q : Path) → begins p q ≡ false → begins q p ≡ false → AreApart p q
 part [] q h g = cc
@@ -64,7 +64,7 @@ removal-is (increase n) h = cc
 removal-is (append vs) h = cc
 removal-is (pull p) h = cc
 
--- each of these paths parts from the other one
+-- each of these paths is apart from the other one
 abbrev pub AllPart : List Path → Path → Type 0
 AllPart [] q = Unit {0}
 AllPart (p ∷ ps) q = AreApart p q × AllPart ps q

@@ -1,4 +1,4 @@
--- The fields of a replacement behind its `_id`.
+-- The fields of a replacement after its `_id`.
 use Rattle.std.proofs.Common.{◌≡◌, ◌∙◌, ap, sym, refl, List, [], ◌∷◌, ◌++◌, ℕ, Bool, true, false, ◌||◌, not, Option, Some, None, append-nil, codes, subst, if◌then◌else◌}
 use Rattle.std.specs.Str.{bytes_eq}
 use Rattle.std.proofs.lemmas.Bool.{or_from, or_parts}

@@ -1,4 +1,4 @@
--- Two lists gone through side by side from the front, where what is left of both decides.
+-- Two lists read side by side from the front, where what is left of both decides.
 use Rattle.std.specs.Prelude.{◌≡◌, ℕ, nat_le, List, ◌∷◌, length, true, false, ◌⊎◌}
 use Rattle.std.proofs.Common.{sym, ◌∙◌, arith}
 use Rattle.std.specs.declared.cmp.Ordering.{Ordering}

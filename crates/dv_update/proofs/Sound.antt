@@ -1,4 +1,4 @@
--- Updates that valid documents are, and what they make of valid documents.
+-- Updates that are parsed from valid documents, and their results for valid documents.
 use Rattle.std.proofs.Common.{◌≡◌, refl, subst, ℕ, ℤ, ◌+ℤ◌, ◌==◌, ◌&&◌, not, nat_lt, Bool, true, false, List, [], ◌∷◌, ◌++◌, length, Option, Some, None, Result, Ok, Err, codes, if◌then◌else◌}
 use Rattle.std.specs.Bool.{⊤}
 use Rattle.std.specs.Int.{w32, w64}
@@ -171,7 +171,7 @@ update_of-sound fs valid =
     either (λ r. IfOk r IsSound) (lists_operators (fields_of fs)) (edits_in fs >>= in_order) (replacement_of fs) (bound AreSoundEdits IsSound in_order in_order-sound (edits_in fs) (edits_in-sound fs valid))
     (unless IsSound (has_bad_name fs) BadName (Ok (replacement fs)) valid)
 
--- ---- what edits make
+-- ---- the results of edits
 
 told-valid : (r : Result (List Field) PathFault) → IfOk r AreValid → IfOk (told r) AreValid
 told-valid (Ok d) valid = valid
@@ -224,7 +224,7 @@ edited-valid : (es : List Edit) (d : List Field) → AreSoundEdits es → AreVal
 edited-valid [] d are valid = valid
 edited-valid (e ∷ es) d are valid = bound AreValid AreValid (edited es) (λ after holds. edited-valid es after are.1 holds) (edit_at e.0 e.1 d) (edit_at-valid e.0 e.1 d are.0.0 are.0.1 valid)
 
--- ---- what an update makes
+-- ---- the result of an update
 
 chosen-valid : (new old : Option Tree) → IfSome new IsValue → IfSome old IsValue → IfSome (chosen new old) IsValue
 chosen-valid None old first second = second

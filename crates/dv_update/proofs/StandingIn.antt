@@ -1,4 +1,4 @@
--- What edits make of what stands in for a document.
+-- The results of edits for what stands in for a document.
 use Rattle.std.proofs.Common.{◌≡◌, ◌≢◌, ◌∙◌, ap, sym, refl, List, [], ℕ, ◌+◌, ◌-◌, ◌<◌, ◌≤◌, true, false, length, length-drop, drop, Option, Some, None, Result, Ok, Err, ◌⊎◌, inl, inr, arith, is_some}
 use Rattle.dv_value.specs.Spelling.{payload, levels}
 use Rattle.dv_value.specs.Tree.{Tree, document, null, Field, fields_of}
@@ -84,7 +84,7 @@ module _ (there : IsThere) (s q : Path) (o : Operation) (v : Tree) (begin : (len
         let far : IsFar (edit_at q o d) s (drop (length s) q) size f = next_stands there s q begin.0 begin.1 o v new d e alike size w filled before rest before-size last-is parts-so sum f is in
         far_stands (edit_at q o d) f last (rw (same-s, same-r, same-size, ← rest-so) far)
 
--- ---- where nothing comes
+-- ---- where nothing is put
 
 module _ (s q : Path) (o : Operation) (begin : (length s ≡ 300) × (begins s q ≡ true)) (d e : List Field) (alike : Alike d e) where
   slot-whole : slot d q ≡ slot_behind (drop (length s) q) (slot d s)

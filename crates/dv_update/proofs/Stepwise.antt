@@ -24,7 +24,7 @@ rises (e ∷ d ∷ es) s =
     let up = rises (d ∷ es) s.2 in
     ((s.0, all-through e d s.0 es up.0), up)
 
--- a path stands before another one, and doesn't begin it
+-- a path comes before another one, and doesn't begin it
 abbrev pub Before : List (List ℕ) → List (List ℕ) → Type 0
 Before p q = (path_order p q ≡ Less) × (begins p q ≡ false)
 

@@ -9,7 +9,7 @@ use Rattle.std.specs.Str.{IsUtf8}
 abbrev parts : List ℕ → List (List ℕ)
 parts text = slice_split (λ b. b == 46) text
 
--- parts that are texts, the first with this in front of it
+-- parts that are texts, the first one with `front` before it
 abbrev AreTexts : List ℕ → List (List ℕ) → Type 0
 AreTexts front [] = ⊥
 AreTexts front (part ∷ parts) = IsUtf8 (front ++ part) × AllByRecursion IsUtf8 parts
@@ -22,7 +22,7 @@ texts_onto : (front : List ℕ) (b : ℕ) (parts : List (List ℕ)) → AreTexts
 texts_onto front b [] texts = absurd texts
 texts_onto front b (part ∷ parts) texts = (subst IsUtf8 (append_assoc front (b ∷ []) part) texts.0, texts.1)
 
--- on either side of an ASCII byte stands a text
+-- on either side of an ASCII byte is a text
 module _ (front rest : List ℕ) (b : ℕ) (ascii : b < 128) (text : IsUtf8 (front ++ b ∷ rest)) where
   within : length front < length (front ++ b ∷ rest)
   within = omega (arith, length-append front (b ∷ rest))

@@ -1,4 +1,4 @@
--- What is made without filling arrays is refused as all that edits make, and keeps the same `_id`.
+-- The result without filling arrays is refused as the result of all edits is, and keeps the same `_id`.
 use Rattle.std.proofs.Common.{◌≡◌, ◌∙◌, ap, sym, refl, Bool, true, false, List, [], ◌∷◌, ◌++◌, Some, None, is_some, Result, Ok, Err, ◌⊎◌, inl, inr, if◌then◌else◌, codes, subst}
 use Rattle.std.specs.List.{AllByRecursion}
 use Rattle.std.specs.Result.{result_err}
@@ -26,7 +26,7 @@ use Rattle.dv_update.proofs.Stepwise.{Before, AllBefore, all-before}
 
 -- ---- one edit of two documents in which it meets the same
 
--- both are refused alike, or neither is
+-- both are refused with the same fault, or neither is refused
 abbrev Goes : (List Field → List Field → Type 0) → Made → Made → Type 0
 Goes P (Ok x) (Ok y) = P x y
 Goes P (Ok x) (Err g) = ⊥
@@ -70,7 +70,7 @@ module _ (q : Path) (s d : List Field) (same : MeetsSame s d q) where
   edit-goes (append vs) other = subst (λ there. Goes (Step q s d) (appended vs (slot s q) >>= λ v. set_at q v s) (appended vs there >>= λ v. set_at q v d)) slots-same (value-goes (appended vs (slot s q)))
   edit-goes (pull p) other = subst (λ there. Goes (Step q s d) (pull_from q p s (slot s q)) (pull_from q p d there)) slots-same (pull-goes p (slot s q))
 
--- ---- the first fields have one name, and one value where it is `_id`, unless edits that fill it are left out
+-- ---- the first fields have the same name, and the same value if it is `_id`, unless edits that fill it are left out
 
 module _ (with_id : Bool) where
   abbrev Front : List Field → List Field → Type 0
@@ -114,7 +114,7 @@ module _ (with_id : Bool) where
       by true false is t u e i = absurd cc
       by false true is t u e i = absurd cc
 
-  -- a fill leaves them
+  -- a fill keeps this true
   front-filled : (q rest : Path) (v : Tree) (s x : List Field) → (with_id ≡ false → leads_into_id q ≡ false) → beyond q (Some (document (fields_of s))) ≡ Some rest → put s q v ≡ Ok x → Front s x
   unfolding put
   front-filled [] rest v s x other leads e = absurd cc

@@ -45,7 +45,7 @@ pub valid-fields : (fs : List Field) → AreValid fs → AreFields (fields_of fs
 valid-fields [] valid = tt
 valid-fields (f ∷ fs) valid = (valid.0.text, valid.0.whole, subst (λ (gs : List Field). has_name f.0 gs ≡ false) (sym (fields_again fs)) valid.1, valid.2, valid-fields fs valid.3)
 
--- ---- what stands there
+-- ---- what is there
 
 pub value_under-valid : (name : List ℕ) (fs : List Field) → AreValid fs → IfSome (value_under name fs) IsValue
 value_under-valid name [] valid = tt

@@ -1,4 +1,4 @@
-//! What an update makes of a document.
+//! The result of an update for a document.
 
 ghost use Rattle.std.specs.Prelude.{◌≡◌, [], nat_lt, ◌⊎◌, Err, length, codes, IfErr, IfOk};
 ghost use Rattle.std.specs.Option.{option_map};
@@ -25,16 +25,16 @@ use std::alloc::Global;
 pub(crate) const ID: &str = "_id";
 
 impl Update {
-    /// What the update makes of the document, which stays as it is.
+    /// The result of the update for the document, which is unchanged.
     ///
     /// Edits are made one after the other, and the first refusal is returned: `NotViable` if no value can be put at the path,
-    /// `NotNumber` and `Overflow` of `$inc`, `NotArray` of `$push` and `$pull`. A replacement has its own `_id`, or else the
-    /// document's, at its front. Then `IdChanged` if the result doesn't begin with the `_id` with which the document begins, in the
-    /// same encoding, `TooLarge` above 16,777,216 bytes, and `TooDeep` above 100 levels. Fails with `NoMemory` when memory runs
-    /// out.
+    /// `NotNumber` and `Overflow` of `$inc`, `NotArray` of `$push` and `$pull`. The result of a replacement begins with the
+    /// replacement's `_id`, or else with the document's. Then `IdChanged` is returned if the result doesn't begin with the `_id`
+    /// with which the document begins, in the same encoding, `TooLarge` above 16,777,216 bytes, and `TooDeep` above 100 levels.
+    /// Fails with `NoMemory` when memory runs out.
     ///
-    /// What isn't changed is shared with the document; fields of which one is changed are copied once. A `$set`, `$unset` or
-    /// `$pull` that changes nothing copies none.
+    /// What isn't changed is shared with the document. If one of a document's fields is changed, these fields are copied once. A
+    /// `$set`, `$unset` or `$pull` that changes nothing copies none.
     pub fn apply(&self, alloc: Global, document: &Document) -> Result<Document, UpdateFault>
         ensures { Gives no_memory (λ changed. changed) result (defined.applied (update self.now) document.now) }
     {
@@ -53,7 +53,7 @@ impl Update {
         Err(UpdateFault::TooDeep)
     }
 
-    /// Refused as the result is, where it is surely too large.
+    /// Returns the fault of the result, if the result is surely too large.
     fn refuse_too_large(&self, alloc: Global, document: &Document) -> Result<(), UpdateFault>
         ensures { IfErr result (λ f. (f ≡ wanting) ⊎ (defined.applied (update self.now) document.now ≡ Err f)) }
     {
@@ -63,7 +63,7 @@ impl Update {
         }
     }
 
-    /// The same, whatever the result is; or what is refused as the result is.
+    /// The result before it is checked, or a document that is refused as the result is.
     fn change(&self, alloc: Global, document: &Document) -> Result<Document, UpdateFault>
         ensures { Likewise document.now result (defined.changed (update self.now) document.now) }
     {
@@ -74,7 +74,7 @@ impl Update {
     }
 }
 
-/// The fields with the `_id` of their own, or else the document's, in front. Fails when memory runs out.
+/// The fields with their own `_id`, or else the document's, at the front. Fails when memory runs out.
 fn replaced(alloc: Global, fields: &Document, document: &Document) -> Result<Document, NoMemory>
     ensures { IfOk result (λ changed. changed ≡ defined.replaced fields.now document.now) }
 {
@@ -87,7 +87,7 @@ fn replaced(alloc: Global, fields: &Document, document: &Document) -> Result<Doc
     Ok(changed)
 }
 
-/// A document with this `_id`, where there is one, and nothing else. Fails when memory runs out.
+/// A document with this `_id`, if there is one, and nothing else. Fails when memory runs out.
 fn id_alone(alloc: Global, id: Option<&Value>) -> Result<Document, NoMemory>
     ensures { IfOk result (λ document. document ≡ defined.with_id (option_map (λ id. tree id.now) id.entry) []) }
 {
@@ -129,7 +129,7 @@ pub(crate) fn leading_id(document: &Document) -> Option<&Value>
     }
 }
 
-/// Whether the document is longer than what is stored.
+/// Whether the document is longer than a stored one may be.
 fn is_too_large(document: &Document) -> bool
     ensures { result ≡ nat_lt defined.document_limit (length (spelling document.now)) }
 {

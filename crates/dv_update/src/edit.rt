@@ -19,7 +19,7 @@ use dv_value::{Document, List, NoMemory, Value};
 use std::alloc::Global;
 
 impl Edit {
-    /// What the operator makes of the document, which is changed in place.
+    /// Applies the operator to the document, which is changed in place.
     pub(crate) fn make(&self, alloc: Global, document: Document) -> Result<Document, UpdateFault>
         ensures { Gives no_memory (λ changed. changed) result (defined.edit_at self.now.path (operation self.now.operation) document) }
     {
@@ -33,7 +33,7 @@ impl Edit {
     }
 }
 
-/// Where the value stands there already, nothing is copied.
+/// If the value is there already, nothing is copied.
 #[tactic(auto, using(crate::proofs::Made::set_there))]
 fn set_at(
     alloc: Global,
@@ -63,7 +63,7 @@ fn increase_at(
     Ok(put_at(alloc, document, path, increased)?)
 }
 
-/// The number added to what stands there.
+/// The number added to the value there.
 pub(crate) fn increased(number: Number, slot: Slot<'_>) -> Result<Value, UpdateFault>
     ensures { Gives no_memory tree result (defined.increased number (slot_seen slot.entry)) }
 {
@@ -90,7 +90,7 @@ fn append_at(
     Ok(put_at(alloc, document, path, Value::Array(appended))?)
 }
 
-/// The values behind those that stand there.
+/// The values appended to those that are there.
 #[tactic(auto, using(dv_value::specs::Inner::TreeLaws::elements_again))]
 fn appended(values: &List, slot: Slot<'_>) -> Result<List, UpdateFault>
     ensures { Gives no_memory (λ list. tree (Value.Array list)) result (defined.appended values.now (slot_seen slot.entry)) }
@@ -116,7 +116,7 @@ fn joined(list: &List, values: &List) -> Result<List, NoMemory>
     Ok(List::of(joined))
 }
 
-/// Where no element is taken out, nothing is copied.
+/// If no element is removed, nothing is copied.
 #[tactic(auto, using(crate::proofs::Made::pull_none, dv_value::specs::Inner::TreeLaws::elements_again))]
 fn pull_at(
     alloc: Global,
@@ -140,7 +140,7 @@ fn pull_at(
 }
 
 impl Pulled {
-    /// Whether the element is taken out.
+    /// Whether the element is removed.
     fn takes(&self, element: &Value) -> bool
         ensures { result ≡ defined.is_pulled (which self.now) (tree element.now) }
     {
@@ -161,7 +161,7 @@ impl Pulled {
         false
     }
 
-    /// The elements that aren't taken out, in order. Fails when memory runs out.
+    /// The elements that aren't removed, in order. Fails when memory runs out.
     fn left(&self, alloc: Global, list: &List) -> Result<List, NoMemory>
         ensures { IfOk result (λ left. left ≡ defined.left (which self.now) list.now) }
     {

@@ -1,4 +1,4 @@
-//! What the edits of an update make of a document.
+//! The result of an update's edits for a document.
 
 ghost use Rattle.std.specs.Prelude.{◌≡◌, map, false, IfOk};
 ghost use Rattle.dv_value.specs.Results.{Gives};
@@ -17,10 +17,10 @@ use dv_path::remove_each;
 use dv_value::{Document, NoMemory};
 use std::alloc::Global;
 
-/// The edits made one after the other.
+/// Makes the edits one after the other.
 ///
-/// Several removals are made last, and all at once, which changes nothing where no path begins another one: one after the
-/// other, each of them would copy the names of all fields that stay.
+/// If there are several removals, and no path begins or equals another one, the removals are made last and all at once. The result
+/// is the same. Made one after the other, each removal would copy the names of all fields that stay.
 pub(crate) fn edited(
     alloc: Global,
     edits: &Edits,
@@ -36,7 +36,7 @@ pub(crate) fn edited(
     in_turn(alloc, edits, document)
 }
 
-/// The edits made one after the other, of which no path begins or equals another one.
+/// Makes the edits, of which no path begins or equals another one, with the removals last.
 fn removals_last(
     alloc: Global,
     edits: &[Edit],
@@ -62,7 +62,7 @@ fn in_turn(alloc: Global, edits: &[Edit], document: Document) -> Result<Document
     Ok(changed)
 }
 
-/// Those that aren't removals made one after the other.
+/// Makes the edits that aren't removals one after the other.
 fn others_in_turn(
     alloc: Global,
     edits: &[Edit],

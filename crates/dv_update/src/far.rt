@@ -12,11 +12,11 @@ use dv_value::NoMemory;
 use std::alloc::{AllocError, Global};
 use std::cmp::Ordering;
 
-/// How many components a path has at most that is made as it is: behind more, a document has ten times the levels that any
-/// stored one has.
+/// The most components of a path at whose end the value itself is put. A longer path would lead to a document with over three times
+/// the levels that any stored one has.
 pub(crate) const MOST_COMPONENTS: usize = 300;
 
-/// What the path leads through from where it parts from one that stands before it.
+/// The rest of the path from the first component that differs from `before`, if this component comes after the one there.
 pub(crate) fn parting<'a>(before: &[Component], path: &'a [Component]) -> Option<&'a [Component]>
     ensures { option_map (λ rest. rest.now) result ≡ defined.parting before.now path.now }
 {
@@ -44,7 +44,7 @@ pub(crate) fn lead_far(edits: &[Edit]) -> bool {
         .any(|edit| edit.path.components().len() > MOST_COMPONENTS)
 }
 
-/// The path of as many first components as are made. Fails when memory runs out.
+/// The path's first `MOST_COMPONENTS` components as a path, if it has that many. Fails when memory runs out.
 pub(crate) fn beginning(alloc: Global, path: &Path) -> Result<Option<Path>, NoMemory>
     ensures { IfOk result (λ found. IfSome found (λ beginning. (length beginning ≡ 300) × (begins_with beginning path.now ≡ true))) }
 {
@@ -61,7 +61,7 @@ pub(crate) fn beginning(alloc: Global, path: &Path) -> Result<Option<Path>, NoMe
     }
 }
 
-/// The components behind those.
+/// The components after the first `MOST_COMPONENTS`.
 pub(crate) fn further(path: &Path) -> &[Component]
     requires { 300 ≤ length path.now }
     ensures { result.now ≡ drop 300 path.now }
@@ -70,7 +70,7 @@ pub(crate) fn further(path: &Path) -> &[Component]
     &components[MOST_COMPONENTS..]
 }
 
-/// As many first components as are made, with dots between them. Fails when memory runs out.
+/// The first `MOST_COMPONENTS` components, with dots between them. Fails when memory runs out.
 fn joined(alloc: Global, components: &[Component]) -> Result<String, NoMemory> {
     let mut text = String::new(alloc);
     'components: for component in components.iter().take(MOST_COMPONENTS) {

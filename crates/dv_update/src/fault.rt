@@ -12,8 +12,8 @@ use std::fmt;
 /// Why a document is no update, or can't be updated. Its text is its name.
 #[derive(Clone, Copy, Debug, PartialEq, Eq)]
 pub enum UpdateFault {
-    /// A name that begins with `$` and is no operator, or another name among operators; a value to push that begins with `$` and
-    /// isn't only `$each`.
+    /// A name that begins with `$` and is no operator, or a name without `$` among operators; `$push` of a document whose first
+    /// name begins with `$` and that isn't only `$each`.
     UnknownOperator,
     /// Two paths of which one equals or begins the other.
     Conflict,
@@ -37,7 +37,8 @@ pub enum UpdateFault {
     /// A path with a component that is empty, holds a zero byte or begins with `$`; a replacement with a top-level name
     /// that begins with `$`, or a name with a dot at any level.
     BadName,
-    /// An operator's operand that is no document; `$each` of no array; a condition of `$pull` that is none.
+    /// An operator's operand that is no document; `$each` of a value that is no array; `$pull` with a document that is no
+    /// condition.
     BadOperand,
 }
 

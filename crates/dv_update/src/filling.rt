@@ -1,9 +1,9 @@
-//! What edits make that is too large, told before any of it is made.
+//! Finds out that the result of edits is too large before any of it is made.
 //!
 //! A path may lead beyond an array's end, and nulls fill the array up to it: 100,000 of them for a few bytes of an update, which
-//! may have many such paths. So where they may fill much, it is counted how long the filled arrays are at least. If that is too
-//! much, the edits are made without those that fill an array: no further edit needs what these make to be refused or not. One
-//! that fills an array in `_id` changes the `_id`.
+//! may have many such paths. So if the paths may fill in many nulls, the least size of the filled arrays is counted first. If that
+//! is too much, the edits are made without those that fill an array: whether a further edit is refused doesn't depend on these. An
+//! edit that fills an array in `_id` changes the `_id`.
 
 ghost use Rattle.std.specs.Prelude.{◌≡◌, ◌≤◌, ◌⊎◌, Some, Err, map, true, IfErr, IfOk, IsTrue};
 ghost use Rattle.std.specs.List.{list_any};
@@ -41,11 +41,11 @@ const MOST_FILLED: usize = 100_000;
 #[derive(Clone, Copy)]
 pub(crate) struct Fill<'a> {
     path: &'a [Component],
-    /// What is left of the path from the array on: the place beyond its end comes first.
+    /// The rest of the path from the array on. It begins with the place beyond the array's end.
     rest: &'a [Component],
 }
 
-/// Refused as what the edits make of the document is, where arrays are filled so far that it is surely too large.
+/// Returns the fault of the edits' result, if arrays are filled so far that the result is surely too large.
 pub(crate) fn refuse_too_large(
     alloc: Global,
     edits: &Edits,
@@ -72,7 +72,7 @@ fn may_fill_much(edits: &[Edit]) -> bool {
     filled > FEW_NULLS
 }
 
-/// How many nulls are filled in at most where the path leads beyond an array's end.
+/// How many nulls are filled in at most if the path leads beyond an array's end.
 fn most_filled(path: &Path) -> usize {
     let mut most = 0;
     'components: for component in path.components() {
@@ -85,7 +85,7 @@ fn most_filled(path: &Path) -> usize {
     most
 }
 
-/// The same of the edits that aren't removals, where the document is without what these take away from the old one.
+/// The same for the edits that aren't removals. The document is the old one after the removals.
 fn refuse_filled(
     alloc: Global,
     edits: &[Edit],
@@ -133,7 +133,7 @@ fn fills_id(document: &Document, edit: &Edit) -> bool
         && fill_of(document, edit).is_some()
 }
 
-/// Whether the arrays that are filled are surely too long together, where no edit is refused. Fails when memory runs out.
+/// Whether the filled arrays are surely too long together, if no edit is refused. Fails when memory runs out.
 fn fill_too_much(alloc: Global, edits: &[Edit], document: &Document) -> Result<bool, NoMemory>
     requires { Steps (map seen edits.now) }
     ensures { IfOk result (λ much. IsTrue much → IsTooLarge (defined.edited (last_of.other_edits (map seen edits.now)) document.now)) }
@@ -162,7 +162,7 @@ fn fills<'a>(
     Ok(fills)
 }
 
-/// How long filled arrays are at least together, each once: the last of those that fill one array counts.
+/// How many bytes the filled arrays have at least. Each array counts once: the last of the fills that lead into it counts.
 fn least_size(fills: &[Fill<'_>]) -> usize
     ensures { result ≤ filling.least_size (map fill fills.now) }
 {
@@ -174,7 +174,7 @@ fn least_size(fills: &[Fill<'_>]) -> usize
 }
 
 impl<'a> Fill<'a> {
-    /// Whether the next one leads into the same array.
+    /// Whether the next fill leads into the same array.
     fn leads_into_same(&self, further: &[Fill<'a>]) -> bool
         ensures { result ≡ filling.leads_into_same (fill self.now) (map fill further.now) }
     {
@@ -191,8 +191,8 @@ impl<'a> Fill<'a> {
         &self.path[..self.path.len().saturating_sub(self.rest.len())]
     }
 
-    /// How many bytes the array has at least, unless the next one leads into the same: of each element its type, the digits of
-    /// its place and a zero.
+    /// How many bytes the array has at least, or 0 if the next fill leads into the same array. Each element has its type, the
+    /// digits of its place and a zero.
     fn least_size(&self, further: &[Fill<'a>]) -> usize
         ensures { result ≡ filling.first_least (fill self.now) (map fill further.now) }
     {
@@ -239,7 +239,7 @@ fn leads_into_id(path: &[Component]) -> bool
     }
 }
 
-/// What is left of a path from an array on, beyond whose end it leads to a place that may be filled.
+/// The rest of a path from an array on, if the path leads beyond the array's end to a place that may be filled.
 #[cycle(beyond)]
 fn beyond<'a>(there: &Value, path: &'a [Component]) -> Option<&'a [Component]>
     ensures { option_map (λ rest. rest.now) result ≡ filling.beyond path.now (Some (tree there.now)) }
@@ -273,8 +273,8 @@ fn beyond_in_list<'a>(list: &List, path: &'a [Component]) -> Option<&'a [Compone
     }
 }
 
-/// What the edits make of the document that aren't removals and fill no array. Those that fill one in `_id` are made, unless
-/// they are left out, too.
+/// The document after the edits that aren't removals and fill no array. Edits that fill an array in `_id` are made too, unless
+/// `with_id` is set.
 fn made_without_fills(
     alloc: Global,
     edits: &[Edit],
@@ -293,7 +293,7 @@ fn made_without_fills(
     Ok(made)
 }
 
-/// What the edit makes of the document, unless it is a removal or fills an array.
+/// The document after the edit, or as it is if the edit is a removal or is left out.
 fn made_unless_filled(
     alloc: Global,
     document: Document,
@@ -309,7 +309,7 @@ fn made_unless_filled(
     edit.make(alloc, document)
 }
 
-/// Whether the edit isn't made, as it fills an array.
+/// Whether the edit is left out because it fills an array.
 fn is_left_out(document: &Document, edit: &Edit, with_id: bool) -> bool
     ensures { result ≡ filling.left_out with_id document.now (seen edit.now) }
 {

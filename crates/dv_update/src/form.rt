@@ -32,17 +32,17 @@ pub struct Edit {
 pub enum Operation {
     /// `$set`: the value is put there.
     Set(Value),
-    /// `$unset`: the field is taken away; an array's element becomes null.
+    /// `$unset`: the field is removed; an array's element becomes null.
     Unset,
-    /// `$inc`: the number is added to the field's; a missing field becomes it.
+    /// `$inc`: the number is added to the field's value; a missing field becomes the number.
     Inc(Number),
-    /// `$push`: the values are appended to the field's array; a missing field becomes the array of them.
+    /// `$push`: the values are appended to the field's array; a missing field becomes an array of the values.
     Push(List),
-    /// `$pull`: elements are taken out of the field's array.
+    /// `$pull`: elements are removed from the field's array.
     Pull(Pulled),
 }
 
-/// Which elements `$pull` takes out of an array.
+/// Which elements `$pull` removes from an array.
 #[derive(Debug, Drop)]
 pub enum Pulled {
     /// Those that compare equal to the value.

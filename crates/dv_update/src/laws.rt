@@ -19,8 +19,8 @@ ghost use Rattle.dv_order.specs.Same.{is_same, same_fields};
 ghost use Rattle.dv_update.specs.Update.{Edit, Update};
 ghost use Rattle.dv_update.specs.declared.fault.UpdateFault.TheVariants.{BadName, BadOperand, Conflict, IdChanged, NotArray, NotNumber, NotViable, Overflow, TooDeep, TooLarge, UnknownOperator};
 
-/// Any two paths compare, either way round alike; what comes before a path comes before all that come after it; and two paths are
-/// equal in the order exactly if they are one.
+/// The order of paths is total: comparing two paths the other way round gives the reverse order; a path that comes before another
+/// also comes before all paths after that one; and two paths are equal in the order exactly if they are the same.
 #[tactic(auto, using(crate::proofs::Lawful::back, crate::proofs::Lawful::through, crate::proofs::Lawful::beside))]
 pub fn paths_stand_in_a_total_order()
     ensures back { (p q : Path) → path_order p q ≡ ordering_reverse (path_order q p) }
@@ -28,7 +28,7 @@ pub fn paths_stand_in_a_total_order()
     ensures beside { (p q : Path) → (path_order p q ≡ Equal) ↔ (p ≡ q) }
 {}
 
-/// Edits without a conflict that trade places as they are written are the same update.
+/// If two adjacent edits without a conflict are written in the other order, the update is the same.
 #[tactic(auto, using(crate::proofs::Lawful::traded))]
 pub fn the_written_order_is_no_matter()
     ensures { (before after : List Edit) (d e : Edit) → conflicts d e ≡ false → in_order (before ++ d ∷ e ∷ after) ≡ in_order (before ++ e ∷ d ∷ after) }
@@ -54,19 +54,19 @@ pub fn setting_what_is_there_changes_nothing()
     ensures { (path : Path) (v : Tree) (d : List Field) → slot d path ≡ taken v → set_at path v d ≡ Ok d }
 {}
 
-/// What an update makes of a document begins with its `_id`, in the same encoding.
+/// The result of an update for a document begins with the document's `_id`, in the same encoding.
 #[tactic(auto, using(crate::proofs::Lawful::id_stays))]
 pub fn the_id_stays()
     ensures { (update : Update) (v : Tree) (others after : List Field) → applied update ((codes "_id", v) ∷ others) ≡ Ok after → IsFirst (codes "_id", v) after }
 {}
 
-/// What an update makes of a document fits.
+/// The result of an update fits.
 #[tactic(auto, using(crate::proofs::Lawful::fitting))]
 pub fn what_comes_out_fits()
     ensures { (update : Update) (d after : List Field) → applied update d ≡ Ok after → Fits after }
 {}
 
-/// What fits and keeps its `_id` is what the update makes; another `_id` is reported before size, and size before levels.
+/// What fits and keeps its `_id` is the update's result; another `_id` is reported before size, and size before levels.
 #[tactic(auto, using(crate::proofs::Lawful::kept, crate::proofs::Lawful::changed_first, crate::proofs::Lawful::size_next, crate::proofs::Lawful::depth_last))]
 pub fn results_are_refused_in_order()
     ensures kept { (update : Update) (d after : List Field) → changed update d ≡ Ok after → have_same_id d after ≡ true → Fits after → applied update d ≡ Ok after }
@@ -75,13 +75,13 @@ pub fn results_are_refused_in_order()
     ensures too_deep { (update : Update) (d after : List Field) → changed update d ≡ Ok after → have_same_id d after ≡ true → length (spelling after) ≤ 16777216 → ExceedsDepth after → applied update d ≡ Err TooDeep }
 {}
 
-/// What an update makes of a valid document is valid, if the update's own document is.
+/// The result of an update for a valid document is valid, if the update's own document is.
 #[tactic(auto, using(crate::proofs::Sound::comes_out_valid))]
 pub fn what_comes_out_is_valid()
     ensures { (fields d made : List Field) (form : Update) → AreFields (fields_of fields) → update_of fields ≡ Ok form → AreFields (fields_of d) → applied form d ≡ Ok made → AreFields (fields_of made) }
 {}
 
-/// Values are the same if each part is, and so are documents.
+/// `is_same` is true of two values exactly if they are equal, and `same_fields` of the fields of two documents.
 #[tactic(auto, using(dv_order::specs::Inner::SameLaws::same_values, dv_order::specs::Inner::SameLaws::same_documents))]
 pub fn sameness_is_equality()
     ensures values { (v w : Tree) → (is_same v w ≡ true) ↔ (v ≡ w) }
@@ -107,7 +107,7 @@ pub fn array_examples()
     ensures a_dollar_below { outcome dollar_below_b (id_and []) ≡ Ok (id_and dollar_below_b) }
 {}
 
-/// An element of an array is taken out if it passes a condition.
+/// An element of an array is removed if it passes a condition.
 #[tactic(auto, unfolding(crate::specs::Parsing::operator_named, dv_match::specs::Parsing::test_in, dv_match::specs::Parsing::operators_in, dv_match::specs::Parsing::operator_named, dv_match::specs::Match::passes, dv_match::specs::Match::meets_all, dv_match::specs::Match::meets, dv_candidates::specs::Path::path_of, dv_candidates::specs::Path::index_of, dv_path::specs::Placing::put, dv_path::specs::Slots::slot, dv_value::specs::Spelling::payload, dv_value::specs::Spelling::framed, dv_value::specs::Spelling::counted, dv_value::specs::Spelling::element_spelling))]
 pub fn condition_example()
     ensures { outcome (one_edit (codes "$pull") (codes "a") (doc ((codes "$gte", int 2) ∷ []))) start ≡ Ok (with_a (int 1 ∷ [])) }
@@ -122,7 +122,7 @@ pub fn sum_examples()
     ensures no_number { outcome one_more_in_v ((codes "_id", int 3) ∷ (codes "v", list []) ∷ []) ≡ Err NotNumber }
 {}
 
-/// Paths are taken in their order, and nulls pad an array.
+/// Paths are applied in their order, and nulls pad an array.
 #[tactic(auto, unfolding(crate::specs::Parsing::operator_named, dv_candidates::specs::Path::path_of, dv_candidates::specs::Path::index_of, dv_path::specs::Placing::put, dv_path::specs::Slots::slot, dv_value::specs::Spelling::payload, dv_value::specs::Spelling::framed, dv_value::specs::Spelling::counted, dv_value::specs::Spelling::element_spelling))]
 pub fn order_examples()
     ensures in_order { outcome (set_each out_of_order) (id_and []) ≡ Ok (id_and ((codes "b", int 3) ∷ (codes "x", doc ((codes "2", int 2) ∷ (codes "10", int 1) ∷ [])) ∷ [])) }

@@ -45,7 +45,8 @@ impl Number {
         }
     }
 
-    /// The sum: of 32 bits where both numbers are and it fits, else of 64. Refused with `Overflow` beyond these.
+    /// The sum: of 32 bits if both numbers are and the sum fits, otherwise of 64. Refused with `Overflow` if it doesn't fit 64
+    /// bits.
     pub(crate) fn add(self, other: Number) -> Result<Value, UpdateFault>
         ensures { Gives no_memory tree result (defined.sum self other) }
     {
@@ -60,7 +61,7 @@ impl Number {
     }
 }
 
-/// Whether a number has 32 bits.
+/// Whether a number fits 32 bits.
 fn fits_32(number: i64) -> bool
     ensures { result ≡ widths.fits_32 number }
 {

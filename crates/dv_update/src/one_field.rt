@@ -1,4 +1,4 @@
-//! What an operator makes under a name, told by that field alone.
+//! The outcome of an operator under a name, as a change of that field alone.
 
 ghost use Rattle.std.specs.Prelude.{◌≡◌, false, codes, IfOk, IfSome, Ok, Some};
 ghost use Rattle.std.specs.Option.{option_map};
@@ -21,13 +21,13 @@ use dv_order::is_same;
 use dv_path::Slot;
 use dv_value::{Document, FieldChange, List, NoMemory, Value, laws};
 
-/// What stands around the name of a field: its type byte and a zero byte.
+/// How many bytes are around the name of a field: its type byte and a zero byte.
 const AROUND_NAME: usize = 2;
 
 /// An element's place has at most six digits in an array of fewer elements.
 const SIX_DIGITS: usize = 1_000_000;
 
-/// What stands around an element then: its type byte, the digits and a zero byte.
+/// How many bytes are around an element then: its type byte, the digits and a zero byte.
 const AROUND_ELEMENT: usize = 8;
 
 /// The levels around a field's value: the document.
@@ -37,8 +37,8 @@ const ABOVE_FIELD: u32 = 1;
 const ABOVE_ELEMENT: u32 = 2;
 
 impl Operation {
-    /// What the operator makes of a document under a name other than `_id`, where it changes that field alone and the document
-    /// surely has room for it. Fails when memory runs out.
+    /// The outcome of the operator under a name other than `_id`, if it changes that field alone and the document surely has room
+    /// for it. Fails when memory runs out.
     pub(crate) fn outcome_under(
         &self,
         document: &Document,
@@ -57,8 +57,8 @@ impl Operation {
         }
     }
 
-    /// The value that comes where this one stands, or none, if the operator is refused by neither and looks into no document or
-    /// array. Fails when memory runs out.
+    /// The value that `$set` or `$inc` puts in place of this one, or of none. `None` if `$inc` is refused, and for the other
+    /// operators. Fails when memory runs out.
     fn value_for(&self, there: Option<&Value>) -> Result<Option<Value>, NoMemory>
         ensures { IfOk result (λ found. IfSome found (λ value. defined_inner.value_by (operation self.now) (slot_of (option_map (λ there. tree there.now) there.entry)) ≡ Ok (tree value))) }
     {
@@ -73,7 +73,7 @@ impl Operation {
     }
 }
 
-/// What a path leads to that ends at this value, or at none.
+/// The slot of a path that ends at this value, or at none.
 fn slot_holding<'a>(there: Option<&'a Value>) -> Slot<'a>
     ensures { slot_seen result ≡ slot_of (option_map (λ there. tree there.now) there.entry) }
 {
@@ -83,7 +83,7 @@ fn slot_holding<'a>(there: Option<&'a Value>) -> Slot<'a>
     }
 }
 
-/// What `$set` of the value makes under the name, if the document surely has room for it.
+/// The outcome of `$set` of the value under the name, if the document surely has room for it.
 fn set_under(document: &Document, name: &str, value: Value) -> Option<Outcome>
     requires { bytes_eq name.now (codes "_id") ≡ false }
     ensures applied { IfSome result (λ outcome. defined_inner.IsOutcomeUnder name.now (assign (tree value)) document.now outcome) }
@@ -99,7 +99,7 @@ fn set_under(document: &Document, name: &str, value: Value) -> Option<Outcome>
     Some(Outcome::Field(FieldChange::Set(value)))
 }
 
-/// Whether the value stands under the name as it is spelled.
+/// Whether the value under the name has the same encoding as this one.
 fn stands_under(document: &Document, name: &str, value: &Value) -> bool
     ensures { result ≡ both_same (value_under name.now document.now) (Some (tree value.now)) }
 {
@@ -109,8 +109,8 @@ fn stands_under(document: &Document, name: &str, value: &Value) -> bool
     }
 }
 
-/// What `$push` of the values makes under the name, if it is one, an array is there, and the document surely has room for it.
-/// Fails when memory runs out.
+/// The outcome of `$push` of the values under the name, if it is one value, an array is there, and the document surely has room for
+/// it. Fails when memory runs out.
 fn pushed_under(document: &Document, name: &str, values: &List) -> Result<Option<Outcome>, NoMemory>
     requires { bytes_eq name.now (codes "_id") ≡ false }
     ensures applied { IfOk result (λ found. IfSome found (λ outcome. defined_inner.IsOutcomeUnder name.now (append values.now) document.now outcome)) }

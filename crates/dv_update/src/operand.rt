@@ -67,7 +67,7 @@ fn one_value(alloc: Global, value: &Value) -> Result<Operation, UpdateFault>
     Ok(Operation::Push(List::of(values)))
 }
 
-/// The members of `$each`, which stands alone.
+/// The members of `$each`, which must be the only field.
 fn members_of_each(document: &Document) -> Result<Operation, UpdateFault>
     ensures { Gives no_memory operation result (defined.each_alone (fields_of document.now)) }
 {
@@ -87,7 +87,7 @@ fn members(operand: &Value) -> Result<Operation, UpdateFault>
     }
 }
 
-/// A condition on elements, or a value to be equal to.
+/// A condition on the elements to remove, or a value that they equal.
 fn values_to_pull(alloc: Global, operand: &Value) -> Result<Operation, UpdateFault>
     ensures { Gives no_memory operation result (defined.values_to_pull (tree operand.now)) }
 {

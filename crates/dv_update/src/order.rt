@@ -24,7 +24,7 @@ use std::cmp::Ordering;
 use std::collections::BTreeMap;
 use std::marker::Model;
 
-/// A path among others, in the order in which an update's paths are taken.
+/// A path as a key, in the order in which an update's paths are applied.
 #[derive(Debug, Drop)]
 pub(crate) struct PathKey {
     path: Path,
@@ -103,7 +103,7 @@ pub(crate) fn compare_components(a: &Component, b: &Component) -> Ordering
     }
 }
 
-/// The order of two paths: the first two components that differ decide, and else the shorter path stands first.
+/// The order of two paths: the first two components that differ decide; if there are none, the shorter path comes first.
 fn compare_paths(a: &[Component], b: &[Component]) -> Ordering
     ensures { result ≡ path_order a.now b.now }
 {
@@ -123,7 +123,7 @@ pub(crate) fn begins(a: &Path, b: &Path) -> bool
     is_beginning(a.components(), b.components())
 }
 
-/// The same of the components of two paths.
+/// The same for the components of two paths.
 pub(crate) fn is_beginning(xs: &[Component], ys: &[Component]) -> bool
     ensures { result ≡ begins_with xs.now ys.now }
 {
@@ -135,7 +135,7 @@ pub(crate) fn is_beginning(xs: &[Component], ys: &[Component]) -> bool
     xs.len() <= ys.len()
 }
 
-/// Whether the edits stand in the order of their paths, and none of these begins another one.
+/// Whether the edits are in the order of their paths, and no path begins another one.
 pub(crate) fn are_apart(edits: &[Edit]) -> bool
     ensures apart { IsTrue result → (defined.has_conflict (map edit edits.now) ≡ false) }
     ensures steps { IsTrue result → Steps (map edit edits.now) }
@@ -152,16 +152,16 @@ pub(crate) fn are_apart(edits: &[Edit]) -> bool
     true
 }
 
-/// Whether the path `a` stands before the path `b`, and doesn't begin it.
+/// Whether the path `a` comes before the path `b`, and doesn't begin it.
 fn parts_from(a: &Path, b: &Path) -> bool
     ensures { IsTrue result → (path_order a.now b.now ≡ Less) × (begins_with a.now b.now ≡ false) }
 {
     compare_paths(a.components(), b.components()).is_lt() && !begins(a, b)
 }
 
-/// The edits in the order of their paths. Refused with `Conflict` where one path begins or equals another, and with
-/// `NoMemory`. In time n log n: in order, a path that begins others stands right before the first of them. Edits that stand so
-/// already are given back as they are.
+/// The edits in the order of their paths. Refused with `Conflict` if one path begins or equals another, and with `NoMemory` when
+/// memory runs out. Takes time n log n: in this order, a path that begins others comes right before the first of them. Edits that
+/// are in order already are returned unchanged.
 pub(crate) fn in_order(alloc: Global, edits: Vec<Edit>) -> Result<Edits, UpdateFault>
     ensures { Gives no_memory operators result (defined.in_order (map edit edits.items)) }
 {
@@ -172,7 +172,7 @@ pub(crate) fn in_order(alloc: Global, edits: Vec<Edit>) -> Result<Edits, UpdateF
     listed(alloc, places)
 }
 
-/// The operations under their paths. Refused with `Conflict` where two paths are equal.
+/// The operations under their paths. Refused with `Conflict` if two paths are equal.
 fn by_path(alloc: Global, edits: Vec<Edit>) -> Result<BTreeMap<PathKey, Operation>, UpdateFault>
     ensures sorted { IfOk result (λ places. map entry places.entries ≡ defined.sorted (map edit edits.items)) }
     ensures ordered { IfOk result (IsOrdered path_order) }
@@ -186,7 +186,7 @@ fn by_path(alloc: Global, edits: Vec<Edit>) -> Result<BTreeMap<PathKey, Operatio
     Ok(places)
 }
 
-/// Puts an operation under its path. Refused with `Conflict` where there is one.
+/// Puts an operation under its path. Refused with `Conflict` if the path has one already.
 fn place(places: &mut BTreeMap<PathKey, Operation>, edit: Edit) -> Result<(), UpdateFault>
     ensures placed { OnOk result (map entry places.new.entries ≡ defined.placed (seen edit) (map entry places.old.entries)) }
     ensures ordered { OnOk result (IsOrdered path_order places.new) }
@@ -199,7 +199,7 @@ fn place(places: &mut BTreeMap<PathKey, Operation>, edit: Edit) -> Result<(), Up
     Ok(())
 }
 
-/// The edits of such a map. Refused with `Conflict` where one path begins another.
+/// The edits of such a map. Refused with `Conflict` if one path begins another.
 fn listed(alloc: Global, places: BTreeMap<PathKey, Operation>) -> Result<Edits, UpdateFault>
     requires { IsOrdered path_order places }
     ensures { Gives no_memory (λ edits. edits) result (if defined.has_conflict (map entry places.entries) then Err Conflict else Ok (map entry places.entries)) }

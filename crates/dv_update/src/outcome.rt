@@ -1,4 +1,4 @@
-//! What an update changes in a document, told by one field where that is all.
+//! What an update changes in a document: nothing, one field, or the whole document.
 
 ghost use Rattle.std.specs.Prelude.{◌≡◌, ℕ, List, false, codes, IfOk, IfSome};
 ghost use Rattle.std.specs.Option.{option_map};
@@ -20,12 +20,12 @@ use dv_order::same_documents;
 use dv_value::{Document, FieldChange, NoMemory};
 use std::alloc::Global;
 
-/// What an update makes of a document.
+/// The result of an update for a document.
 #[derive(Debug, Drop)]
 pub enum Outcome {
     /// Its encoding stays as it is.
     Same,
-    /// This becomes of the field under the update's sole name.
+    /// The field under the update's sole name is changed in this way.
     Field(FieldChange),
     /// It becomes this document.
     Whole(Document),
@@ -39,7 +39,7 @@ impl Outcome {
         matches!(self, Outcome::Same)
     }
 
-    /// Has a whole document share the names of another one, if they are the same. Nothing that a caller sees changes but how much
+    /// Makes a whole document share the names of another one, if they are the same. A caller sees no change except in how much
     /// memory is taken.
     pub fn share_names(&mut self, with: &Outcome)
         ensures seen { (name : List ℕ) → (d : List Field) → defined.outcome_seen name d self.new ≡ defined.outcome_seen name d self.old }
@@ -68,9 +68,9 @@ impl Update {
         }
     }
 
-    /// What the update makes of the document, which stays as it is: what `apply` makes of it, and refused as there. If one value is
-    /// put under the sole name, or at the end of the array there, and surely has room, nothing else is copied: then a `Field` is
-    /// returned. `Same` is returned exactly if the document's encoding stays as it is.
+    /// The result of the update for the document, which is unchanged. It is the result of `apply`, and is refused as there. If one
+    /// value is put under the sole name, or at the end of the array there, and surely has room, nothing else is copied: then a
+    /// `Field` is returned. `Same` is returned exactly if the document's encoding stays as it is.
     pub fn outcome(&self, alloc: Global, document: &Document) -> Result<Outcome, UpdateFault>
         ensures applied { Gives no_memory (λ outcome. defined.document_seen (update self.now) document.now outcome) result (applied (update self.now) document.now) }
         ensures same { IfOk result (λ outcome. defined.stays outcome ≡ defined.stays_so (defined.sole_name (update self.now)) document.now outcome) }
@@ -81,7 +81,7 @@ impl Update {
         }
     }
 
-    /// What the update makes of the document, as `outcome`, but always as a whole document or as `Same`.
+    /// The result of the update, as `outcome` returns it, but always as a whole document or as `Same`.
     pub fn whole_outcome(&self, alloc: Global, document: &Document) -> Result<Outcome, UpdateFault>
         ensures applied { Gives no_memory (λ outcome. defined.document_seen (update self.now) document.now outcome) result (applied (update self.now) document.now) }
         ensures same { IfOk result (λ outcome. defined.stays outcome ≡ defined.stays_so (defined.sole_name (update self.now)) document.now outcome) }
@@ -94,8 +94,8 @@ impl Update {
         Ok(Outcome::Whole(after))
     }
 
-    /// The outcome where the field under the sole name is all that changes, in a document that surely has room for it. Fails when
-    /// memory runs out.
+    /// The outcome if the field under the sole name is all that changes, and the document surely has room for it. Fails when memory
+    /// runs out.
     fn field_alone(&self, document: &Document) -> Result<Option<Outcome>, NoMemory>
         ensures applied { IfOk result (λ found. IfSome found (λ outcome. IsOutcome (update self.now) document.now outcome)) }
         ensures same { IfOk result (λ found. IfSome found (λ outcome. defined.stays outcome ≡ defined.stays_so (defined.sole_name (update self.now)) document.now outcome)) }
@@ -106,7 +106,7 @@ impl Update {
         }
     }
 
-    /// The name and the operation of the one edit, where its path is one name and not `_id`.
+    /// The name and the operation of the one edit, if its path is one name and not `_id`.
     fn sole_edit(&self) -> Option<(&str, &Operation)>
         ensures edit { option_map (λ edit. (edit.0.now, operation edit.1.now)) result ≡ defined.sole_edit (update self.now) }
         ensures no_id { IfSome result (λ edit. bytes_eq edit.0.now (codes "_id") ≡ false) }

@@ -27,15 +27,15 @@ use dv_value::{Document, Value, begins_with_dollar};
 use std::alloc::Global;
 
 impl Update {
-    /// The update that the document is, or its first fault in written order, and conflicts last.
+    /// Parses the document as an update, or returns its first fault in written order; conflicts come last.
     ///
     /// A document whose first name begins with `$` has operators: `$set`, `$unset`, `$inc`, `$push` and `$pull`
     /// (`UnknownOperator`), each with a document of paths (`BadOperand`). A path's components aren't empty, hold no zero byte and
     /// don't begin with `$` (`BadName`). `$inc` takes a number (`NotNumber`); `$push` a value, or only `$each` (`UnknownOperator`)
-    /// with an array (`BadOperand`); `$pull` a document that is a condition as in `$elemMatch` (`BadOperand`), or any other value
-    /// to be equal to. Of two paths none equals or begins the other (`Conflict`). Any other document is a replacement: no name
-    /// begins with `$` at the top level, and none holds a dot at any level (`BadName`, whether there is memory or not). Fails with
-    /// `NoMemory` when memory runs out. Takes time n log n in the number of paths.
+    /// with an array (`BadOperand`); `$pull` a document that is a condition as in `$elemMatch` (`BadOperand`), or any other value,
+    /// which the removed elements equal. No path equals or begins another (`Conflict`). Any other document is a replacement: no
+    /// name begins with `$` at the top level, and none holds a dot at any level (`BadName`, which is returned whether or not memory
+    /// is available). Fails with `NoMemory` when memory runs out. Takes time n log n in the number of paths.
     pub fn parse(alloc: Global, document: &Document) -> Result<Update, UpdateFault>
         ensures update { Gives no_memory update result (defined.update_of document.now) }
         ensures bad_name { filters.lists_operators (fields_of document.now) ≡ false → names.has_bad_name document.now ≡ true → result ≡ Err BadName }
@@ -120,7 +120,7 @@ fn edit_of(
     Ok(Edit { path, operation })
 }
 
-/// The path that a name is, if no component begins with a dollar sign.
+/// The name as a path, if no component begins with a dollar sign.
 fn plain_path(alloc: Global, name: &str) -> Result<Path, UpdateFault>
     ensures { Gives no_memory (λ path. path) result (defined.plain (path_of name.now)) }
 {

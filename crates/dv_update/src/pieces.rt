@@ -1,4 +1,4 @@
-//! Documents in one piece, and how long they are.
+//! Values of a given size that stand in for documents, and how many bytes nested documents add.
 
 ghost use Rattle.std.specs.Prelude.{◌≡◌, ◌+◌, ◌-◌, ◌≤◌, ◌*◌, false, [], ◌∷◌, length, IfOk, IfSome};
 ghost use Rattle.std.proofs.Math.ListN.{replicate};
@@ -12,18 +12,18 @@ use dv_candidates::Component;
 use dv_value::{Bytes, Document, FRAME, NoMemory, Value, laws};
 use std::alloc::Global;
 
-/// What a document adds to two values that stand in it under names of one letter together.
+/// How many bytes a document adds to two values in it whose names have one letter together.
 const AROUND_TWO: usize = 10;
 
-/// How many bytes are few.
+/// A piece of fewer bytes is a binary.
 const SMALL: usize = 1_000;
 
-/// What a document adds to a value that stands in it: its length, a type byte, the zero byte behind a name, and the closing
-/// zero.
+/// How many bytes a document adds to a value in it, besides the name: its length, a type byte, the zero byte after the name, and
+/// the closing zero.
 const AROUND: usize = 7;
 
-/// A value that has so many bytes, which stands in for a document: a small one is a binary of zeros, and a larger one a document
-/// in which another one stands twice, and is in memory once. So it takes hardly any. Fails when memory runs out.
+/// A value of this many bytes, which stands in for a document: a small one is a binary of zeros, and a larger one a document that
+/// contains a smaller piece twice. Documents in it are in memory once, so it takes hardly any memory. Fails when memory runs out.
 #[cycle(piece)]
 pub(crate) fn piece(alloc: Global, size: usize) -> Result<Value, NoMemory>
     ensures piece { IfOk result (λ piece. defined.in_one_piece (tree piece) ≡ binary 0 (replicate (size - 5) 0)) }
@@ -35,7 +35,7 @@ pub(crate) fn piece(alloc: Global, size: usize) -> Result<Value, NoMemory>
     Ok(Value::Doc(doubled(alloc, size)?))
 }
 
-/// A binary of zeros that has so many bytes, with what stands around them. Fails when memory runs out.
+/// A binary of zeros that has this many bytes, including its length and subtype. Fails when memory runs out.
 fn zeros(alloc: Global, size: usize) -> Result<Value, NoMemory>
     ensures zeros { IfOk result (λ zeros. tree zeros ≡ binary 0 (replicate (size - 5) 0)) }
     ensures long { 5 ≤ size → IfOk result (λ zeros. length (payload (tree zeros)) ≡ size) }
@@ -47,7 +47,7 @@ fn zeros(alloc: Global, size: usize) -> Result<Value, NoMemory>
     })
 }
 
-/// A document that has so many bytes, and keeps its size. Fails when memory runs out.
+/// A document of this many bytes, which keeps its size. Fails when memory runs out.
 #[cycle(piece)]
 fn doubled(alloc: Global, size: usize) -> Result<Document, NoMemory>
     requires { 1000 ≤ size }
@@ -62,7 +62,7 @@ fn doubled(alloc: Global, size: usize) -> Result<Document, NoMemory>
     }
 }
 
-/// A document with the value under an empty name and under this one, which keeps its size. Fails when memory runs out.
+/// A document with the value under an empty name and under `name`. It keeps its size. Fails when memory runs out.
 fn twice(alloc: Global, value: Value, name: &str) -> Result<Document, NoMemory>
     requires whole { has_zero name.now ≡ false }
     requires other { has_name name.now (([], tree value) ∷ []) ≡ false }
@@ -75,7 +75,7 @@ fn twice(alloc: Global, value: Value, name: &str) -> Result<Document, NoMemory>
     Ok(document)
 }
 
-/// How many bytes documents add that stand one in another under these names, if a number can say it.
+/// How many bytes are added by documents that are nested one in another under these names, if a `usize` can hold the number.
 pub(crate) fn names_size(names: &[Component]) -> Option<usize>
     ensures { IfSome result (λ size. size ≡ defined.names_length names.now) }
 {

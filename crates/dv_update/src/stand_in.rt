@@ -1,8 +1,9 @@
-//! What edits make of a document, or what stands in for it where paths of many components would make it too deep.
+//! The result of edits for a document, or what stands in for the result if paths of many components would make it too deep.
 //!
-//! A path may have millions of components, and the documents that stand one in another along it would take stack for each of
-//! them. So what such a path makes below its first 300 components is made in one piece: a value that has as many bytes. It is
-//! refused as the document itself would be: it has as many bytes, more levels than any stored document, and no other `_id`.
+//! A path may have millions of components, and the documents nested along it would take stack for each of them. So what such a path
+//! makes below its first 300 components is replaced by one piece: a value of as many bytes. The document with the piece is refused
+//! as the result itself would be: it has as many bytes and more levels than any stored document, and its `_id` is the old one
+//! exactly if that of the result is.
 
 ghost use Rattle.std.specs.Prelude.{◌≡◌, is_some, ◌≢◌, [], ◌+◌, ◌-◌, Some, ◌<◌, ◌≤◌, List, map, length, true, false, IfOk, IfSome, IsTrue};
 ghost use Rattle.std.specs.Option.{option_map};
@@ -32,7 +33,7 @@ use dv_path::{Slot, put_at, remove_each, slot_at};
 use dv_value::{Document, FRAME, MAX_LEVELS, NoMemory, Value, fits, value_size, value_within};
 use std::alloc::Global;
 
-/// A document in which what is too deep is in one piece.
+/// A document in which what is too deep is replaced by pieces.
 #[derive(Drop)]
 pub(crate) struct StandIn<'a> {
     document: Document,
@@ -44,13 +45,14 @@ pub(crate) struct StandIn<'a> {
 pub(crate) struct Last<'a> {
     /// Its first 300 components.
     beginning: Path,
-    /// The others.
+    /// Its other components.
     rest: &'a [Component],
-    /// How many bytes what is in one piece has there.
+    /// How many bytes the piece there has.
     size: usize,
 }
 
-/// The edits made one after the other, or what is refused as that is where paths have many components.
+/// Makes the edits one after the other. If paths have many components, the returned document may stand in for the result, and is
+/// refused as the result is.
 pub(crate) fn edited_or_alike(
     alloc: Global,
     edits: &Edits,
@@ -67,8 +69,8 @@ pub(crate) fn edited_or_alike(
     edited(alloc, edits, document.try_clone()?)
 }
 
-/// The edits made one after the other, of which no path begins or equals another one. None where that can't be told, which
-/// is never so of a stored document and an update that was parsed.
+/// A document that stands in for the result of the edits, of which no path begins or equals another one. `None` if none can be
+/// made, which never happens for a stored document and an update that was parsed.
 fn stand_in(
     alloc: Global,
     edits: &[Edit],
@@ -83,7 +85,7 @@ fn stand_in(
     others_stand_in(alloc, edits, left)
 }
 
-/// Those that aren't removals made one after the other.
+/// The same for the edits that aren't removals.
 fn others_stand_in(
     alloc: Global,
     edits: &[Edit],
@@ -107,7 +109,7 @@ fn others_stand_in(
 }
 
 impl<'a> StandIn<'a> {
-    /// The same with what the edit makes.
+    /// What stands in for the document after the edit.
     fn with(self, alloc: Global, edit: &'a Edit) -> Result<Option<StandIn<'a>>, UpdateFault>
         requires other { last_of.is_removal (operation edit.now.operation) ≡ false }
         ensures { (made : List Field) → Stands made self.entry.document self.entry.last → Becomes result (defined.edit_at edit.now.path (operation edit.now.operation) made) }
@@ -125,7 +127,7 @@ impl<'a> StandIn<'a> {
     }
 }
 
-/// With what an edit makes whose path has few components.
+/// The same for an edit whose path has few components.
 fn with_near<'a>(
     alloc: Global,
     document: Document,
@@ -146,7 +148,7 @@ fn with_near<'a>(
     }))
 }
 
-/// With what an edit makes whose path has many components, the first 300 as none before.
+/// The same for an edit whose path has many components, if no earlier path has the same first 300.
 fn with_far<'a>(
     alloc: Global,
     document: Document,
@@ -167,7 +169,7 @@ fn with_far<'a>(
     }
 }
 
-/// The same where the beginning's way is blocked.
+/// The same if the way to the end of the beginning is blocked.
 fn with_blocked<'a>(
     document: Document,
     last: Option<Last<'a>>,
@@ -186,7 +188,7 @@ fn with_blocked<'a>(
     Ok(Some(StandIn { document, last }))
 }
 
-/// The same where nothing stands at the beginning's end.
+/// The same if there is no value at the end of the beginning.
 fn with_free<'a>(
     alloc: Global,
     document: Document,
@@ -206,7 +208,7 @@ fn with_free<'a>(
     }
 }
 
-/// With a value where a path of many components leads, and nothing stands where its beginning does.
+/// The same if the edit puts this value, and there is no value at the end of the beginning.
 fn with_first<'a>(
     alloc: Global,
     document: Document,
@@ -237,7 +239,7 @@ fn with_first<'a>(
     }))
 }
 
-/// With what an edit makes whose path has many components, the first 300 as the last one.
+/// The same for an edit whose path has many components, if the last path has the same first 300.
 fn with_next<'a>(
     alloc: Global,
     document: Document,
@@ -287,7 +289,7 @@ fn put(
     Ok(put_at(alloc, document, path, value)?)
 }
 
-/// So many bytes, and those of documents one in another under these names with the value innermost.
+/// `before`, and the bytes of documents that are nested one in another under these names, with the value innermost.
 fn size_with(before: usize, names: &[Component], value: &Value) -> Option<usize>
     ensures { IfSome result (λ size. size ≡ before + names_length names.now + length (payload (tree value.now))) }
 {
@@ -296,14 +298,14 @@ fn size_with(before: usize, names: &[Component], value: &Value) -> Option<usize>
     before.checked_add(around)?.checked_add(inside)
 }
 
-/// The same, where the first of the names is a field of a document that is there.
+/// The same if the first of the names is a field of a document that exists already.
 fn size_behind(before: usize, names: &[Component], value: &Value) -> Option<usize>
     ensures { IfSome result (λ size. size + 5 ≡ before + names_length names.now + length (payload (tree value.now))) }
 {
     size_with(before, names, value)?.checked_sub(FRAME)
 }
 
-/// Whether no element is taken out of an array that may hold what is in one piece.
+/// Whether the edit removes no element from an array that may hold a piece.
 fn pulls_shallow(document: &Document, edit: &Edit) -> bool
     ensures { IsTrue result → PullsShallow (300 - length edit.now.path) (operation edit.now.operation) (slot document.now edit.now.path) }
 {
@@ -319,7 +321,7 @@ fn pulls_shallow(document: &Document, edit: &Edit) -> bool
 }
 
 impl Operation {
-    /// Whether something comes where nothing stands.
+    /// Whether the operator puts a value where there is none.
     pub(crate) fn is_new(&self) -> bool
         ensures { result ≡ is_some (new_value (operation self.now)) }
     {
@@ -332,7 +334,7 @@ impl Operation {
         }
     }
 
-    /// What comes where nothing stands. Fails when memory runs out.
+    /// The value that the operator puts where there is none. Fails when memory runs out.
     fn new_value(&self) -> Result<Option<Value>, NoMemory>
         ensures { IfOk result (λ found. option_map tree found ≡ new_value (operation self.now)) }
     {

@@ -1,4 +1,4 @@
--- A finite map under bytes, and a map under texts that has the same.
+-- A finite map under bytes, and a map under texts with the same entries.
 use Rattle.std.proofs.Common.{◌≡◌, ℕ, List, ◌∷◌, [], map, cond, Some, refl, ap, sym, ◌∙◌, arith}
 use Rattle.std.proofs.lemmas.Map.Text.{is_eq-slice_cmp, btree_map_updates_text}
 use Rattle.std.proofs.lemmas.Slice.Eq.{bytes_eq-Decides}
@@ -25,7 +25,7 @@ module _ {X : Type 0} where
       finite.get-insert nat_list_cmp_total m name x q
       ∙ ap (λ b. cond b (Some x) (finite.get m q)) (is_eq-slice_cmp q name ∙ bytes_eq-symmetric q name)
 
-  -- what a name has already, put there again
+  -- to put again what a name has changes nothing
   pub insert-same : (m : ByBytes X) (name : List ℕ) (x : X) → finite.get m name ≡ Some x → finite.insert m name x ≡ m
   insert-same m name x there = same_map _ _ (λ q. get-insert m name x q ∙ grind (arith, there, (bytes_eq-Decides name q).0))
 
@@ -45,6 +45,6 @@ module _ {X Y : Type 0} where
       ∙ ap (cond (bytes_eq name q) (Some x)) (sym (get-by_text m q))
       ∙ sym (get-insert (by_text m) name x q))
 
-  -- after a write over what a name has
+  -- after the value of a name is overwritten
   pub by_text-written : (m n : BTreeMap (String Y) X) (name : List ℕ) (old new : X) → Some old ≡ get_by_text m name → WritesThrough string_cmp (λ k. slice_cmp nat_cmp name (string_bytes k)) m new n → by_text n ≡ finite.insert (by_text m) name new
   by_text-written m n name old new there writes = by_text-insert m n name new (writes.3 (rw (← there) refl))

@@ -1,4 +1,4 @@
--- Names beside values, as one value is put in place of another, or a field is taken away.
+-- Names and values, when one value is put in place of another, or a field is removed.
 use Rattle.std.proofs.Common.{◌≡◌, ℕ, zero, suc, ◌+◌, ◌-◌, ◌≤◌, ◌<◌, true, false, List, [], ◌∷◌, ◌++◌, length, take, drop, map, Some, None, is_some, refl, sym, ap, ◌∙◌, arith, add-one}
 use Rattle.std.specs.Prelude.{slice_set, slice_index_or, remove}
 use Rattle.std.specs.List.{zip, position_from, drop-map}
@@ -104,7 +104,7 @@ module _ (name : List ℕ) where
   pub nowhere_has_not : (fs : List Field) → None ≡ place_under name fs → has_name name fs ≡ false
   nowhere_has_not fs none = sym (is_some-place name 0 fs) ∙ ap is_some (sym none)
 
-  -- names that have no value go with the one that is taken away
+  -- names without a value are dropped with the one that is removed
   pub zip-without : (place : ℕ) (ns : Texts) (vs : List Tree) → place_under name (zip ns vs) ≡ Some place → zip (remove (take (length vs) ns) place) (remove vs place) ≡ without name (zip ns vs)
   zip-without place ns vs found =
       let same = zip-take ns vs in
@@ -144,7 +144,7 @@ AreNamed-remove (suc place) [] named = tt
 AreNamed-remove zero (n ∷ ns) named = named.2
 AreNamed-remove (suc place) (n ∷ ns) named = (named.0, fresh-remove n place ns named.1, AreNamed-remove place ns named.2)
 
--- the first `count` names but one, as they are copied
+-- the first `count` names except one, as they are copied
 front_but : (place count : ℕ) (ns : Texts) → place < count → take place ns ++ take (count - suc place) (drop (suc place) ns) ≡ remove (take count ns) place
 front_but place zero ns lt = absurd (omega arith)
 front_but zero (suc count) [] lt = grind (arith, common_steps)

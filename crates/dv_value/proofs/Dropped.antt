@@ -1,4 +1,4 @@
--- What values weigh together, with one behind them, and as they stand beside names.
+-- What values weigh together, with one more after them, and as values of fields.
 use Rattle.std.proofs.Common.{◌≡◌, ℕ, ◌+◌, ◌≤◌, List, [], ◌∷◌, ◌++◌, length, map, refl, ap, arith}
 use Rattle.std.specs.List.{zip}
 use Rattle.dv_value.specs.declared.value.Value.{Value}

@@ -1,4 +1,4 @@
--- A name that stands at a place, where no two names are one, is found there.
+-- A name at a place is found there, if no two names are equal.
 use Rattle.std.proofs.Common.{◌≡◌, ℕ, zero, suc, ◌+◌, true, false, List, [], ◌∷◌, Some, map, refl, sym, arith}
 use Rattle.std.specs.List.{slice_get, position_from}
 use Rattle.std.specs.Str.{bytes_eq}

@@ -1,4 +1,4 @@
--- A document's fields one by one: what a field adds, and that it is no matter where it stands.
+-- A document's fields one by one: what a field adds, and that this doesn't depend on its place.
 use Rattle.std.proofs.Common.{◌≡◌, ◌+◌, List, [], ◌∷◌, ◌++◌, length, refl, sym, ap, ◌∙◌, arith}
 use Rattle.std.specs.List.{All}
 use Rattle.std.specs.Str.{IsUtf8}

@@ -1,4 +1,4 @@
--- The names of a list of fields, and of one with a field more at its end.
+-- The names of a list of fields, and of the list with one more field at its end.
 use Rattle.std.proofs.Common.{◌≡◌, ℕ, ◌+◌, ◌-◌, ◌≤◌, ◌<◌, true, false, List, [], ◌∷◌, ◌++◌, length, get_or, Some, None, is_some, take, drop, map, sym, ap, subst, ◌∙◌, arith}
 use Rattle.std.proofs.lemmas.List.{take-append-drop, map-append}
 use Rattle.std.proofs.lemmas.Slice.Eq.{bytes_eq-Decides}
@@ -18,7 +18,7 @@ AreNamed-front : (fs gs : List Field) → AreNamed (fs ++ gs) → AreNamed fs
 AreNamed-front [] gs named = tt
 AreNamed-front (f ∷ fs) gs named = (named.0, grind (arith, named.1, has_name-append f.0 fs gs), AreNamed-front fs gs named.2)
 
--- the names in front of a place
+-- the names before a place
 pub AreNamed-take : (count : ℕ) (ns : List (List ℕ)) → AreNamed (map bare ns) → AreNamed (map bare (take count ns))
 AreNamed-take count ns named =
     let parts : map bare ns ≡ map bare (take count ns) ++ map bare (drop count ns) = ap (map bare) (sym (take-append-drop count ns)) ∙ map-append bare (take count ns) (drop count ns) in
@@ -34,7 +34,7 @@ pub is_some-place : (name : List ℕ) (i : ℕ) (fs : List Field) → is_some (p
 is_some-place name i [] = grind arith
 is_some-place name i (f ∷ fs) = grind (arith, is_some-place name (i + 1) fs)
 
--- what stands at a place that is found, counted from i
+-- the value at a place that is found, counted from i
 module _ (name : List ℕ) where
   found_from : (i k : ℕ) (fs : List Field) (d : Field) → position_from (λ f. bytes_eq name f.0) i fs ≡ Some k → (i ≤ k) × (k < i + length fs) × (value_under name fs ≡ Some (get_or fs (k - i) d).1)
   found_from i k [] d found = grind arith

@@ -60,7 +60,7 @@ place_under-covered name fs cs = place_from name 0 fs cs
 
 -- ---- the field at a place
 
--- a field under what is found over it
+-- a field with the cover that is found for it
 abbrev pub under_found : Option Field → Option (Option Tree) → Option Field
 under_found None c = None
 under_found (Some f) None = Some f
@@ -73,7 +73,7 @@ slice_get-covered (f ∷ fs) [] (suc place) = elim (slice_get fs place) as (λ o
 slice_get-covered (f ∷ fs) (c ∷ cs) zero = refl
 slice_get-covered (f ∷ fs) (c ∷ cs) (suc place) = slice_get-covered fs cs place
 
--- ---- a field more
+-- ---- one more field
 
 pub covered-push : (fs : List Field) (cs : List (Option Tree)) (f : Field) (c : Option Tree) → AreCovered fs cs → covered (fs ++ f ∷ []) (cs ++ c ∷ []) ≡ covered fs cs ++ under f c ∷ []
 covered-push [] [] f c h = refl
@@ -103,21 +103,21 @@ AreCovered-put v place (f ∷ fs) [] h = absurd h
 AreCovered-put v zero (f ∷ fs) (c ∷ cs) h = (tt, h.1)
 AreCovered-put v (suc place) (f ∷ fs) (c ∷ cs) h = (h.0, AreCovered-put v place fs cs h.1)
 
--- ---- the names in front of a field
+-- ---- the names before a field
 
 module _ (fs : List Field) (place : ℕ) (f : Field) (named : AreNamed fs) (here : slice_get fs place ≡ Some f) where
   split : fs ≡ take place fs ++ f ∷ drop (place + 1) fs
   split = sym (take-append-drop place fs) ∙ ap (λ (rest : List Field). take place fs ++ rest) (drop_item fs place f here)
 
-  -- a field's name is that of none in front of it
+  -- no field before it has its name
   pub fresh_here : has_name f.0 (take place fs) ≡ false
   fresh_here = named_apart (take place fs) (drop (place + 1) fs) f (subst AreNamed split named)
 
-  -- and it holds no zero
+  -- and its name holds no zero
   pub whole_here : has_zero f.0 ≡ false
   whole_here = named_whole (take place fs) (drop (place + 1) fs) f (subst AreNamed split named)
 
--- the fields in front of the next place
+-- the fields before the next place
 pub take_field : (fs : List Field) (place : ℕ) (f : Field) → slice_get fs place ≡ Some f → take (place + 1) fs ≡ take place fs ++ f ∷ []
 take_field fs place f here = take_more fs place f (slice_get_within fs place f here) ∙ ap (λ (g : Field). take place fs ++ g ∷ []) (get_or_from_slice_get fs place f f here)
 
@@ -148,7 +148,7 @@ pub place_shows : (name : List ℕ) (fs : List Field) (o : Option ℕ) → o ≡
 place_shows name fs None found = tt
 place_shows name fs (Some place) found = value_there name place fs ([], null) (sym found) ∙ ap Some (value_at-read fs place ([], null) (found_within name place fs found))
 
--- no field is there only behind the last one
+-- only past the last field there is none
 past_none : (fs : List Field) (place : ℕ) → slice_get fs place ≡ None → length fs ≤ place
 past_none [] place none = omega arith
 past_none (f ∷ fs) zero none = absurd cc
@@ -159,7 +159,7 @@ pub value_got : (name : List ℕ) (fs : List Field) (place : ℕ) (o : Option Fi
 value_got name fs place None found there = absurd (omega (arith, past_none fs place (sym there), found_within name place fs found))
 value_got name fs place (Some f) found there = sym (place_shows name fs (Some place) found ∙ ap Some (value_at-here fs place f (sym there)))
 
--- ---- what is found over a field
+-- ---- the cover that is found for a field
 
 flat : (o : Option (Option Tree)) (v : Tree) → Some v ≡ option_flatten o → o ≡ Some (Some v)
 flat None v e = absurd cc

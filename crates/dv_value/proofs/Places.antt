@@ -1,4 +1,4 @@
--- A finite map of names, as the map under texts has it, and as a field more at the end changes it.
+-- A finite map of names: its entries are those of the map under texts, and one more field at the end changes it.
 use Rattle.std.proofs.Common.{◌≡◌, ℕ, ◌+◌, false, List, [], ◌∷◌, ◌++◌, length, get_or, take, drop, ◌<◌, map, cond, subst, Some, ap, sym, ◌∙◌, arith}
 use Rattle.std.proofs.lemmas.Grind.{common_steps}
 use Rattle.std.proofs.lemmas.List.{take-append-drop, drop_more, map-append}
@@ -13,7 +13,7 @@ use Rattle.dv_value.specs.Inner.ByteLaws.{bytes_eq-symmetric}
 use Rattle.dv_value.proofs.ByText.{get-insert}
 use Rattle.dv_value.specs.Inner.NameLaws.{named_apart}
 
--- counted from i, the last field stands at n
+-- counted from i, the last field is at n
 position_from-push : (name : List ℕ) (i n : ℕ) (fs : List Field) (f : Field) → has_name f.0 fs ≡ false → n ≡ i + length fs → position_from (λ g. bytes_eq name g.0) i (fs ++ f ∷ []) ≡ cond (bytes_eq f.0 name) (Some n) (position_from (λ g. bytes_eq name g.0) i fs)
 position_from-push name i n [] f fresh at_end = grind (arith, bytes_eq-symmetric name f.0)
 position_from-push name i n (g ∷ fs) f fresh at_end =
@@ -27,7 +27,7 @@ IsIndexOf-push fs m f place index fresh at_end = record {
   finds = λ q. get-insert m f.0 place q ∙ ap (cond (bytes_eq f.0 q) (Some place)) (index.finds q) ∙ sym (position_from-push q 0 place fs f fresh (omega arith));
 }
 
--- one name more is indexed
+-- one more name is indexed
 pub IsIndexOf-more : (ns : List (List ℕ)) (i : ℕ) (n : List ℕ) (m : Places) → i < length ns → n ≡ get_or ns i n → AreNamed (map bare ns) → IsNameIndexOf (map bare (take i ns)) m → IsNameIndexOf (map bare (take (i + 1) ns)) (finite.insert m n i)
 IsIndexOf-more ns i n m within here named index =
     let so_far = map bare (take i ns) in

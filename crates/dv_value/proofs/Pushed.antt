@@ -1,4 +1,4 @@
--- One field of a document changed: a value that is new, and an element more in an array.
+-- One field of a document changed: a new value, and one more element in an array.
 use Rattle.std.proofs.Common.{◌≡◌, ℕ, false, List, [], ◌∷◌, map, Some, None, refl, sym, ap, ◌∙◌, arith}
 use Rattle.std.specs.Prelude.{slice_set, slice_index_or, if◌then◌else◌}
 use Rattle.std.specs.List.{zip}
@@ -11,12 +11,12 @@ use Rattle.dv_value.specs.Tree.{Tree, array, Field}
 use Rattle.dv_value.specs.View.{tree}
 use Rattle.dv_value.proofs.Changed.{put_missing, value_found, zip-put}
 
--- ---- a value that is given back is that of a new field
+-- ---- a value that is returned is that of a new field
 
 pub given_back : (name : List ℕ) (v w : Tree) (fs gs : List Field) → Some w ≡ (if has_name name fs then None else Some v) → gs ≡ with_value_under name v fs → (has_name name fs ≡ false) × (w ≡ v) × (gs ≡ fs)
 given_back name v w fs gs back put = grind (arith, put_missing name v fs)
 
--- ---- an element more
+-- ---- one more element
 
 pub put_same : (name : List ℕ) (v : Tree) (fs : List Field) → value_under name fs ≡ Some v → with_value_under name v fs ≡ fs
 put_same name v [] found = refl

@@ -1,4 +1,4 @@
--- Fields that are copied, but for those with some names.
+-- Fields that are copied, except those with some names.
 use Rattle.std.proofs.Common.{◌≡◌, ◌∙◌, ℕ, ◌+◌, ◌<◌, ap, sym, refl, subst, Bool, true, false, ◌||◌, List, [], ◌∷◌, ◌++◌, Option, Some, length, get_or, take, map, cond, not, is_some, append_assoc, append-nil, arith, Bor}
 use Rattle.std.specs.FinMap as finite
 use Rattle.std.specs.Str.{bytes_eq}
@@ -28,7 +28,7 @@ stays (n ∷ names) f fs none = by (bytes_eq n f.0) none (stays names f (without
     by true h rest = cc
     by false h rest = rest h
 
--- a field with one of the names goes
+-- a field with one of the names is removed
 goes : (names : List (List ℕ)) (f : Field) (fs : List Field) → is_name_of names f.0 ≡ true → has_name f.0 fs ≡ false → without_each names (f ∷ fs) ≡ without_each names fs
 goes [] f fs among fresh = cc
 goes (n ∷ names) f fs among fresh = by (bytes_eq n f.0) refl among (λ is. goes names f (without n fs) is (has_name-without f.0 n fs fresh))
@@ -95,12 +95,12 @@ HasEach-more names n places place each = record { finds = λ name. ap is_some (g
     by name true h = grind (arith, h)
     by name false h = grind (arith, h, each.finds name)
 
--- of names that are lent, one more
+-- one more of the borrowed names
 pub HasEach-next : (names : List (Bor (List ℕ))) (i : ℕ) (d : Bor (List ℕ)) (places : Places) → i < length names → HasEach (map (λ n. n.now) (take i names)) places → HasEach (map (λ n. n.now) (take (i + 1) names)) (finite.insert places (get_or names i d).now i)
 HasEach-next names i d places within each =
     let more : map (λ n. n.now) (take (i + 1) names) ≡ map (λ n. n.now) (take i names) ++ (get_or names i d).now ∷ [] = ap (map (λ (n : Bor (List ℕ)). n.now)) (take_more names i d within) ∙ map-append (λ (n : Bor (List ℕ)). n.now) (take i names) (get_or names i d ∷ []) in
     rw more (HasEach-more (map (λ n. n.now) (take i names)) (get_or names i d).now places i each)
 
--- whether a name is one of these, as the index tells
+-- the index says whether a name is one of these
 pub told : (names : List (List ℕ)) (places : Places) (name : List ℕ) (o : Option ℕ) (none b : Bool) → HasEach names places → o ≡ finite.get places name → is_some o ≡ not none → none ≡ b → is_name_of names name ≡ not b
 told names places name o none b each found some is = sym (each.finds name) ∙ ap is_some (sym found) ∙ some ∙ ap not is

@@ -1,4 +1,4 @@
--- The length of a document's spelling as one of its fields changes.
+-- The length of a document's encoding when one of its fields changes.
 use Rattle.std.proofs.Common.{◌≡◌, ℕ, zero, suc, ◌+◌, ◌≤◌, false, List, [], ◌∷◌, ◌++◌, length, decimal, Option, Some, None, IfSome, max, refl, sym, ap, subst, ◌∙◌, arith}
 use Rattle.std.specs.List.{slice_get, position_from}
 use Rattle.std.specs.Str.{IsUtf8, bytes_eq}
@@ -76,13 +76,13 @@ measured-at v place fs f size after here measure value depth sum within = record
   depth = omega (arith, depth, measure.depth, levels-at v place fs);
 }
 
--- the same, where the new length is known
+-- the same, if the new length is known
 pub measured-with : (v : Tree) (place : ℕ) (fs : List Field) (f : Field) (size : ℕ) (result : Option ℕ) → slice_get fs place ≡ Some f → IsMeasure size fs → IfSome result (λ _. IsValue v) → IfSome result (λ _. levels v + 1 ≤ 100) → IfSome result (λ after. after + length (payload f.1) ≡ size + length (payload v)) → IfSome result (λ after. after ≤ 2147483647)
     → IfSome result (λ after. IsMeasure after (with_value_at place v fs))
 measured-with v place fs f size None here measure value depth sum within = tt
 measured-with v place fs f size (Some after) here measure value depth sum within = measured-at v place fs f size after here measure value depth sum within
 
--- ---- a field more
+-- ---- one more field
 
 length-more : (fs : List Field) (f : Field) → length (spelling (fs ++ f ∷ [])) ≡ length (spelling fs) + (length (payload f.1) + length f.0 + 2)
 length-more [] f = omega (arith, length-field f [])
@@ -103,7 +103,7 @@ measured-more fs f size after measure text whole fresh value depth sum within = 
   depth = omega (arith, depth, measure.depth, levels-more fs f);
 }
 
--- ---- an element more
+-- ---- one more element
 
 length-pushed : (i : ℕ) (vs : List Tree) (v : Tree) → length (elements_spelling i (elements_of (vs ++ v ∷ []))) ≡ length (elements_spelling i (elements_of vs)) + (length (payload v) + length (decimal (i + length vs)) + 2)
 length-pushed i [] v =

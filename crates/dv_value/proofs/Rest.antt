@@ -1,4 +1,4 @@
--- The fields of a document, or the elements of a list, that a loop has still to come to.
+-- The fields of a document, or the elements of a list, that are left for a loop.
 use Rattle.std.proofs.Common.{◌≡◌, ℕ, suc, ◌+◌, max, List, ◌∷◌, length, drop, Some, decimal, length-append, add-one, refl, sym, ap, subst, ◌∙◌}
 use Rattle.std.specs.List.{slice_get}
 use Rattle.std.specs.Str.{IsUtf8}
@@ -29,7 +29,7 @@ elements_length-drop vs place v here =
 
 -- ---- validity
 
--- the fields from a place on have good names, and where they are valid, the whole document is
+-- the fields from a place on have good names, and if they are valid, so is the whole document
 pub record AreValidBefore (fs : List Field) (place : ℕ) : Type 0 where
   pub named : AreNamed (drop place fs)
   pub valid : AreFields (fields_of (drop place fs)) → AreFields (fields_of fs)

@@ -1,4 +1,4 @@
--- Names beside values: the fields of a document, whose names may go on behind the last value.
+-- Names and values as the fields of a document. There may be further names after that of the last value.
 use Rattle.std.proofs.Common.{◌≡◌, ℕ, zero, suc, ◌+◌, ◌≤◌, ◌<◌, true, false, ◌||◌, cond, ltb, List, [], ◌∷◌, ◌++◌, length, take, drop, map, Option, Some, None, refl, sym, ap, subst, ◌∙◌, arith}
 use Rattle.std.specs.Prelude.{if◌then◌else◌, nat_lt}
 use Rattle.std.specs.List.{zip, slice_get, position_from}
@@ -37,14 +37,14 @@ slice_get-zip (n ∷ ns) (v ∷ vs) (suc place) = slice_get-zip ns vs place
 pub zip_past : (ns : Texts) (vs : List Tree) (place : ℕ) → length vs ≤ place → slice_get (zip ns vs) place ≡ None
 zip_past ns vs place past = slice_get_past (zip ns vs) place (omega (arith, length-zip ns vs))
 
--- ---- a field more
+-- ---- one more field
 
--- a name that stands there already
+-- a name that is there already
 pub take_next : (ns : Texts) (count : ℕ) (name : List ℕ) → slice_get ns count ≡ Some name → take (count + 1) ns ≡ take count ns ++ name ∷ []
 take_next ns count name here =
     take_more ns count name (slice_get_within ns count name here) ∙ ap (λ n. take count ns ++ n ∷ []) (get_or_from_slice_get ns count name name here)
 
--- only so many names as there are values count
+-- only as many names as there are values count
 pub zip-take : (ns : Texts) (vs : List Tree) → zip (take (length vs) ns) vs ≡ zip ns vs
 zip-take [] [] = refl
 zip-take [] (v ∷ vs) = refl

@@ -19,7 +19,7 @@ pub enum BsonFault {
     RefusedType {
         /// The type byte.
         byte: u8,
-        /// Where the byte stands, counted from the outermost document's first byte.
+        /// The byte's place, counted from the outermost document's first byte.
         at: usize,
     },
     /// A name or a text that isn't UTF-8.

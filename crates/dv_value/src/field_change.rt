@@ -9,7 +9,7 @@ ghost use Rattle.dv_value.specs.View.{tree};
 use crate::NoMemory;
 use crate::value::{Document, Value};
 
-/// What becomes of the field under a name.
+/// A change of the field under a name.
 #[derive(Debug, Drop)]
 pub enum FieldChange {
     /// It gets this value. If no field has the name, a field with the value is added at the end.
@@ -31,10 +31,10 @@ impl FieldChange {
 }
 
 impl Document {
-    /// Makes the change of the field under the name. Memory is taken for a new field or element, and if a copy shares the fields:
-    /// then these are copied first. Fails with `NoMemory` when memory runs out; then nothing is changed, and the value is dropped.
-    /// To replace a value takes time logarithmic in the number of fields; if the length of the encoding is kept, both values are
-    /// also measured. The name holds no zero byte.
+    /// Changes the field under the name. Memory is taken for a new field or element. If a copy shares the fields, memory is also
+    /// taken to copy them first. Fails with `NoMemory` when memory runs out; then nothing is changed, and the value is dropped.
+    /// Replacing a value takes time logarithmic in the number of fields; if the length of the encoding is kept, both values are
+    /// also measured. The name must hold no zero byte.
     pub fn change_field(&mut self, name: &str, change: FieldChange) -> Result<(), NoMemory>
         requires { has_zero name.now ≡ false }
         ensures ok { OnOk result (self.new ≡ with_field_changed name.now change self.old) }
@@ -46,7 +46,7 @@ impl Document {
         }
     }
 
-    /// Puts the value under the name, behind the others where no field has it. Fails when memory runs out.
+    /// Puts the value under the name, in a new field at the end if no field has the name. Fails when memory runs out.
     fn set(&mut self, name: &str, value: Value) -> Result<(), NoMemory>
         requires { has_zero name.now ≡ false }
         ensures ok { OnOk result (self.new ≡ with_value_set name.now (tree value) self.old) }

@@ -17,7 +17,7 @@ pub fn what_a_field_adds()
     ensures more { (f : Field) (fields : List Field) → length (spelling (f ∷ fields)) ≡ length (payload f.1) + length f.0 + 2 + length (spelling fields) }
 {}
 
-/// A field that is moved to the front leaves the names distinct, and the encoding's length and the levels as they are.
+/// If a field is moved to the front, the names stay distinct, and the encoding's length and the levels stay the same.
 pub fn where_a_field_stands_is_no_matter()
     ensures named { (before after : List Field) (f : Field) → AreNamed (before ++ f ∷ after) → AreNamed (f ∷ (before ++ after)) }
     ensures size { (before after : List Field) (f : Field) → length (spelling (f ∷ (before ++ after))) ≡ length (spelling (before ++ f ∷ after)) }

@@ -26,5 +26,5 @@ pub use name_list::Names;
 pub use text::Str;
 pub use value::{Document, DocumentIter, Fields, List, Value};
 
-/// Memory ran out: the fault of what has no other fault.
+/// Memory ran out: the fault of functions that have no other fault.
 pub type NoMemory = std::alloc::AllocError;

@@ -26,7 +26,7 @@ pub const MAX_DOCUMENT_LEN: u32 = 16_777_216;
 /// How many levels of documents and arrays there may be in what is read and stored.
 pub const MAX_LEVELS: u32 = 100;
 
-/// A document of no more bytes isn't deeper than that: each level has five of its own.
+/// A document of at most this many bytes has at most `MAX_LEVELS` levels: each level has five bytes of its own.
 const NEVER_TOO_DEEP: usize = 5 * MAX_LEVELS as usize;
 
 /// The length of the document's encoding in bytes; `None` above 2,147,483,647. Takes no memory.
@@ -51,7 +51,7 @@ pub fn fits(document: &Document) -> bool
     }
 }
 
-/// Whether a document whose spelling is so long has at most 100 levels.
+/// Whether a document whose encoding has this size has at most 100 levels.
 pub(crate) fn is_shallow(document: &Document, size: usize) -> bool
     requires { size ≡ length (spelling document.now) }
     ensures { IsTrue result ↔ (levels (trees.document (fields_of document.now)) ≤ 100) }
@@ -59,7 +59,7 @@ pub(crate) fn is_shallow(document: &Document, size: usize) -> bool
     size <= NEVER_TOO_DEEP || document_within(document, MAX_LEVELS)
 }
 
-/// The sum of two lengths, where a document can be so long.
+/// The sum of two lengths, if a document can be that long.
 fn sum(length: usize, more: usize) -> Option<usize>
     ensures { SomeIff result (length + more ≤ 2147483647) (length + more) }
 {
@@ -116,7 +116,7 @@ pub fn value_size(value: &Value) -> Option<usize>
     }
 }
 
-/// The length with an element added: a type byte, a name of so many bytes, a zero byte, and the value.
+/// The length with an element added: a type byte, a name of this many bytes, a zero byte, and the value.
 #[cycle(size)]
 fn with_element(total: usize, name: usize, value: &Value) -> Option<usize>
     ensures size { SomeIff result (total + (length (payload (tree value.now)) + name + 2) ≤ 2147483647) (total + (length (payload (tree value.now)) + name + 2)) }
@@ -126,7 +126,7 @@ fn with_element(total: usize, name: usize, value: &Value) -> Option<usize>
     sum(total, sum(sum(size, name)?, 2)?)
 }
 
-/// The same. `None` also where the value has more than 100 levels together with so many around it.
+/// The same. Also `None` if the levels of the value and those around it are more than 100 together.
 pub(crate) fn with_shallow_element(
     total: usize,
     name: usize,
@@ -145,8 +145,8 @@ pub(crate) fn with_shallow_element(
     with_element(total, name, value)
 }
 
-/// The length with one value in place of another one, which was counted. `None` where the new one has no length, or more than
-/// 99 levels.
+/// The length with one value in place of another one, which was counted. `None` if the new value or the whole has more than
+/// 2,147,483,647 bytes, or the new value has more than 99 levels.
 pub(crate) fn with_other(total: u32, before: &Value, value: &Value) -> Option<u32>
     requires { length (payload (tree before.now)) ≤ total }
     ensures size { IfSome result (λ size. size + length (payload (tree before.now)) ≡ total + length (payload (tree value.now))) }
@@ -163,7 +163,8 @@ pub(crate) fn with_other(total: u32, before: &Value, value: &Value) -> Option<u3
     Some(size as u32)
 }
 
-/// As `size`, and that the document is valid at each of its levels. Takes no memory, and constant time if the size is kept.
+/// As `size`; and a document that has a size is valid at each of its levels. Takes no memory, and constant time if the size is
+/// kept.
 #[cycle(size)]
 pub fn document_size(document: &Document) -> Option<usize>
     ensures size { SomeIff result (length (spelling document.now) ≤ 2147483647) (length (spelling document.now)) }
@@ -175,9 +176,9 @@ pub fn document_size(document: &Document) -> Option<usize>
     }
 }
 
-/// The same, worked out from the fields.
+/// The same, computed from the fields.
 #[cycle(size)]
-/// Apart, as `list_size` is, so that a level of a value takes the stack of one of the two alone.
+/// Not inlined, as `list_size` isn't, so that a level of a value takes only the stack of one of the two.
 #[inline(never)]
 fn counted_size(document: &Document) -> Option<usize>
     ensures size { SomeIff result (length (spelling document.now) ≤ 2147483647) (length (spelling document.now)) }
@@ -204,8 +205,8 @@ fn list_size(list: &List) -> Option<usize>
     Some(total)
 }
 
-/// Whether a value has at most so many levels: a document or an array is one more than the deepest value in it, any other value
-/// none. Takes no memory.
+/// Whether a value has at most this many levels: a document or an array has one more than the deepest value in it, and any other
+/// value none. Takes no memory.
 #[cycle(within)]
 pub fn value_within(value: &Value, limit: u32) -> bool
     ensures { IsTrue result ↔ (levels (tree value.now) ≤ limit) }

@@ -9,11 +9,11 @@ use arrayvec::ArrayString;
 use std::alloc::Global;
 use std::marker::Model;
 
-/// How many bytes a name has at most that lies in the field itself. So it takes up as much of the field as the
+/// The most bytes of a name that is stored in the `Name` itself. With this limit, a short name takes as much room there as the
 /// `String` of a longer one.
 const SHORT_LEN: usize = 16;
 
-/// Where a name lies.
+/// Where a name is stored.
 #[derive(Debug, Drop)]
 pub(crate) enum Kept {
     /// In the value itself.
@@ -59,7 +59,7 @@ impl Name {
         }
     }
 
-    /// Whether this is the name. Most others are of another length or end otherwise, which is seen at once.
+    /// Whether this is the name. Most other names differ in length or in the last byte, which are compared first.
     #[inline]
     pub(crate) fn is(&self, name: &str) -> bool
         ensures { result ≡ bytes_eq self.now name.now }

@@ -1,4 +1,4 @@
-//! Where the field with a name stands.
+//! The place of the field with a name.
 
 ghost use Rattle.std.specs.Prelude.{◌≡◌, OnOk, OnErr};
 ghost use Rattle.std.specs.FinMap as finite;
@@ -36,7 +36,7 @@ impl NameIndex {
         }
     }
 
-    /// The place of the name, where it has one.
+    /// The place of the name, if it has one.
     pub(crate) fn place_of(&self, name: &str) -> Option<usize>
         ensures { result ≡ finite.get self.now name.now }
     {

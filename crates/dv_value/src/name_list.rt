@@ -12,7 +12,7 @@ use std::alloc::Global;
 use std::cell::Cell;
 use std::marker::Model;
 
-/// So many names, or more, are indexed as the next one comes.
+/// This many names, or more, are indexed when the next one is added.
 const INDEXED_LENGTH: usize = 32;
 
 /// Names in the order of their fields, no two of them the same, and none with a zero byte.
@@ -39,7 +39,7 @@ impl Model for Names {
 }
 
 impl Names {
-    /// No names, with room for so many. Fails with `NoMemory` when memory runs out.
+    /// No names, with room for this many. Fails with `NoMemory` when memory runs out.
     pub fn with_room(alloc: Global, names: usize) -> Result<Self, NoMemory>
         ensures { IfOk result (λ names. names ≡ []) }
     {
@@ -72,7 +72,7 @@ impl Names {
         self.names.get(place)
     }
 
-    /// Whether this name stands at `place`.
+    /// Whether this name is at `place`.
     pub(crate) fn is_at(&self, place: usize, name: &str) -> bool
         ensures { IsTrue result ↔ (slice_get self.now place ≡ Some name.now) }
     {
@@ -82,8 +82,8 @@ impl Names {
         }
     }
 
-    /// Whether the first `count` names are the other's first ones, and no more than as many follow there: so few names
-    /// keep no long list of them alive.
+    /// Whether the first `count` names are the other's first ones, and at most `count + 1` names follow there: so a few names don't
+    /// keep a long list in memory.
     pub(crate) fn begins_as(&self, other: &Names, count: usize) -> bool
         ensures { IsTrue result → (count ≤ length other.now) × (take count self.now ≡ take count other.now) }
     {
@@ -99,8 +99,8 @@ impl Names {
         true
     }
 
-    /// The place of the name, where there is one. Found in time logarithmic in the number of names, and at once where it
-    /// is the name that was found last.
+    /// The place of the name, if there is one. Found in time logarithmic in the number of names, and at once if it is the name that
+    /// was found last.
     pub(crate) fn place_of(&self, name: &str) -> Option<usize>
         ensures place { result ≡ place_under name.now (map bare self.now) }
         ensures named { AreNamed (map bare self.now) }
@@ -121,7 +121,7 @@ impl Names {
         self.place_by_search(name).is_some()
     }
 
-    /// The same, wherever the last name stood.
+    /// The same, without a look at the place that was found last.
     fn place_by_search(&self, name: &str) -> Option<usize>
         ensures place { result ≡ place_under name.now (map bare self.now) }
         ensures named { AreNamed (map bare self.now) }
@@ -149,7 +149,7 @@ impl Names {
         Ok(())
     }
 
-    /// Gives back what room is left, where that can be done.
+    /// Frees unused room, if possible.
     pub(crate) fn trim(&mut self)
         ensures { self.new ≡ self.old }
     {
@@ -172,7 +172,7 @@ impl Names {
         })
     }
 
-    /// A copy of the first `count` names but the one at `place`. Fails when memory runs out.
+    /// A copy of the first `count` names except the one at `place`. Fails when memory runs out.
     pub(crate) fn front_without(&self, count: usize, place: usize) -> Result<Self, NoMemory>
         requires within { count ≤ length self.now }
         requires there { place < count }
@@ -191,7 +191,7 @@ impl Names {
     }
 }
 
-/// Puts copies of the names behind those that are there. Fails when memory runs out.
+/// Adds copies of the names at the end. Fails when memory runs out.
 fn put_copies(copies: &mut Vec<Name>, names: &[Name]) -> Result<(), NoMemory>
     ensures { OnOk result (copies.new.items ≡ copies.old.items ++ names.now) }
 {
@@ -201,7 +201,7 @@ fn put_copies(copies: &mut Vec<Name>, names: &[Name]) -> Result<(), NoMemory>
     Ok(())
 }
 
-/// The place of the first of these that is the name, where there is one.
+/// The place of the first of these names that equals the name, if there is one.
 fn place_among(names: &[Name], name: &str) -> Option<usize>
     ensures { result ≡ place_under name.now (map bare names.now) }
 {
@@ -213,8 +213,8 @@ fn place_among(names: &[Name], name: &str) -> Option<usize>
     None
 }
 
-/// Indexes the name that comes behind these, if there are so many that names are indexed. If memory runs out the index still is
-/// that of these names.
+/// Indexes the name that comes after these, if there are enough names for an index. If memory runs out, the index is still that of
+/// these names.
 fn index_next(
     alloc: Global,
     index: &mut Option<Box<NameIndex>>,
@@ -236,7 +236,7 @@ fn index_next(
     }
 }
 
-/// The index of these names, where there are so many that names are indexed.
+/// The index of these names, if there are enough for an index.
 #[inline]
 fn index_of(alloc: Global, names: &[Name]) -> Result<Option<Box<NameIndex>>, NoMemory>
     requires { AreNamed (map bare names.now) }

@@ -41,7 +41,7 @@ pub enum Value {
     Doc(Document),
     /// "Array", of values of any types.
     Array(List),
-    /// "Binary data": bytes of a use that the subtype names, kept as they are whatever it is.
+    /// "Binary data": bytes whose use the subtype names. They are kept as they are, whatever the subtype is.
     Binary {
         /// "Binary subtype".
         subtype: u8,
@@ -64,33 +64,33 @@ pub enum Value {
     MaxKey,
 }
 
-/// What a value takes inside a list or a document, beside the memory that it owns.
+/// How many bytes a value takes in a list or a document, besides the memory that it owns.
 const _: () = prove!(size_of::<Value>() == 32);
 
-/// Beside the memory that a copy shares.
+/// How many bytes a document takes, besides the memory that it shares with its copies.
 const _: () = prove!(size_of::<Document>() == 16);
 
-/// With the two counts of a pointer that is shared, no more than 56 bytes: what malloc hands out in a chunk of 64.
+/// With the two counts of a shared pointer, no more than 56 bytes, for which malloc takes a chunk of 64.
 const _: () = prove!(size_of::<Measured>() == 40);
 
-/// The fields of a document and of its copies, in the order in which they were added: what a reader gathers before there is
-/// a document.
+/// The fields of a document and of its copies, in the order in which they were added. A reader collects fields before there is a
+/// document.
 #[cycle(value)]
 #[derive(Debug, Drop)]
 pub struct Fields {
-    /// Shared with documents of the same names. Names may follow that have no value: those of a longer document, which
-    /// begins with these.
+    /// Shared with documents of the same names. Names without a value may follow those of the fields: the names of a longer
+    /// document, which begin with these.
     names: Rc<Names>,
     values: Vec<Value>,
 }
 
-/// Fields, and how long their spelling is, if that is known.
+/// Fields, and the length of their encoding, if it is known.
 #[cycle(value)]
 #[derive(Debug)]
 pub(crate) struct Measured {
     fields: Fields,
-    /// Follows a value that is added, or put in place of one that is dropped; other changes forget it. Where there is one, the
-    /// fields are known to be valid at each of their levels, too, and to have at most 100 of these.
+    /// Updated when a value is added, or put in place of one that is dropped; other changes drop it. If there is one, the fields
+    /// are also known to be valid at each of their levels, and to have at most 100 levels.
     size: Option<u32>,
 }
 
@@ -115,7 +115,7 @@ pub(crate) enum Cover {
 #[cycle(value)]
 #[derive(Debug)]
 pub(crate) struct Overlay {
-    /// A field that is covered has null of its own.
+    /// A covered field has null as its own value.
     fields: Fields,
     /// One for each field.
     covers: Vec<Cover>,
@@ -125,7 +125,7 @@ pub(crate) struct Overlay {
 #[cycle(value)]
 #[derive(Debug, Drop)]
 pub(crate) enum Content {
-    /// No field, since a new document takes no memory.
+    /// No field: a new document takes no memory.
     Empty,
     /// Fields with values of their own.
     Own(Rc<Measured>),
@@ -133,7 +133,7 @@ pub(crate) enum Content {
     Over(Rc<Overlay>),
 }
 
-/// Fields in the order in which they were added. No two have one name, and no name holds a zero byte.
+/// Fields in the order in which they were added. No two have the same name, and no name holds a zero byte.
 #[cycle(value)]
 #[derive(Debug, Drop)]
 pub struct Document {

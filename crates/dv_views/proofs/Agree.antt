@@ -1,4 +1,4 @@
--- Where nothing is stale, what stands at positions is what stands over the lists.
+-- If no view is stale, the rows at positions are the rows over the lists.
 use Rattle.std.proofs.Common.{◌≡◌, ◌≤◌, ℕ, Bool, true, false, List, [], ◌∷◌, map, fold, ap, subst, ◌∙◌, arith}
 use Rattle.std.specs.Bool.{if◌then◌else◌}
 use Rattle.std.specs.Str.{bytes_eq}
@@ -20,13 +20,13 @@ abbrev pub FromScratch : Type 0
 FromScratch = (stages : List Stage) (source : List ℕ) (places : ListPlaces) (lists : Lists) → IsPositioned (places source) → HaveOneLength (places source) → ((name : List ℕ) → is_name_among name (names_read stages source) ≡ true → forget (places name) ≡ lists name)
     → forget (outs_of stages source places) ≡ evaluated stages source lists
 
--- positions of one length, with the rows that stand in a list
+-- rows at positions of one length; without the positions they are the rows of a list
 abbrev pub Agrees : Positioned → List Row → Type 0
 Agrees rows list = HaveOneLength rows × (forget rows ≡ list)
 
 module _ (scratch : FromScratch) where
   module _ (distances : List ℕ → ℕ) (places : ListPlaces) (lists : Lists) (agreed : (name : List ℕ) → distances name ≡ 0 → Agrees (places name) (lists name)) where
-    -- what a live view makes agrees, since it reads what does
+    -- the rows of a live view agree, since those that it reads do
     made-agrees : (m : ViewMark) (stages : List Stage) (source : List ℕ) → AreKept stages m (inputs_from stages source places) (evaluated stages source lists)
         → ((name : List ℕ) → is_name_among name (names_read stages source) ≡ true → distances name ≤ distance m) → distance m ≡ 0 → Agrees (outs_of stages source places) (evaluated stages source lists)
     made-agrees (live kept) stages source right read is =

@@ -1,4 +1,4 @@
--- The rows of a view stand at their `_id`s where those do on which it is based.
+-- If the rows that a view is based on are at their `_id`s, so are the rows of the view.
 use Rattle.std.proofs.Common.{◌≡◌, ◌<◌, ◌||◌, ℕ, zero, suc, Bool, true, false, List, [], ◌∷◌, map, take, length, Option, Some, None, cond, slice_get, refl, ap, sym, subst, ◌∙◌, arith}
 use Rattle.std.specs.Bool.{if◌then◌else◌}
 use Rattle.std.specs.List.{AllByRecursion, IsDistinct, list_any}
@@ -26,7 +26,7 @@ use Rattle.dv_views.proofs.Before.{no_view_before, place_within}
 use Rattle.dv_views.proofs.ById.{through_at_ids}
 use Rattle.dv_views.proofs.Shown.{no_view, places_untouched}
 
--- ---- what stands under the name of an older view
+-- ---- the rows under the name of an older view
 
 module _ {Y : Type 0} (name : List ℕ) where
   none-later : (n : List ℕ) (m : ℕ) (es : Entries Y) → bytes_eq name n ≡ true → AllByRecursion (λ other. bytes_eq n other ≡ false) (map (λ (v : View). v.name) (views es)) → list_any (λ (v : ViewForm). bytes_eq name v.name) (map view_form (views (take m es))) ≡ false
@@ -48,7 +48,7 @@ module _ {Y : Type 0} (name : List ℕ) where
       by false zero (Some j) is rest = omega arith
       by false (suc i) (Some j) is rest = let next : j ≡ i = cc in let h : i < n = rest i (ap Some next) in omega arith
 
-  -- it is what the view makes of what stands below it
+  -- they are the rows of the view's pipeline over what is older than the view
   placed-by : (n i : ℕ) (es : Entries Y) (b : Body) (places : ListPlaces) → AreNamedApart (views es) → place_of_name name (take n es) ≡ Some i → slice_get (values_of es) i ≡ Some b
       → places_over (map view_form (views (take n es))) places name ≡ outs_of b.stages b.source (places_over (map view_form (views (take i es))) places)
   unfolding IsDistinct

@@ -1,4 +1,4 @@
--- Views that stand before a place.
+-- Views before a place.
 use Rattle.std.proofs.Common.{◌≡◌, ◌<◌, ◌≤◌, ◌+◌, ℕ, zero, suc, Bool, true, false, List, [], ◌∷◌, map, take, length, Option, Some, None, cond, refl, ap, sym, ◌∙◌, arith, slice_get}
 use Rattle.std.specs.Prelude.{nat_lt}
 use Rattle.std.specs.Bool.{if◌then◌else◌}
@@ -21,7 +21,7 @@ use Rattle.dv_value.specs.Inner.ByteLaws.{bytes_eq-symmetric}
 
 -- ---- places of names
 
--- a place, where it is before another one
+-- a place, if it is before another one
 abbrev within : ℕ → Option ℕ → Option ℕ
 within n None = None
 within n (Some i) = cond (nat_lt i n) (Some i) None
@@ -119,7 +119,7 @@ module _ {Y : Type 0} (name : List ℕ) where
       by false zero (Some j) is rest = omega arith
       by false (suc i) (Some j) is rest = let at : j ≡ i = cc in let h : i < length es = rest i (ap Some at) in omega arith
 
-  -- ---- what views of names tell
+  -- ---- the changes that views of names pass on
 
   pub none_told_before : (es : Entries Y) → place_of_name name es ≡ None → told_named name es ≡ None
   none_told_before [] none = refl

@@ -1,4 +1,4 @@
--- What all views are behind changes.
+-- All views after changes.
 use Rattle.std.proofs.Common.{◌≡◌, inl, inr, ◌||◌, ℕ, Bool, true, false, List, [], ◌∷◌, ◌++◌, map, Option, Some, None, is_some, refl, ap, sym, subst, ◌∙◌, arith}
 use Rattle.std.specs.Bool.{if◌then◌else◌}
 use Rattle.std.specs.List.{AllByRecursion, list_any}
@@ -38,7 +38,7 @@ use Rattle.dv_views.proofs.Turns.{changed_parts, first-change, one-identified, o
 use Rattle.dv_views.proofs.OneBehind.{Leads, forms_after, next-agreed, next-leads, next-same, none_of, right-one}
 use Rattle.dv_order.specs.Inner.KeyLaws.{EqualKeysAreOne}
 
--- ---- all views behind the change
+-- ---- all views after the change
 
 module _ (scratch : FromScratch) (unread : UnreadDoesNotMatter) where
   right-from : (known : Known) (distances : List ℕ → ℕ) (places others : ListPlaces) (lists rows : Lists) (before : Views) (after : List Telling) → ((name : List ℕ) → distances name ≡ 0 → Leads (known name) (places name) (others name))
@@ -73,7 +73,7 @@ first-same namespace cs all lists name none = by (bytes_eq namespace name) none
     by true none = absurd cc
     by false none = refl
 
--- a change, told with what stands in a list
+-- a change, with the document of a list that is at its position
 abbrev pub told_of : List Row → Change → List taking.Taken
 told_of documents c = told_along (positioned documents) (c ∷ [])
 
@@ -100,14 +100,14 @@ module _ (one : EqualKeysAreOne) (namespace : List ℕ) where
           sym (first-change one c cs (lists name) (subst (λ (n : List ℕ). AllByRecursion HasId (lists n)) same all) (subst (λ (n : List ℕ). IsMade c (lists n)) same made))
       by false is = refl
 
-  -- behind the first change the others are made one after the other
+  -- after the first change the others are made, one after the other
   pub made_next : (c : Change) (cs : List Change) (lists : Lists) → AllByRecursion HasId (lists namespace) → AreMadeInTurn (c ∷ cs) (lists namespace)
       → AllByRecursion HasId (with_changed namespace (c ∷ []) lists namespace) × AreMadeInTurn cs (with_changed namespace (c ∷ []) lists namespace)
   made_next c cs lists all made =
       let own = own_changed namespace (c ∷ []) lists in
       (subst (AllByRecursion HasId) (sym own) (one-identified one c (lists namespace) all made.0), subst (AreMadeInTurn cs) (sym own) made.1)
 
--- one change, which views hand on
+-- one change, which views pass on
 pub right_after : FromScratch → UnreadDoesNotMatter → EqualKeysAreOne → (namespace : List ℕ) (c : Change) (lists : Lists) (before after : Views) → AllByRecursion HasId (lists namespace) → IsMade c (lists namespace) → AreRight lists before → AreOverLive no_distance after
     → HaveTaken (known_at namespace (told_of (lists namespace) c)) before after → AreRight (with_changed namespace (c ∷ []) lists) after
 right_after scratch unread one namespace c lists before after all made right over taken =
@@ -127,7 +127,7 @@ stale-still : (come : List Come) (m n : ViewMark) (o : Option (List taking.Taken
 stale-still come m n o (inl is) was = ap is_stale is
 stale-still come m n o (inr t) was = absurd (let e : false ≡ true = sym (ap is_stale t.was) ∙ was in cc)
 
--- what is told in memory is what the change makes of what stands there, where that is live; and it comes where that comes
+-- under each name there are changes in memory exactly if there are by definition, and under a live name these are the same
 module _ (known : Known) (now : Told) (distances : List ℕ → ℕ) (places : ListPlaces) (lists : Lists) (told : (name : List ℕ) → is_some (known name) ≡ is_some (now name)) (knows : (name : List ℕ) → distances name ≡ 0 → Knows known now places name) where
   told-any : (names : List (List ℕ)) → list_any (λ name. is_some (known name)) names ≡ list_any (λ name. is_some (now name)) names
   told-any [] = refl
@@ -189,7 +189,7 @@ module _ (known : Known) (now : Told) (distances : List ℕ → ℕ) (places : L
     own-known : is_some w.told ≡ is_some tells
     own-known = taken.tells ∙ reached-alike v.stages v.source ∙ sym (told-where (is_reached v.stages v.source now) (handed_by v.stages (arrivals v.stages v.source now) (inputs_from v.stages v.source places)))
 
-    -- what the view tells
+    -- the changes that the view passes on
     abbrev own : Bool → Option (List taking.Taken)
     own b = option_map (told_along (outs_of v.stages v.source places)) (if b then Some (handed_by v.stages (arrivals v.stages v.source now) (inputs_from v.stages v.source places)) else None)
 
@@ -226,7 +226,7 @@ counted-from known now distances places lists (v ∷ vs) (w ∷ ws) told knows r
       (next-told known now distances places lists told knows v w taken.0 right.0) (next-knows known now distances places lists told knows v w taken.0 right.0) right.1 taken.1,
 )
 
--- a change of what stands under a namespace, over lists
+-- a change of the documents under a namespace, over lists
 abbrev pub flow_of : List ℕ → Change → Lists → Flow
 flow_of namespace c lists = record { places = list_places lists; told = told_at namespace (c ∷ []) }
 
@@ -251,9 +251,9 @@ counted_after namespace c lists before after right taken =
     subst (λ (vs : Views). AreCounted (shares_of (flow_of namespace c lists) (map view_form before)) before vs) taken.views
     (counted-from (known_at namespace told) (told_at namespace (c ∷ [])) no_distance (list_places lists) lists before taken.tellings (first-told namespace c told) (λ name zero. first-knows namespace c lists name) right taken.taken)
 
--- ---- changes that views hand on, one after the other
+-- ---- changes that views pass on, one after the other
 
--- views behind changes that a collection made, where these were told in a way
+-- views after changes that a collection made, if these were passed on as `AreTold` says
 pub record HaveFollowed (namespace : List ℕ) (changes : List Change) (AreTold : List Row → Type 0) (before after : Views) : Type 0 where
   pub forms : map view_form after ≡ map view_form before
   pub right : (lists : Lists) → AreMade changes (lists namespace) → AreTold (lists namespace) → AreRight lists before → AreRight (with_changed namespace changes lists) after
@@ -332,7 +332,7 @@ follow_more scratch unread one namespace cs c some all before now after first fr
     last-taken lists made told =
         subst (λ (documents : List Row). HaveTaken (known_at namespace (told_of documents c)) now after) (sym (own_changed namespace cs lists)) (taken (lists namespace) made.identified (made_front cs c (lists namespace) made.in_turn) told)
 
--- ---- changes that are told with what stood there
+-- ---- changes that are passed on with the rows that were there before
 
 abbrev pub AreToldIn : List taking.Taken → List Row → Type 0
 AreToldIn all documents = AreToldOf (positioned documents) all
@@ -345,7 +345,7 @@ told-last : (rows : Positioned) (some : List taking.Taken) (t : taking.Taken) �
 told-last rows [] t told = told.0
 told-last rows (u ∷ us) t told = told-last (with_change rows (change_told u)) us t told.1
 
--- the rows behind changes stand at their own positions
+-- the rows after changes are at their own positions
 all-own : EqualKeysAreOne → (cs : List Change) (ds : List Row) → AllByRecursion HasId ds → AreMadeInTurn cs ds → with_changes (positioned ds) cs ≡ positioned (documents_changed cs ds)
 all-own one [] ds all made = ap positioned (sym (forgotten ds))
 all-own one (c ∷ cs) ds all made =
@@ -353,7 +353,7 @@ all-own one (c ∷ cs) ds all made =
     ∙ all-own one cs (documents_changed (c ∷ []) ds) (one-identified one c ds all made.0) made.1
     ∙ ap positioned (sym (first-change one c cs ds all made.0))
 
--- one more of those that are told so
+-- one more change that is passed on with the row that was there before
 pub follow_told : FromScratch → UnreadDoesNotMatter → EqualKeysAreOne → (namespace : List ℕ) (some : List taking.Taken) (t : taking.Taken) (before now after : Views) → HaveFollowed namespace (changes_told some) (AreToldIn some) before now
     → HaveTaken (known_at namespace (t ∷ [])) now after → AreOverLive no_distance after → HaveFollowed namespace (changes_told (some ++ t ∷ [])) (AreToldIn (some ++ t ∷ [])) before after
 follow_told scratch unread one namespace some t before now after first taken over =

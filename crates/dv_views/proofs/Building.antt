@@ -1,4 +1,4 @@
--- What a view keeps as it is made, over older views and documents.
+-- What a view keeps when it is created or recomputed, over older views and documents.
 use Rattle.std.proofs.Common.{◌≡◌, ◌+◌, ◌<◌, ℕ, zero, suc, List, [], ◌∷◌, ◌++◌, map, length, take, drop, slice_get, Option, Some, None, refl, ap, sym, subst, ◌∙◌, append_assoc, length-append, arith}
 use Rattle.std.proofs.lemmas.List.{length-map, map_push}
 use Rattle.std.specs.Prelude.{Result, Ok, Err, IfOk}
@@ -36,7 +36,7 @@ use Rattle.dv_views.proofs.Coming.{each_there, list_comes, list_takes}
 use Rattle.dv_views.proofs.Filling.{firsts_told, puts_lead}
 use Rattle.dv_views.proofs.Marked.{take_count, take_last}
 
--- ---- documents in order stand at exact positions, in their order
+-- ---- documents in order are at exact positions, which are in order
 
 below-first : (d : Row) (ds : List Row) → AllByRecursion (λ k. key_order (id_key d) k ≡ Less) (map id_key ds) → AllByRecursion (λ p. pos_order (own_position d) p ≡ Less) (keys_of (positioned ds))
 below-first d [] all = tt
@@ -58,19 +58,19 @@ exact-places (d ∷ ds) = ((own-key d, tt), exact-places ds)
 pub places_are_positioned : (ds : List Row) → IsAscending ds → IsPositioned (positioned ds)
 places_are_positioned ds ascending = record { ascending = ascending-places ds ascending; exact = exact-places ds }
 
--- ---- what stands under a name
+-- ---- the rows under a name
 
 pub live_placed : (mark : ViewMark) (rows : ToldRows StageOperator) → mark ≡ live (kept_seen rows) → IsSoundLive rows → IsLive mark × IsPositioned (outs_of_mark mark)
 live_placed mark rows is sound = subst (λ (m : ViewMark). IsLive m × IsPositioned (outs_of_mark m)) (sym is) (tt, sound.positioned)
 
--- what holds whatever comes
+-- what holds in any case also holds if the result is `Ok`
 pub whatever : {T E : Type 0} {P : Type 0} (r : Result T E) → P → IfOk r (λ _. P)
 whatever (Ok x) holds = holds
 whatever (Err e) holds = tt
 
--- ---- the lists that are looked into
+-- ---- the lists that are read by `$lookup`
 
--- rows that come to a list of which none came yet
+-- a list takes in its rows, none of which was taken in before
 pub list_filled : (i : ℕ) (front back : List Positioned) (list : Positioned) (firsts : List taking.Taken) (before after : Kept) (first told : List taking.Taken) → i ≡ length front → IsPositioned list → firsts ≡ firsts_of list → Turns (coming (Named i) (Some firsts)) before first after told
     → (stages : List Stage) → HasMade stages before (record { left = []; named = front ++ [] ∷ back }) → HasMade stages after (record { left = []; named = front ++ list ∷ back })
 list_filled i front back list firsts before after first told e are is turns stages made =
@@ -80,7 +80,7 @@ list_filled i front back list firsts before after first told e are is turns stag
     let turned = turns stages (record { left = []; named = front ++ [] ∷ back }) (arriving (Named i) (Some (puts_of list))) made (each_there (front ++ [] ∷ back) (Named i) (puts_of list) there) come in
     subst (λ (t : Inputs). HasMade stages after t) (list_takes i front back e [] (puts_of list) [] ∙ ap (λ (rows : Positioned). record { left = []; named = front ++ rows ∷ back }) (puts_lead list are)) turned.made
 
--- the names from a place on
+-- the names that begin at a place
 pub dropped : (names : List (List ℕ)) (i : ℕ) (name : List ℕ) → slice_get names i ≡ Some name → drop i names ≡ name ∷ drop (i + 1) names
 dropped names i name there = at names i there ∙ ap (λ n. name ∷ drop n names) (let e : suc i ≡ i + 1 = omega arith in e)
   where
@@ -123,7 +123,7 @@ module _ (older : Views) (lists : Lists) where
   more_placed [] name all one = (one, tt)
   more_placed (n ∷ names) name all one = (all.0, more_placed names name all.1 one)
 
-  -- what was made of all that is read is what a view keeps
+  -- stages that have taken in all that is read are what a view keeps
   pub built : (stages : List Stage) (source : List ℕ) (kept : Kept) → AllByRecursion (IsPlacedUnder older lists) (lookups_of stages source) → IsPlacedUnder older lists source → HasMade stages kept (inputs_from stages source (outs_below older lists)) → kept.ticks ≡ 0
       → IsBuilt stages source older lists (live kept)
   built stages source kept placed own made ticks = (made, ticks, (own.0, all-live (lookups_of stages source) placed))

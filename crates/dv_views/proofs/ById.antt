@@ -1,4 +1,4 @@
--- Rows that stand at their `_id`s still do behind stages that leave these as they are.
+-- Rows that are at their `_id`s still are after stages that leave these as they are.
 use Rattle.std.proofs.Common.{◌≡◌, ◌||◌, ℕ, zero, suc, Bool, true, false, not, List, [], ◌∷◌, ◌++◌, map, filter, take, drop, codes, cond, Option, Some, None, refl, ap, sym, subst, ◌∙◌}
 use Rattle.std.specs.Bool.{if◌then◌else◌}
 use Rattle.std.specs.List.{list_any}
@@ -36,7 +36,7 @@ not-true : (b : Bool) → not b ≡ true → b ≡ false
 not-true true e = absurd cc
 not-true false e = refl
 
--- ---- rows that change behind their first fields
+-- ---- rows that change after their first fields
 
 abbrev Begins : Field → Row → Type 0
 Begins f d = (fs : Row) × (d ≡ f ∷ fs)

@@ -1,4 +1,4 @@
--- What is told under names comes to the inputs of a view, each change with what stood there.
+-- The changes under names reach the inputs of a view, each with the row that was there before.
 use Rattle.std.proofs.Common.{◌≡◌, ◌+◌, ◌<◌, ℕ, zero, suc, Bool, true, false, List, [], ◌∷◌, ◌++◌, map, length, fold, Option, Some, None, refl, ap, sym, subst, ◌∙◌, append_assoc, arith}
 use Rattle.std.specs.List.{AllByRecursion}
 use Rattle.std.specs.Option.{option_map}
@@ -25,7 +25,7 @@ use Rattle.dv_views.specs.Views.{Inputs, inputs_from}
 use Rattle.dv_views.proofs.Filling.{changed_mid, longer}
 use Rattle.dv_views.proofs.Right.{itself, or-left, or-right}
 
--- ---- changes that are told with what stood there
+-- ---- changes that are passed on with the rows that were there before
 
 abbrev taken_of : PosTree → Option (List Field) → Option (List Field) → taking.Taken
 taken_of pos old new = record { pos = pos; old = old; new = new }
@@ -37,7 +37,7 @@ told_is rows t same = by t.pos t.old t.new same
     by pos old None same = λ i. record { pos = pos; old = same i; new = None }
     by pos old (Some row) same = λ i. record { pos = pos; old = same i; new = Some row }
 
--- they are those that are told along the rows, and these are told so
+-- they are what `told_along` returns, and what `told_along` returns are such changes
 pub along_told : (rows : Positioned) (all : List taking.Taken) → AreToldOf rows all → all ≡ told_along rows (changes_told all)
 along_told rows [] told = refl
 along_told rows (t ∷ ts) told =
@@ -64,7 +64,7 @@ left-come : (o : Option (List Change)) (left : Positioned) (named : List Positio
 left-come None left named = refl
 left-come (Some changes) left named = lefts-come changes left named
 
--- the rows behind what is told
+-- the rows after the changes
 abbrev pub rows_behind : Option (List Change) → Positioned → Positioned
 rows_behind None rows = rows
 rows_behind (Some changes) rows = with_changes rows changes
@@ -109,7 +109,7 @@ module _ (i : ℕ) (front back : List Positioned) (e : i ≡ length front) (left
 
 -- ---- all inputs
 
--- what is told under a name is what changes there, told with what stood there
+-- what is known under a name are its changes, each with the row that was there before
 abbrev pub Knows : Known → Told → ListPlaces → List ℕ → Type 0
 Knows known told places name = known name ≡ option_map (told_along (places name)) (told name)
 
@@ -126,7 +126,7 @@ module _ (told : Told) (places : ListPlaces) where
       list-taken i front (map places names) e left (told name) (places name)
       ∙ ap (λ (ls : List Positioned). record { left = left; named = ls }) (sym (append_assoc front (behind name ∷ []) (map places names)))
 
-  -- each list that is looked into takes in what is told under its name
+  -- each list that is read by `$lookup` takes in the changes under its name
   lists-taken : (i : ℕ) (names : List (List ℕ)) (front : List Positioned) (left : Positioned) → i ≡ length front
       → taken_by (record { left = left; named = front ++ map places names }) (arriving_at_lists i names told) ≡ record { left = left; named = front ++ map behind names }
   lists-taken i [] front left e = refl
@@ -154,7 +154,7 @@ module _ (told : Told) (places : ListPlaces) where
         let next = rest ∙ ap (come_along (arriving_at_lists (suc i) names told)) (sym (next-list i name names front left e)) in
         (λ j. here j ++ next j) ∙ sym (along-both (arriving (Named i) (told name)) (arriving_at_lists (suc i) names told) t)
 
-    -- what is told under names comes to the inputs with what stands there
+    -- the changes under names reach the inputs with the rows that are there
     pub all_come : (stages : List Stage) (source : List ℕ) → ((name : List ℕ) → is_name_among name (names_read stages source) ≡ true → Knows known told places name)
         → coming_to stages source known ≡ come_along (arrivals stages source told) (inputs_from stages source places)
     all_come stages source knows =
@@ -166,7 +166,7 @@ module _ (told : Told) (places : ListPlaces) where
         let next = rest ∙ ap (come_along (arriving_at_lists 0 lookups told)) (sym (left-taken (told source) (places source) (map places lookups))) in
         (λ j. here j ++ next j) ∙ sym (along-both (arriving Left (told source)) (arriving_at_lists 0 lookups told) t)
 
--- ---- each input is there
+-- ---- each input exists
 
 all-both : (P : Arrival → Type 0) (xs ys : List Arrival) → AllByRecursion P xs → AllByRecursion P ys → AllByRecursion P (xs ++ ys)
 all-both P [] ys all others = others

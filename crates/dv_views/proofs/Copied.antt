@@ -1,4 +1,4 @@
--- Documents that are kept beside views: how they are found, and what changes make of them.
+-- Documents that are kept with views: how they are found, and how changes update them.
 use Rattle.std.proofs.Common.{◌≡◌, ℕ, Bool, true, false, List, [], ◌∷◌, Option, Some, None, is_some, cond, refl, ap, sym, subst, ◌∙◌}
 use Rattle.std.proofs.lemmas.Map.Text.{hash_map_updates_text}
 use Rattle.std.proofs.lemmas.Slice.Eq.{bytes_eq-Decides}
@@ -94,7 +94,7 @@ module _ (name : List ℕ) (copy : Option Positioned) (before after : NamedCopie
   pub other_copy : (other : List ℕ) → bytes_eq name other ≡ false → copy_under other after ≡ copy_under other before
   other_copy other away = have other ∙ ap (λ (b : Bool). if b then copy else copy_under other before) away
 
-  -- whatever holds of each copy by its name, where it holds of this one
+  -- what holds of each copy by its name still holds, if it holds of this one
   pub all_copies : (P : List ℕ → Option Positioned → Type 0) → P name copy → ((other : List ℕ) → P other (copy_under other before)) → (other : List ℕ) → P other (copy_under other after)
   all_copies P one all other = by (bytes_eq name other) refl
     where
@@ -102,7 +102,7 @@ module _ (name : List ℕ) (copy : Option Positioned) (before after : NamedCopie
       by true is = subst (λ (n : List ℕ). P n (copy_under n after)) ((bytes_eq-Decides name other).0 is) (subst (P name) (sym own_copy) one)
       by false away = subst (P other) (sym (other_copy other away)) (all other)
 
--- nothing is kept where nothing was
+-- nothing is kept under a name if nothing was
 pub still_none : (name : List ℕ) (copies : NamedCopies) → copy_under name copies ≡ None → HaveCopy name None copies copies
 still_none name copies none other = by (bytes_eq name other) refl
   where
@@ -110,7 +110,7 @@ still_none name copies none other = by (bytes_eq name other) refl
     by true is = subst (λ (n : List ℕ). copy_under n copies ≡ None) ((bytes_eq-Decides name other).0 is) none
     by false away = refl
 
--- what is kept last
+-- of two copies under a name, the last one is kept
 pub copy_over : (name : List ℕ) (first last : Option Positioned) (before now after : NamedCopies) → HaveCopy name first before now → HaveCopy name last now after → HaveCopy name last before after
 copy_over name first last before now after have over other = over other ∙ ap (λ (there : Option Positioned). if bytes_eq name other then last else there) (have other) ∙ by (bytes_eq name other)
   where
@@ -118,7 +118,7 @@ copy_over name first last before now after have over other = over other ∙ ap (
     by true = refl
     by false = refl
 
--- where a copy is, if there is one, it is in the order of its positions
+-- a copy, if there is one, is in the order of its positions
 abbrev pub IsPositionedCopy : Option Positioned → Type 0
 IsPositionedCopy copy = (rows : Positioned) → copy ≡ Some rows → IsPositioned rows
 
@@ -155,5 +155,3 @@ module _ (views : Views) (before after : NamedCopies) (have : HaveCopiesRead vie
 pub copies_with : (name : List ℕ) (documents : List Row) (before after : NamedCopies) (lists : Lists) → HaveCopy name (Some (positioned documents)) before after → documents ≡ lists name → AreCopies lists before → AreCopies lists after
 copies_with name documents before after lists have same are =
     all_copies name (Some (positioned documents)) before after have (λ other copy. IsCopy copy (lists other)) (ap positioned same) are
-
--- ---- names that are asked for

@@ -1,4 +1,4 @@
--- Views in memory: what looking up, adding, writing and taking out an entry makes of them.
+-- Views in memory, when an entry is looked up, added, written or removed.
 use Rattle.std.proofs.Common.{◌≡◌, Bor, ℕ, Bool, true, false, not, List, [], ◌∷◌, ◌++◌, map, Option, Some, None, is_some, cond, refl, ap, sym, ◌∙◌, ◌||◌}
 use Rattle.std.proofs.lemmas.Slice.Eq.{bytes_eq-Decides}
 use Rattle.std.specs.List.{AllByRecursion, IsDistinct, list_any}
@@ -42,7 +42,7 @@ module _ {Y : Type 0} where
   there name [] = refl
   there name (e ∷ es) = there-met (is_called name e.0) e.1 (lookup (is_called name) es) (has_view name (views es)) (there name es)
 
-  -- a new name is that of no key
+  -- a new name is no entry's key
   pub none_there : (name : List ℕ) (es : Entries Y) → has_view name (views es) ≡ false → lookup (is_called name) es ≡ None
   none_there name es away = no-some (lookup (is_called name) es) (sym (there name es) ∙ away)
 
@@ -73,7 +73,7 @@ module _ {Y : Type 0} where
   others name n [] same h = tt
   others name n (e ∷ es) same h = (ap (λ m. bytes_eq m (string_bytes e.0)) ((bytes_eq-Decides name n).0 same) ∙ h.0, others name n es same h.1)
 
-  -- ---- taking out
+  -- ---- removing
 
   none-out : (name : List ℕ) (es : Entries Y) → AreOthers name es → views_without name (views es) ≡ views es
   none-out name [] h = refl

@@ -1,4 +1,4 @@
--- Rows at positions, put into empty lists one after the other, stand there.
+-- Rows at positions that are put into an empty list one after the other are its rows afterwards.
 use Rattle.std.proofs.Common.{◌≡◌, ℕ, zero, suc, List, [], ◌∷◌, ◌++◌, length, fold, None, Some, cond, refl, ap, sym, subst, ◌∙◌, append_assoc, append-nil}
 use Rattle.std.specs.BTreeMap.{insert_entry}
 use Rattle.std.specs.List.{AllByRecursion}
@@ -61,13 +61,13 @@ filled front (e ∷ back) ascending =
     ∙ filled (front ++ e ∷ []) back (subst (λ (all : Positioned). IsStrictlySortedBy pos_order (keys_of all)) (sym (append_assoc front (e ∷ []) back)) ascending)
     ∙ append_assoc front (e ∷ []) back
 
--- ---- rows that come where none were
+-- ---- rows that are inserted where there were none
 
 puts-fold : (es rows : Positioned) → with_changes rows (puts_of es) ≡ fold put_in rows es
 puts-fold [] rows = refl
 puts-fold (e ∷ es) rows = puts-fold es (put_in rows e)
 
--- they are all
+-- afterwards they are all of its rows
 pub puts_lead : (es : Positioned) → IsPositioned es → with_changes [] (puts_of es) ≡ es
 puts_lead es are = puts-fold es [] ∙ filled [] es are.ascending
 
@@ -85,7 +85,7 @@ told-behind front (e ∷ back) ascending =
     ∙ ap (λ (rows : Positioned). told_along rows (puts_of back)) (sym (put-last front e.0 e.1 below)) in
     λ i. record { pos = e.0; old = sym none i; new = Some e.1 } ∷ rest i
 
--- they are told with nothing that stood there
+-- they come with no row that was there before
 pub firsts_told : (es : Positioned) → IsPositioned es → firsts_of es ≡ told_along [] (puts_of es)
 firsts_told es are = told-behind [] es are.ascending
 

@@ -1,4 +1,4 @@
--- How high views stand, and what they need, from one to the next.
+-- The heights of views, and what they need, from one view to the next.
 use Rattle.std.proofs.Common.{◌≡◌, ◌≤◌, ◌<◌, ◌+◌, ◌-◌, ℕ, zero, suc, Bool, true, false, List, [], ◌∷◌, ◌++◌, ◌||◌, map, drop, fold, length, Option, Some, None, slice_get, refl, ap, sym, subst, ◌∙◌, arith, get_or}
 use Rattle.std.specs.Prelude.{◌&&◌, max, nat_lt}
 use Rattle.std.specs.Bool.{if◌then◌else◌}
@@ -86,7 +86,7 @@ module _ {Y : Type 0} (stages : List Stage) (source : List ℕ) where
             subst (λ (b : Bool). high name ≤ highest_read (if b then max first e.1.height else first) es) (sym (ap (is_read stages source) (sym same) ∙ read)) (omega (arith, here, more))
         by false is there rest = rest _ there
 
-    -- names that are read and no view's add nothing
+    -- names that are read but are no view's add nothing
     pub highest_is : (es : Entries Y) → HaveHeights high es → ((name : List ℕ) → has_view name (views es) ≡ false → high name ≡ 0) → highest_read 0 es ≡ fold (λ so_far name. max so_far (high name)) 0 (names_read stages source)
     highest_is es kept none =
         let below : highest_read 0 es ≤ highest = read-low highest 0 es kept (λ name read. highest-among high 0 (names_read stages source) name (sym (read_among stages source name) ∙ read)) (omega arith) in
@@ -102,14 +102,14 @@ module _ {Y : Type 0} (stages : List Stage) (source : List ℕ) where
 
 -- ---- the heights of views
 
--- what is no view's name is as high as before
+-- a name that is no view's has the same height as before
 height-elsewhere : (name : List ℕ) (below : List ℕ → ℕ) (vs : Views) → has_view name vs ≡ false → fold (λ below v. with_height v below) below (map view_form vs) name ≡ below name
 height-elsewhere name below [] away = refl
 height-elsewhere name below (v ∷ vs) away =
     let both = or_parts (bytes_eq name v.name) (has_view name vs) away in
     height-elsewhere name (with_height (view_form v) below) vs both.1 ∙ ap (λ (b : Bool). if b then height_over below v.stages v.source else below name) both.0
 
--- each is at most their number
+-- each height is at most the number of views
 height-low : (n : ℕ) (below : List ℕ → ℕ) (vs : List ViewForm) → ((name : List ℕ) → below name ≤ n) → (name : List ℕ) → fold (λ below v. with_height v below) below vs name ≤ n + length vs
 height-low n below [] low name = let here : below name ≤ n = low name in omega (arith, here)
 height-low n below (v ∷ vs) low name =
@@ -146,7 +146,7 @@ module _ {Y : Type 0} where
   heights-last high [] e kept own = (own, tt)
   heights-last high (f ∷ es) e kept own = (kept.0, heights-last high es e kept.1 own)
 
-  -- one more behind the others
+  -- one more view after the others
   pub heights_added : (es : Entries Y) (e : String Y × Body) → has_view (string_bytes e.0) (views es) ≡ false → e.1.height ≡ height_over (heights (forms_of es)) e.1.stages e.1.source → HaveHeights (heights (forms_of es)) es
       → HaveHeights (heights (forms_of (es ++ e ∷ []))) (es ++ e ∷ [])
   heights_added es e new own kept =
@@ -155,7 +155,7 @@ module _ {Y : Type 0} where
       (heights-last (with_height v (heights (forms_of es))) es e (heights-under (heights (forms_of es)) v es new kept)
       (own ∙ ap (λ (b : Bool). if b then height_over (heights (forms_of es)) v.stages v.source else heights (forms_of es) v.name) (sym (itself v.name))))
 
-  -- a pipeline stands one higher than the highest view that it reads, and no higher than their number and one
+  -- the height of a pipeline is one more than that of the highest view that it reads, and at most one more than the number of views
   pub highest_found : (es : Entries Y) (before : Views) (stages : List Stage) (source : List ℕ) → views es ≡ before → HaveHeights (heights (forms_of es)) es
       → suc (highest_read stages source 0 es) ≡ height_over (heights (map view_form before)) stages source
   highest_found es before stages source over kept =
@@ -172,7 +172,7 @@ module _ {Y : Type 0} where
           let many = length-map (views es) view_form ∙ length-map es entry_view in
           omega (arith, most, many)
 
-  -- ---- what is needed, from the youngest view on
+  -- ---- what is needed, from the youngest view to the oldest
 
   pub needed_next : (n m : ℕ) (es : Entries Y) (e : String Y × Body) (names : List (List ℕ)) → m ≡ suc n → slice_get es n ≡ Some e
       → needed (drop n (forms_of es)) names ≡ (if is_name_among (string_bytes e.0) (needed (drop m (forms_of es)) names) then needed (drop m (forms_of es)) names ++ names_read e.1.stages e.1.source else needed (drop m (forms_of es)) names)
@@ -209,9 +209,9 @@ among_next name other names i h is = at names i h is ∙ (let more : suc i ≡ i
     at (n ∷ ns) zero h is = λ k. (ap (bytes_eq name) (sym is) ∙ bytes_eq-symmetric name other) k || is_name_among name ns
     at (n ∷ ns) (suc i) h is = at ns i (omega arith) is
 
--- ---- why there can be no new view
+-- ---- why a new view is refused
 
--- the first fault that holds, by what is asked of it
+-- the first fault that applies, by which of the conditions hold
 abbrev told : Bool → Bool → Bool → Bool → Option ViewFault
 told called read few near = if called then Some Exists else if read then Some ReadByView else if few && near then None else Some LimitReached
 

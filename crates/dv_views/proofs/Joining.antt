@@ -1,4 +1,4 @@
--- A view that was just made, behind others or among them.
+-- A view that was just made, after others or among them.
 use Rattle.std.proofs.Common.{◌≡◌, ◌≤◌, ◌||◌, ℕ, zero, suc, Bool, true, false, List, [], ◌∷◌, ◌++◌, map, take, fold, Option, Some, None, refl, ap, sym, subst, ◌∙◌, arith}
 use Rattle.std.specs.Bool.{if◌then◌else◌}
 use Rattle.std.specs.List.{AllByRecursion}
@@ -27,7 +27,7 @@ each_among P (n ∷ names) name all among = by (bytes_eq name n) refl among (eac
     by true is among rest = subst P (sym ((bytes_eq-Decides name n).0 is)) all.0
     by false is among rest = rest among
 
--- ---- what stands under a name that is read
+-- ---- the rows under a name that is read
 
 module _ (scratch : FromScratch) (unread : UnreadDoesNotMatter) (lists others : Lists) (older : Views) (apart : AreNamedApart older) (right : AreRight lists older) where
   abbrev places : ListPlaces
@@ -92,7 +92,7 @@ pub fresh_built : (stages : List Stage) (source : List ℕ) (older : Views) (lis
 fresh_built stages source older lists (live k) built = record { live = refl; ticks = built.1 }
 fresh_built stages source older lists stale built = absurd built
 
--- ---- a view behind the others
+-- ---- a view after the others
 
 pub over_append : (distances : List ℕ → ℕ) (vs : Views) (w : View) → AreOverLive distances vs → ((name : List ℕ) → reads w name ≡ true → fold (λ below v. with_distance v below) distances vs name ≤ distance w.mark) → AreOverLive distances (vs ++ w ∷ [])
 over_append distances [] w over last = (last, tt)
@@ -106,7 +106,7 @@ set_view n w [] = []
 set_view zero w (v ∷ vs) = w ∷ vs
 set_view (suc n) w (v ∷ vs) = v ∷ set_view n w vs
 
--- nearer to being live, what is read holds no view back
+-- if what views read is nearer to being live, it is still no farther from that than the views are
 over_lower : (near far : List ℕ → ℕ) (vs : Views) → ((name : List ℕ) → near name ≤ far name) → AreOverLive far vs → AreOverLive near vs
 over_lower near far [] below over = tt
 over_lower near far (v ∷ vs) below over = (
@@ -127,7 +127,7 @@ farthest (live k) is = absurd cc
 farthest stale is = refl
 
 module _ (w : View) where
-  -- the view at a place is a stale one of its form
+  -- the view at a place is stale and has this view's form
   abbrev pub Replaces : ℕ → Views → Type 0
   Replaces n [] = ⊥
   Replaces zero (v ∷ vs) = (view_form w ≡ view_form v) × (is_stale v.mark ≡ true)

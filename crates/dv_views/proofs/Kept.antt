@@ -1,4 +1,4 @@
--- Views behind changes, and what is kept for them.
+-- Views after changes, and what is kept for them.
 use Rattle.std.proofs.Common.{◌≡◌, ℕ, Bool, true, false, List, [], ◌∷◌, ◌++◌, Option, Some, None, Result, Ok, Err, OnErr, refl, ap, sym, subst, ◌∙◌}
 use Rattle.std.proofs.lemmas.Slice.Eq.{bytes_eq-Decides}
 use Rattle.std.specs.Bool.{if◌then◌else◌}
@@ -32,7 +32,7 @@ use Rattle.dv_order.specs.Inner.KeyLaws.{EqualKeysAreOne}
 abbrev pub AreKeptIn : List ℕ → KeptViews → List Row → Type 0
 AreKeptIn namespace kept documents = IsCopy (copy_under namespace kept.copies) documents
 
--- views behind changes of a namespace, and what is kept for them
+-- views after changes of a namespace, and what is kept for them
 pub record HaveKept (namespace : List ℕ) (changes : List Change) (before after : KeptViews) : Type 0 where
   pub followed : HaveFollowed namespace changes (AreKeptIn namespace before) before.views after.views
   pub copy : (documents : List Row) → AllByRecursion HasId documents → AreMadeInTurn changes documents → AreKeptIn namespace before documents → AreKeptIn namespace after (documents_changed changes documents)
@@ -47,7 +47,7 @@ kept_none namespace kept = record {
   others = λ name away. refl;
 }
 
--- what stands there, where a copy of it is kept
+-- the rows there, if a copy of them is kept
 are-there : (copy : Option Positioned) (rows : Positioned) (documents : List Row) → copy ≡ Some rows → IsCopy copy documents → rows ≡ positioned documents
 are-there None rows documents there are = absurd cc
 are-there (Some others) rows documents there are = let same : rows ≡ others = cc in same ∙ are
@@ -85,7 +85,7 @@ module _ (scratch : FromScratch) (unread : UnreadDoesNotMatter) (one : EqualKeys
   pub kept_more : HaveTakenChange namespace c now after → HaveKept namespace (cs ++ c ∷ []) before after
   kept_more step = more step.told step.copies step.views step.live
 
--- ---- what holds behind all
+-- ---- what holds after all changes
 
 module _ (namespace : List ℕ) (cs : List Change) (before after : KeptViews) (all : HaveKept namespace cs before after) (lists : Lists) (made : AreMade cs (lists namespace)) where
   copies-after : AreCopies lists before.copies → AreCopies (with_changed namespace cs lists) after.copies
@@ -116,12 +116,12 @@ module _ (namespace : List ℕ) (cs : List Change) (before after : KeptViews) (a
     read = read-after right.read;
   }
 
--- ---- what is left where only that is kept which views read
+-- ---- what is left if only what views read is kept
 
 pub left_right : (lists : Lists) (views : Views) (before after : NamedCopies) → HaveCopiesRead views before after → AreRight lists views → AreCopies lists before → AreKeptRight lists (record { views = views; copies = after })
 left_right lists views before after have right are = record { views = right; copies = copies_left views before after have lists are; read = read_left views before after have }
 
--- when memory runs out, what holds in any case
+-- what holds in any case also holds if memory runs out
 pub where_wanting : {T E : Type 0} (P : Type 0) (r : Result T E) → P → OnErr r P
 where_wanting P (Ok done) holds = tt
 where_wanting P (Err fault) holds = holds

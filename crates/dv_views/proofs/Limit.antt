@@ -11,7 +11,7 @@ use Rattle.dv_views.specs.declared.fault.ViewFault.{ViewFault}
 use Rattle.dv_views.specs.declared.fault.ViewFault.TheVariants.{Exists, ReadByView, LimitReached}
 use Rattle.dv_views.specs.Forms.{ViewForm, fault_of_new, height_over, heights, is_read_by, most_height, most_views}
 
--- the first fault that holds, by what is asked of it
+-- the first fault that applies, by which of the conditions hold
 abbrev told : Bool → Bool → Bool → Bool → Option ViewFault
 told named read few low = if named then Some Exists else if read then Some ReadByView else if few && low then None else Some LimitReached
 

@@ -1,4 +1,4 @@
--- Lists of places in memory: what looking up, adding and taking out make of them.
+-- Lists of places in memory, when a place is looked up, added or removed.
 use Rattle.std.proofs.Common.{◌≡◌, ◌<◌, ◌+◌, ◌||◌, ℕ, zero, suc, Bool, true, false, not, List, [], ◌∷◌, ◌++◌, map, take, drop, length, Option, Some, None, is_some, cond, get_or, set, refl, ap, sym, subst, ◌∙◌, arith, Vec}
 use Rattle.std.specs.Prelude.{◌==◌}
 use Rattle.std.specs.Bool.{if◌then◌else◌}
@@ -58,7 +58,7 @@ module _ {Y Z : Type 0} where
   seen_more [] e = refl
   seen_more (f ∷ es) e = ap (λ (ls : Listing). (string_bytes f.0, f.1.items) ∷ ls) (seen_more es e)
 
-  -- ---- a place that goes
+  -- ---- a place that is removed
 
   kept-list : (name : String Y) (w : Vec ℕ Z) (rest : Kept Y Z) (b : Bool) (ps : List ℕ) → w.items ≡ ps → b ≡ not (length ps == 0) → listing_seen (cond b ((name, w) ∷ rest) rest) ≡ listed_before (string_bytes name) ps (listing_seen rest)
   kept-list name w rest true [] items is = absurd cc
@@ -99,7 +99,7 @@ module _ (f : ℕ → ℕ) where
       at zero (x ∷ xs) h is = ap (λ (z : ℕ). z ∷ map f xs) (sym is)
       at (suc i) (x ∷ xs) h is = ap (λ (zs : List ℕ). x ∷ zs) (at i xs (omega arith) is)
 
--- ---- lists copied with a view more
+-- ---- lists copied with one more view
 
 -- the lists so far have the view, and those that are left don't
 pub record HaveView (views : List ViewForm) (more : ViewForm) (left listing : Listing) : Type 0 where

@@ -1,4 +1,4 @@
--- Views behind changes for which memory may be wanting.
+-- Views after changes for which memory may run out.
 use Rattle.std.proofs.Common.{◌≡◌, ℕ, Bool, true, false, List, [], ◌∷◌, ◌++◌, map, take, Option, Some, None, is_some, append_assoc, append-nil, refl, ap, sym, subst, ◌∙◌}
 use Rattle.std.proofs.lemmas.List.{map_push}
 use Rattle.std.proofs.lemmas.Slice.Eq.{bytes_eq-Decides}
@@ -30,7 +30,7 @@ use Rattle.dv_views.proofs.Right.{UnreadDoesNotMatter}
 use Rattle.dv_views.proofs.Unread.{no_shares}
 use Rattle.dv_order.specs.Inner.KeyLaws.{EqualKeysAreOne}
 
--- ---- where a change comes, whatever it is
+-- ---- what a change reaches, whatever the change is
 
 else-known : (o : Option (Option (List taking.Taken))) (a b : Option (List taking.Taken)) → is_some a ≡ is_some b → is_some (told_else o a) ≡ is_some (told_else o b)
 else-known None a b same = same
@@ -66,17 +66,17 @@ follow_unread unread namespace cs AreTold vs away = record {
   counted = λ lists made told right. subst (λ (all : List Share). AreCounted all vs vs) (sym (no_shares namespace cs lists (map view_form vs) (read_forms namespace vs ∙ away))) (counted_none vs);
 }
 
--- ---- documents that go one after the other
+-- ---- documents that are removed one after the other
 
 gones-told : (ds : List Row) → changes_told (gones_of ds) ≡ gone_each ds
 gones-told [] = refl
 gones-told (d ∷ ds) = ap (λ (cs : List Change). Gone (own_position d) ∷ cs) (gones-told ds)
 
--- a document that goes
+-- a document that is removed
 abbrev gone_of : Row → taking.Taken
 gone_of d = record { pos = own_position d; old = Some d; new = None }
 
--- views behind some of them, and those that are left
+-- views after the removal of some documents, and the documents that are left
 pub record HaveGone (namespace : List ℕ) (all left : List Row) (before now : Views) : Type 0 where
   pub came : List Row
   pub whole : came ++ left ≡ all

@@ -1,4 +1,4 @@
--- What one change makes of documents in order.
+-- Documents in order after one change.
 use Rattle.std.proofs.Common.{◌≡◌, Bool, true, false, not, List, [], ◌∷◌, map, None, Some, is_some, cond, refl, ap, sym, ◌∙◌}
 use Rattle.std.specs.Bool.{if◌then◌else◌}
 use Rattle.std.specs.BTreeMap.{insert_entry, is_at}
@@ -24,7 +24,7 @@ use Rattle.dv_views.specs.Placed.{own_position, positioned}
 abbrev AreApart : KeyTree → List Row → Type 0
 AreApart k ds = AllByRecursion (λ d. has_key k d ≡ false) ds
 
--- a key apart from those behind a document: it is not above the document's
+-- the documents come after a key: each has a greater one
 abbrev Follow : KeyTree → List Row → Type 0
 Follow k ds = AllByRecursion (λ l. key_order k l ≡ Less) (map id_key ds)
 
@@ -51,18 +51,18 @@ apart-removed k (d ∷ ds) apart = ap (λ b. cond (not b) (d ∷ removed k ds) (
 abbrev wanted : Row → List Row → List Row
 wanted d ds = if is_some (found (id_key d) ds) then replaced d ds else inserted d ds
 
--- a document without its position
+-- documents without their positions
 pub forgotten : (ds : List Row) → values_of (positioned ds) ≡ ds
 forgotten [] = refl
 forgotten (d ∷ ds) = ap (λ es. d ∷ es) (forgotten ds)
 
--- what stands at the position of a key is what is found under it
+-- at the position of a key is the document that is found under the key
 pub found_at : (k : KeyTree) (ds : List Row) → at (Up k ∷ []) (positioned ds) ≡ found k ds
 found_at k [] = refl
 found_at k (d ∷ ds) = λ i. cond (is_eq (then_Equal (key_order k (id_key d)) i)) (Some d) (found_at k ds i)
 
 module _ (d e : Row) (ds : List Row) where
-  -- the documents from e on, by where d stands to e
+  -- e and the documents after it, with d put among them, by the order of d and e
   abbrev met : Ordering → List Row
   met o = if is_some (cond (is_eq o) (Some e) (found (id_key d) ds)) then cond (is_eq o) d e ∷ replaced d ds else cond (is_lt o) (d ∷ e ∷ ds) (e ∷ inserted d ds)
 
@@ -85,7 +85,7 @@ put_made d (e ∷ ds) ascending =
     (then_Equal (key_order (id_key d) (id_key e)))
     ∙ put-met d e ds (key_order (id_key d) (id_key e)) _ (λ here. apart-below (id_key d) (id_key e) ds here ascending.0) (λ here. apart-beside (id_key d) (id_key e) ds here ascending.0) (put_made d ds ascending.1)
 
--- ---- a gone one
+-- ---- a removed document
 
 gone-met : (k : KeyTree) (d : Row) (ds : List Row) (b : Bool) (rest : Positioned) → (b ≡ true → removed k ds ≡ ds) → values_of rest ≡ removed k ds
     → values_of (cond b (positioned ds) ((own_position d, d) ∷ rest)) ≡ cond (not b) (d ∷ removed k ds) (removed k ds)

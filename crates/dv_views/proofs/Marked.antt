@@ -1,4 +1,4 @@
--- Views in memory of which some of the first have taken in a change.
+-- Views in memory, the first of which have taken in a change.
 use Rattle.std.proofs.Common.{◌≡◌, ◌≤◌, ◌<◌, ◌+◌, ◌||◌, ◌++◌, drop, get_or, ℕ, zero, suc, Bool, true, false, List, [], ◌∷◌, map, take, fold, length, Option, Some, None, slice_get, refl, ap, sym, subst, ◌∙◌, arith, inl, inr}
 use Rattle.std.specs.Prelude.{Result, Ok, Err, IfErr, IfOk}
 use Rattle.std.specs.List.{AllByRecursion, IsDistinct, list_any}
@@ -34,7 +34,7 @@ nearest : (o : Option View) → IsLiveView o → distance_named o ≡ 0
 nearest None is = refl
 nearest (Some v) is = near v.mark is
 
--- ---- some of names, from one to the next
+-- ---- any of several names, from one to the next
 
 pub any_next : (p : List ℕ → Bool) (name : List ℕ) (names : List (List ℕ)) (i : ℕ) → i < length names → name ≡ get_or names i name → list_any p (drop i names) ≡ (p name || list_any p (drop (i + 1) names))
 any_next p name names i h is = at names i h is ∙ (let more : suc i ≡ i + 1 = omega arith in ap (λ (n : ℕ). p name || list_any p (drop n names)) more)
@@ -65,7 +65,7 @@ take_count (n ∷ ns) (suc i) h = let less : suc i < suc (length ns) = h in ap s
 module _ {Y : Type 0} where
   -- ---- one after the other
 
-  -- the first n views have taken in what was told, and the others are as they were and tell nothing
+  -- the first n views have taken in the change, and the others are unchanged and have no changes to pass on
   abbrev pub HaveFirst : ℕ → Known → (List ℕ → ℕ) → Views → Entries Y → Type 0
   HaveFirst zero come distances before es = (views es ≡ before) × AreSilent es
   HaveFirst (suc n) come distances [] es = es ≡ []
@@ -146,7 +146,7 @@ module _ {Y : Type 0} where
   there_written zero (e ∷ es) a old there = refl
   there_written (suc n) (e ∷ es) a old there = there_written n es a old there
 
-  -- what is told is no part of a view
+  -- the changes that are passed on are no part of a view
   pub views_silent : (n : ℕ) (es : Entries Y) (old new : Body) → slice_get (values_of es) n ≡ Some old → ((name : List ℕ) → view_seen name new ≡ view_seen name old) → views (set_value_at es n new) ≡ views es
   views_silent n [] old new there same = refl
   views_silent zero (e ∷ es) old new there same = let was : e.1 ≡ old = cc in ap (λ (v : View). v ∷ views es) (same (string_bytes e.0) ∙ ap (view_seen (string_bytes e.0)) (sym was))
@@ -171,7 +171,7 @@ module _ {Y : Type 0} where
   pub apart_written : (n : ℕ) (es left : Entries Y) (b : Body) → left ≡ set_value_at es n b → AreNamedApart (views es) → AreNamedApart (views left)
   apart_written n es left b is apart = subst (λ (ns : List (List ℕ)). IsDistinct bytes_eq ns) (sym (ap (λ (fs : Entries Y). map (λ (v : View). v.name) (views fs)) is ∙ names-written n es b)) apart
 
-  -- ---- what is made of the view at a place
+  -- ---- the view at a place after a change
 
   module _ (namespace : List ℕ) (all : List taking.Taken) (n : ℕ) (es left : Entries Y) (old new : Body) (there : slice_get (values_of es) n ≡ Some old) (written : left ≡ set_value_at es n new) where
     abbrev come : Known
@@ -269,7 +269,7 @@ module _ {Y : Type 0} where
       left_at a b reached was same =
           made_stale namespace all n es (set_value_at (set_value_at es n a) n b) old b there (written_twice n es a b) (sym (reached ∙ ap (comes_to old.stages old.source) found-is)) (same ∙ was)
 
-      -- it is put back where all went well, and else stays stale
+      -- what the view keeps is put back if the result is `Ok`; otherwise the view stays stale
       pub settled_at : {P E : Type 0} (r : Result P E) (rows : P → ToldRows StageOperator) (told : P → List taking.Taken) (a b : Body) (before : ToldRows StageOperator) (source : List ℕ) (lookups : List (List ℕ)) → true ≡ comes_to old.stages old.source (told_found namespace all n es)
           → a ≡ record old { mark = stale; told = Some [] } → source ≡ a.source → lookups ≡ lookups_of a.stages a.source → old.mark ≡ live (kept_seen before)
           → IfOk r (λ p. Turns (coming_under source lookups (told_found namespace all n (set_value_at es n a))) (kept_seen before) [] (kept_seen (rows p)) (told p))

@@ -19,7 +19,7 @@ among_left name names others is = among-append name names others ∙ or-left (is
 pub among_right : (name : List ℕ) (names others : List (List ℕ)) → is_name_among name others ≡ true → is_name_among name (names ++ others) ≡ true
 among_right name names others is = among-append name names others ∙ or-right (is_name_among name names) (is_name_among name others) is
 
--- all of some are among names
+-- each of some names is among these names
 abbrev pub AreAmong : List (List ℕ) → List (List ℕ) → Type 0
 AreAmong names some = AllByRecursion (λ name. is_name_among name names ≡ true) some
 
@@ -32,7 +32,7 @@ all-themselves [] = tt
 all-themselves (name ∷ names) =
     (or-left (bytes_eq name name) (is_name_among name names) (itself name), all-moved names names (name ∷ names) (λ other is. or-right (bytes_eq other name) (is_name_among other names) is) (all-themselves names))
 
--- ---- what is asked for
+-- ---- requested names
 
 pub asked : (views : List ViewForm) (names : List (List ℕ)) (name : List ℕ) → is_name_among name names ≡ true → is_name_among name (needed views names) ≡ true
 asked [] names name is = is
@@ -48,7 +48,7 @@ none_needed (v ∷ views) = ap (λ (names : List (List ℕ)). if is_name_among v
 
 -- ---- what is needed is closed
 
--- names that none of the views has leave it so
+-- names stay closed with more names that are no view's
 closed-more : (vs : List ViewForm) (names others : List (List ℕ)) → AllByRecursion (λ (v : ViewForm). is_name_among v.name others ≡ false) vs → IsClosed names vs → IsClosed (names ++ others) vs
 closed-more [] names others away are = tt
 closed-more (v ∷ vs) names others away are = (

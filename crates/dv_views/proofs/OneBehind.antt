@@ -1,4 +1,4 @@
--- What one view is behind a change.
+-- One view after a change.
 use Rattle.std.proofs.Common.{◌≡◌, ◌≤◌, inl, inr, ◌||◌, ℕ, Bool, true, false, List, [], ◌∷◌, map, Option, Some, None, is_some, refl, ap, sym, subst, ◌∙◌, arith}
 use Rattle.std.specs.Bool.{if◌then◌else◌}
 use Rattle.std.specs.List.{list_any}
@@ -28,7 +28,7 @@ pub none_of : {A : Type 0} (o : Option A) → is_some o ≡ false → o ≡ None
 none_of None e = refl
 none_of (Some all) e = absurd cc
 
--- where a change doesn't come, nothing is told under any name that is read
+-- if a change doesn't reach a pipeline, there are no changes under the names that it reads
 nothing-told : (names : List (List ℕ)) (told : Known) (name : List ℕ) → list_any (λ n. is_some (told n)) names ≡ false → is_name_among name names ≡ true → told name ≡ None
 nothing-told [] told name away among = absurd cc
 nothing-told (n ∷ ns) told name away among =
@@ -117,10 +117,10 @@ forms_after come before after taken = ap (map view_form) (sym taken.views) ∙ f
 pub founded_after : (come : Known) (before after : Views) → AreFounded (map view_form before) → HaveTaken come before after → AreFounded (map view_form after)
 founded_after come before after founded taken = subst AreFounded (sym (forms_after come before after taken)) founded
 
--- ---- what is told leads from what stood there to what stands there
+-- ---- changes lead from the rows that were there before to those that are there now
 
--- where changes are told they are told with the rows that stood there and lead to those that stand there now, and where nothing is told
--- these are the same
+-- changes come with the rows that were there before and lead to those that are there now; if there are no changes, these are the
+-- same
 abbrev pub Leads : Option (List taking.Taken) → Positioned → Positioned → Type 0
 Leads None rows now = now ≡ rows
 Leads (Some all) rows now = AreToldOf rows all × (now ≡ with_changes rows (changes_told all))
@@ -137,7 +137,7 @@ leads-behind : (o : Option (List taking.Taken)) (rows now : Positioned) → Lead
 leads-behind None rows now leads = sym leads
 leads-behind (Some all) rows now leads = sym leads.1
 
--- ---- one view behind the change
+-- ---- one view after the change
 
 no-more : (n : ℕ) → n ≤ 0 → n ≡ 0
 no-more n h = omega arith
@@ -156,11 +156,11 @@ module _ (scratch : FromScratch) (unread : UnreadDoesNotMatter) (known : Known) 
     abbrev before : Inputs
     before = inputs_from stages source places
 
-    -- where all that is read is live, what comes is told with what was taken in
+    -- if all that is read is live, the changes come with the rows that were taken in
     comes : coming_to stages source known ≡ come_along all before
     comes = all_come (changes_known known) places known stages source (λ name among. leads-known (known name) (places name) (others name) (leads name (over name among)))
 
-    -- and leads to what stands there
+    -- and lead to the rows that are there now
     takes : taken_by before all ≡ inputs_from stages source others
     takes =
         all_taken (changes_known known) places stages source
@@ -191,7 +191,7 @@ module _ (scratch : FromScratch) (unread : UnreadDoesNotMatter) (known : Known) 
   unread-rows : (stages : List Stage) (source : List ℕ) → comes_to stages source known ≡ false → evaluated stages source lists ≡ evaluated stages source rows
   unread-rows stages source away = unread stages source lists rows (λ name read. sym (same name (unreached_read stages source known name away read)))
 
-  -- what is read and live stands as it did, where nothing comes
+  -- what is read and live is unchanged if the change doesn't reach it
   unread-places : (stages : List Stage) (source : List ℕ) → comes_to stages source known ≡ false → ((name : List ℕ) → is_read stages source name ≡ true → distances name ≡ 0) → (name : List ℕ) → is_read stages source name ≡ true → places name ≡ others name
   unread-places stages source away over name read =
       sym (subst (λ (o : Option (List taking.Taken)). Leads o (places name) (others name)) (unreached_read stages source known name away read) (leads name (over name read)))

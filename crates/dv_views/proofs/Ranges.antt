@@ -25,7 +25,7 @@ use Rattle.dv_views.specs.Inner.ById.{AreAtIds, BeginsWithId}
 abbrev up : KeyTree → PosTree
 up k = Up k ∷ []
 
--- ---- positions of keys stand as these do
+-- ---- positions of keys are ordered as the keys
 
 from-start : (low : Bound KeyTree) (k : KeyTree) → is_from_start pos_order (bound_map up low) (up k) ≡ is_from_start key_order low k
 from-start (Included a) k = ap is_le (then_Equal (key_order a k))
@@ -100,7 +100,7 @@ has-id : (d : Row) → BeginsWithId d → is_array_key (id_key d) ≡ false → 
 has-id [] begins out = absurd begins
 has-id (f ∷ fs) begins out = (begins, plain f.1 out)
 
--- where none stands among arrays, each has an `_id` that is none
+-- if no row is in the range of arrays, each has an `_id` that is no array
 pub no_arrays : (rows : Positioned) → AreAtIds rows → filter (λ d. is_array_key (id_key d)) (forget rows) ≡ [] → AllByRecursion HasId (forget rows)
 no_arrays [] are none = tt
 no_arrays (e ∷ rows) are none = by (is_array_key (id_key e.1)) refl none (no_arrays rows are.1)
@@ -112,7 +112,7 @@ no_arrays (e ∷ rows) are none = by (is_array_key (id_key e.1)) refl none (no_a
     by true is none rest = absurd cc
     by false is none rest = (has-id e.1 are.0.0 is, rest none)
 
--- where no row comes, none is left
+-- if no row is returned, none is left
 pub none_left : (r : Option (Bor Row)) (before after : List Row) → is_some r ≡ false → MatchOption r ((before ≡ []) × (after ≡ [])) (λ x. before ≡ x.now ∷ after) → before ≡ []
 none_left None before after none goes = goes.0
 none_left (Some x) before after none goes = absurd cc

@@ -1,4 +1,4 @@
--- Which views a change of a namespace comes to: where they are none, where one more comes behind them, and where one goes.
+-- Which views a change of a namespace reaches: if there are no views, if one more is added after them, and if one is removed.
 use Rattle.std.proofs.Common.{◌≡◌, ◌≤◌, ◌<◌, ◌+◌, ◌-◌, ◌||◌, ◌++◌, ℕ, zero, suc, Bool, true, false, not, List, [], ◌∷◌, map, drop, length, Option, Some, None, cond, filter, slice_get, append-nil, refl, ap, sym, ◌∙◌, arith}
 use Rattle.std.specs.Prelude.{◌==◌, nat_lt}
 use Rattle.std.specs.Bool.{if◌then◌else◌}
@@ -21,7 +21,7 @@ use Rattle.dv_views.specs.Inner.Views.{view_form}
 use Rattle.dv_views.proofs.Heights.{forms_of}
 use Rattle.dv_views.proofs.Right.{itself, or-left, or-right, read_among}
 
--- ---- where no view reads a namespace, and where one does
+-- ---- if no view reads a namespace, and if one does
 
 pub none_read : (name : List ℕ) (k : ℕ) (vs : List ViewForm) → is_read_by vs name ≡ false → readers_from (name ∷ []) k vs ≡ []
 none_read name k [] away = refl
@@ -56,11 +56,11 @@ listed-under vs (l ∷ ls) name right none = by (bytes_eq name l.0) refl none (l
     by true is none rest = right.0 ∙ ap (λ (n : List ℕ). readers_of n vs) (sym ((bytes_eq-Decides name l.0).0 is))
     by false is none rest = rest none
 
--- what is looked up are the readers
+-- the places that are looked up are those of the readers
 pub readers_under : (vs : List ViewForm) (listing : Listing) (name : List ℕ) → AreReaders vs listing → places_under name listing ≡ readers_of name vs
 readers_under vs listing name are = listed-under vs listing name are.right (λ away. sym (none_read name 0 vs (unlisted vs listing name are.whole away)))
 
--- there are some where a view reads the name
+-- there are some exactly if a view reads the name
 pub read_if_some : (vs : List ViewForm) (listing : Listing) (name : List ℕ) → AreReaders vs listing → not (length (places_under name listing) == 0) ≡ is_read_by vs name
 read_if_some vs listing name are = ap (λ (ps : List ℕ). not (length ps == 0)) (readers_under vs listing name are) ∙ by (is_read_by vs name) refl
   where
@@ -190,7 +190,7 @@ among-at [] i name there = absurd cc
 among-at (n ∷ names) zero name there = let same : n ≡ name = cc in or-left (bytes_eq name n) (is_name_among name names) ((bytes_eq-Decides name n).1 (sym same))
 among-at (n ∷ names) (suc i) name there = or-right (bytes_eq name n) (is_name_among name names) (among-at names i name there)
 
--- what is looked into is read
+-- what is read by `$lookup` is read
 pub lookup_read : (stages : List Stage) (source : List ℕ) (i : ℕ) (name : List ℕ) → slice_get (lookups_of stages source) i ≡ Some name → is_read stages source name ≡ true
 lookup_read stages source i name there = read_among stages source name ∙ or-right (bytes_eq name source) (is_name_among name (lookups_of stages source)) (among-at (lookups_of stages source) i name there)
 
@@ -241,7 +241,7 @@ without-high k place ps h =
     rest : List ℕ
     rest = filter (λ other. not (other == place)) ps
 
--- what is behind stands one lower
+-- the places after the removed one are one lower
 all-lower : (place : ℕ) (names : List (List ℕ)) (k : ℕ) (vs : List ViewForm) → place ≤ k → without place (readers_from names (suc k) vs) ≡ readers_from names k vs
 all-lower place names k [] h = refl
 all-lower place names k (v ∷ vs) h = by (reads_any names v) (λ others. all-lower place others (suc k) vs (omega (arith, h)))
@@ -251,7 +251,7 @@ all-lower place names k (v ∷ vs) h = by (reads_any names v) (λ others. all-lo
     by true rest = without-high k place (readers_from (v.name ∷ names) (suc (suc k)) vs) (omega (arith, h)) ∙ ap (λ (ps : List ℕ). k ∷ ps) (rest (v.name ∷ names))
     by false rest = rest names
 
--- a name that none reads makes no readers
+-- a name that no view reads adds no readers
 module _ (gone : List ℕ) (names : List (List ℕ)) where
   unread-any : (front : List (List ℕ)) (v : ViewForm) → is_read v.stages v.source gone ≡ false → reads_any (front ++ gone ∷ names) v ≡ reads_any (front ++ names) v
   unread-any [] v away = ap (λ (b : Bool). b || reads_any names v) away

@@ -1,4 +1,4 @@
--- Views that are made anew in their place, and views that come behind the others.
+-- Views that are recomputed in their place, and views that are added after the others.
 use Rattle.std.proofs.Common.{◌≡◌, ◌<◌, ◌+◌, arith, ◌&&◌, ◌||◌, inl, inr, ℕ, zero, suc, Bool, true, false, List, [], ◌∷◌, ◌++◌, map, take, length, Option, Some, None, Result, Ok, Err, OnErr, slice_get, refl, ap, sym, subst, ◌∙◌}
 use Rattle.std.specs.List.{AllByRecursion, IsDistinct, list_any}
 use Rattle.std.specs.Bool.{if◌then◌else◌}
@@ -52,7 +52,7 @@ apart_take (suc n) (v ∷ vs) apart = (some n vs apart.0, apart_take n vs apart.
     some (suc n) [] all = tt
     some (suc n) (w ∷ ws) all = (all.0, some n ws all.1)
 
--- ---- what a view reads, where names have that
+-- ---- what a view reads, if names include it
 
 module _ (names : List (List ℕ)) where
   pub reads_listed : (n : ℕ) (vs : Views) (v : View) → IsClosed names (map view_form vs) → slice_get vs n ≡ Some v → is_name_among v.name names ≡ true → AllByRecursion (λ name. is_name_among name names ≡ true) (names_read v.stages v.source)
@@ -80,7 +80,7 @@ module _ (names : List (List ℕ)) where
   pub alike_reads : (lists others : Lists) (some : List (List ℕ)) → AreAlike names lists others → AllByRecursion (λ name. is_name_among name names ≡ true) some → AreAlike some lists others
   alike_reads lists others some alike listed = λ name among. alike name (each_among (λ m. is_name_among m names ≡ true) some name listed among)
 
--- ---- a view made anew in its place
+-- ---- a view recomputed in its place
 
 -- the view at a place, with what it keeps now
 abbrev pub keeping : View → ViewMark → View
@@ -149,7 +149,7 @@ module _ (names : List (List ℕ)) (mark : ViewMark) (v : View) (stale : is_stal
       (right_built scratch unread others lists (take n vs) (apart_take n vs sound.apart) (right_take n (list_places others) others vs right) v.stages v.source (alike_reads names lists others (names_read v.stages v.source) alike some)
       (over_take n no_distance vs sound.live) mark built)
 
--- ---- a view behind the others
+-- ---- a view after the others
 
 founded-last : (vs : List ViewForm) (w : ViewForm) → AreFounded vs → is_read_by vs w.name ≡ false → is_read w.stages w.source w.name ≡ false → AreFounded (vs ++ w ∷ [])
 founded-last [] w founded unread own = ((own, tt), tt)
@@ -173,7 +173,7 @@ module _ (vs : Views) (w : View) (sound : IsSoundRegistry vs) (lists : Lists) (b
   right_last scratch unread others alike right =
       right_append (list_places others) others vs w right (right_built scratch unread others lists vs sound.apart right w.stages w.source alike sound.live w.mark built)
 
--- ---- views made anew one after the other
+-- ---- views recomputed one after the other
 
 module _ (names : List (List ℕ)) where
   pub none_refreshed : (vs : Views) → ArePartlyRefreshed names vs vs
@@ -244,7 +244,7 @@ length_at names n (v ∷ vs) [] at = absurd at
 length_at names zero (v ∷ vs) (w ∷ ws) at = ap (λ (us : Views). suc (length us)) at.2
 length_at names (suc n) (v ∷ vs) (w ∷ ws) at = ap suc (length_at names n vs ws at.1)
 
--- ---- where there is no reason against a view
+-- ---- if there is no reason against a view
 
 abbrev first_fault : Bool → Bool → Bool → Option ViewFault
 first_fault called read few = if called then Some Exists else if read then Some ReadByView else if few then None else Some LimitReached

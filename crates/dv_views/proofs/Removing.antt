@@ -1,4 +1,4 @@
--- A view that no other reads is taken out.
+-- A view that no other reads is removed.
 use Rattle.std.proofs.Common.{◌≡◌, ◌≤◌, ℕ, Bool, true, false, not, List, [], ◌∷◌, map, fold, suc, cond, refl, ap, sym, subst, ◌∙◌}
 use Rattle.std.specs.Bool.{if◌then◌else◌}
 use Rattle.std.specs.Prelude.{max}
@@ -27,7 +27,7 @@ use Rattle.dv_value.specs.Inner.ByteLaws.{bytes_eq-symmetric}
 abbrev AreSameBut : List ℕ → (List ℕ → ℕ) → (List ℕ → ℕ) → Type 0
 AreSameBut gone distances others = (name : List ℕ) → bytes_eq name gone ≡ false → distances name ≡ others name
 
--- also behind a view, which is as far or as high as it was
+-- also after a view whose distance or height is unchanged
 with-same : (gone name : List ℕ) (n m : ℕ) (before after : List ℕ → ℕ) → n ≡ m → AreSameBut gone before after → AreSameBut gone (λ other. if bytes_eq other name then n else before other) (λ other. if bytes_eq other name then m else after other)
 with-same gone name n m before after is same other off = λ i. if bytes_eq other name then is i else same other off i
 
@@ -58,7 +58,7 @@ live-without gone (v ∷ vs) distances others same away live =
 pub live_without : (gone : List ℕ) (vs : Views) (distances : List ℕ → ℕ) → reads_name vs gone ≡ false → AreOverLive distances vs → AreOverLive distances (views_without gone vs)
 live_without gone vs distances away live = live-without gone vs distances distances (λ name off. refl) away live
 
--- ---- the others read older ones alone
+-- ---- the others read only older ones
 
 all-without : (P : ViewForm → Type 0) (gone : List ℕ) (vs : Views) → AllByRecursion P (map view_form vs) → AllByRecursion P (map view_form (views_without gone vs))
 all-without P gone [] all = tt
@@ -76,7 +76,7 @@ founded_without gone (v ∷ vs) founded = by (bytes_eq gone v.name) (founded_wit
     by true rest = rest
     by false rest = ((founded.0.0, all-without (λ other. is_read v.stages v.source other.name ≡ false) gone vs founded.0.1), rest)
 
--- ---- the others stand as high as before
+-- ---- the others have the same height as before
 
 module _ (gone : List ℕ) where
   same-highest : (before after : List ℕ → ℕ) (first : ℕ) (names : List (List ℕ)) → AreSameBut gone before after → is_name_among gone names ≡ false → fold (λ so_far name. max so_far (before name)) first names ≡ fold (λ so_far name. max so_far (after name)) first names
@@ -122,7 +122,7 @@ pub heights_removed : {Y : Type 0} (gone : List ℕ) (es : Entries Y) → AreNam
     → HaveHeights (heights (map view_form (views_without gone (views es)))) (remove_entry (is_called gone) es)
 heights_removed gone es apart away kept = kept-out gone (heights (forms_of es)) (heights (map view_form (views_without gone (views es)))) (heights-without gone (views es) (λ name. 0) (λ name. 0) (λ name off. refl) away) es apart kept
 
--- what holds of views in memory holds without one that none reads, if the lists of readers hold
+-- what holds of views in memory holds without a view that no view reads, if the lists of readers are right
 pub sound_without : {Y : Type 0} (gone : List ℕ) (es left : Entries Y) (listing less : Listing) → left ≡ remove_entry (is_called gone) es → AreNamedApart (views left) → reads_name (views es) gone ≡ false → AreSoundEntries es listing → AreReaders (forms_of left) less
     → AreSoundEntries left less
 sound_without gone es left listing less is apart away sound readers =

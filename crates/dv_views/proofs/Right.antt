@@ -73,7 +73,7 @@ pub kept_same : (stages : List Stage) (m : ViewMark) (t u : Inputs) (rows others
 kept_same stages (live kept) t u rows others taken same h = (subst (λ (x : Inputs). HasMade stages kept x) taken h.0, h.1 ∙ same)
 kept_same stages stale t u rows others taken same h = tt
 
--- the same stands under a name in both
+-- the same rows are under a name in both
 abbrev pub IsSame : ListPlaces → ListPlaces → Lists → Lists → List ℕ → Type 0
 IsSame places others lists rows name = (places name ≡ others name) × (lists name ≡ rows name)
 
@@ -83,7 +83,7 @@ module _ (unread : UnreadDoesNotMatter) (places others : ListPlaces) (lists rows
       kept_same v.stages v.mark (inputs_from v.stages v.source places) (inputs_from v.stages v.source others) (evaluated v.stages v.source lists) (evaluated v.stages v.source rows)
       (same_taken v.source places others v.stages (λ name h. (same name h).0)) (unread v.stages v.source lists rows (λ name h. (same name h).1)) right
 
-  -- behind the view the same stands under its name, and elsewhere where it did
+  -- with the view, the same rows are under its name in both, and under other names if they were before
   with-same : (v : View) → ((name : List ℕ) → reads v name ≡ true → IsSame places others lists rows name) → (name : List ℕ) → (bytes_eq name v.name ≡ false → IsSame places others lists rows name)
       → IsSame (with_places (view_form v) places) (with_places (view_form v) others) (with_rows (view_form v) lists) (with_rows (view_form v) rows) name
   with-same v same name here = by (bytes_eq name v.name) here
@@ -109,7 +109,7 @@ module _ (unread : UnreadDoesNotMatter) where
   pub right_over_others : (views : Views) (lists others : Lists) → ((name : List ℕ) → reads_name views name ≡ true → lists name ≡ others name) → AreRight lists views → AreRight others views
   right_over_others views lists others same = right_same views (list_places lists) (list_places others) lists others (λ name h. (ap positioned (same name h), same name h))
 
-  -- ---- one is taken out
+  -- ---- one is removed
 
   right-without : (gone : List ℕ) (vs : Views) (places others : ListPlaces) (lists rows : Lists) → ((name : List ℕ) → bytes_eq name gone ≡ false → IsSame places others lists rows name) → reads_name vs gone ≡ false
       → AreRightOver places lists vs → AreRightOver others rows (views_without gone vs)
@@ -141,7 +141,7 @@ module _ (unread : UnreadDoesNotMatter) where
   pub right_without : (name : List ℕ) (lists : Lists) (views : Views) → reads_name views name ≡ false → AreRight lists views → AreRight lists (views_without name views)
   right_without name lists views away right = right-without name views (list_places lists) (list_places lists) lists lists (λ other off. (refl, refl)) away right
 
--- ---- one comes
+-- ---- one is added
 
 pub right_append : (places : ListPlaces) (lists : Lists) (vs : Views) (w : View) → AreRightOver places lists vs → IsRight (places_over (map view_form vs) places) (rows_over (map view_form vs) lists) w → AreRightOver places lists (vs ++ w ∷ [])
 right_append places lists [] w right here = (here, tt)

@@ -1,4 +1,4 @@
--- Rows that are kept by changes: operators that are the stages stay so, and make what these are defined to make.
+-- Rows that are updated by changes: operators remain those of their stages, and return what these are defined to return.
 use Rattle.std.proofs.Common.{◌≡◌, ◌+◌, ◌-◌, ◌<◌, ℕ, zero, suc, false, if◌then◌else◌, List, [], ◌∷◌, ◌++◌, map, length, take, drop, Option, Some, None, refl, ap, sym, subst, ◌∙◌, arith, append_assoc, append-nil}
 use Rattle.std.specs.Prelude.{nat_lt}
 use Rattle.std.proofs.lemmas.Bool.{le-ltb}
@@ -70,7 +70,7 @@ pub same_count : (input : Input) (c : Change) (named : List Positioned) → leng
 same_count Left c named = refl
 same_count (Named i) c named = same-length i c named
 
--- as many as the stages look into
+-- as many as the stages read by `$lookup`
 pub lookups_count : (ss : List Stage) (source : List ℕ) → length (lookups_of ss source) ≡ lists_of_all ss
 lookups_count [] source = refl
 lookups_count (s ∷ ss) source = by (from_of s) (lookups_count ss source)
@@ -81,7 +81,7 @@ lookups_count (s ∷ ss) source = by (from_of s) (lookups_count ss source)
 
 -- ---- the lists that were taken in
 
--- those of all stages are there
+-- the lists of all stages are those that were taken in
 lists-there : (ss : List Stage) (named : List Positioned) → length named ≡ lists_of_all ss → lists_of (forms ss named) ≡ named
 lists-there [] [] e = refl
 lists-there [] (n ∷ ns) e = absurd cc
@@ -177,7 +177,7 @@ parts-there : (P : Arrival → Type 0) (xs ys : List Arrival) → AllByRecursion
 parts-there P [] ys all = (tt, all)
 parts-there P (x ∷ xs) ys all = let rest = parts-there P xs ys all.1 in ((all.0, rest.0), rest.1)
 
--- what comes in two parts
+-- changes that come in two parts
 pub record AreParts (xs ys : List Come) (all : List Arrival) (t : Inputs) : Type 0 where
   pub some : List Arrival
   pub others : List Arrival

@@ -1,4 +1,4 @@
--- What stages make at positions is, without these, what they make.
+-- The rows that stages return at positions are, without the positions, the rows of these stages.
 use Rattle.std.proofs.Common.{◌≡◌, ◌||◌, ℕ, Bool, true, false, List, [], ◌∷◌, map, length, take, drop, Option, Some, None, refl, ap, ◌∙◌}
 use Rattle.std.specs.Prelude.{filter}
 use Rattle.std.proofs.lemmas.Slice.Eq.{bytes_eq-Decides}
@@ -85,7 +85,7 @@ own_length (d ∷ ds) = (refl, own_length ds)
 pub one_length : (ds : List Row) → HaveOneLength (positioned ds)
 one_length ds = (1, own_length ds)
 
--- ---- the lists that stages look into
+-- ---- the lists that stages read by `$lookup`
 
 among-first : (name : List ℕ) (names : List (List ℕ)) → is_name_among name (name ∷ names) ≡ true
 among-first name names = ap (λ b. b || is_name_among name names) ((bytes_eq-Decides name name).1 refl)

@@ -1,4 +1,4 @@
--- What stands under a view's name behind all views is what the view makes.
+-- With all views, the rows under a view's name are those of its pipeline.
 use Rattle.std.proofs.Common.{◌≡◌, ◌||◌, ℕ, Bool, true, false, List, [], ◌∷◌, map, fold, Option, Some, None, cond, refl, ap, sym, subst, ◌∙◌}
 use Rattle.std.specs.Prelude.{⊤}
 use Rattle.std.specs.Bool.{if◌then◌else◌}
@@ -18,7 +18,7 @@ use Rattle.dv_views.specs.Inner.Views.{AreKept, AreNamedApart, AreRight, AreRigh
 
 -- ---- what later views leave
 
--- under a name that no later view has stands what stood there
+-- what is under a name that no later view has is unchanged
 module _ {V X : Type 0} (named : V → List ℕ) (made : V → (List ℕ → X) → X) where
   pub untouched : (vs : List V) (below : List ℕ → X) (name : List ℕ) → list_any (λ v. bytes_eq name (named v)) vs ≡ false → fold (λ below v name. if bytes_eq name (named v) then made v below else below name) below vs name ≡ below name
   untouched [] below name away = refl
@@ -51,7 +51,7 @@ pub others_apart : (v : View) (vs : Views) → AreNamedApart (v ∷ vs) → AreN
 unfolding IsDistinct
 others_apart v vs apart = apart.1
 
--- ---- what stands under a view's name
+-- ---- the rows under a view's name
 
 -- a live view keeps these rows at their positions, and shows these
 abbrev pub IsShownAt : ViewMark → Positioned → List Row → Type 0
@@ -94,13 +94,13 @@ not-named name (v ∷ vs) is = by (is_view_named name v) is (not-named name vs)
 pub no_view : (name : List ℕ) (places : ListPlaces) (lists : Lists) (vs : Views) → view_under name vs ≡ None → (places_over (map view_form vs) places name ≡ places name) × (rows_over (map view_form vs) lists name ≡ lists name)
 no_view name places lists vs is = (places_untouched (map view_form vs) places name (not-named name vs is), rows_untouched (map view_form vs) lists name (not-named name vs is))
 
--- ---- how far what stands there is
+-- ---- how far a name is from being live
 
 abbrev pub distance_named : Option View → ℕ
 distance_named None = 0
 distance_named (Some v) = distance v.mark
 
--- by the distances of what is no view
+-- the same, by the distance of a name that is no view's
 abbrev pub distance_over : ℕ → Option View → ℕ
 distance_over other None = other
 distance_over other (Some v) = distance v.mark

@@ -1,4 +1,4 @@
--- Entries of views that tell nothing.
+-- Entries of views that have no changes to pass on.
 use Rattle.std.proofs.Common.{◌≡◌, ◌∙◌, ℕ, zero, suc, Bool, true, false, [], ◌∷◌, ◌++◌, Some, None, slice_get, cond, ap, sym}
 use Rattle.std.specs.Map.{remove_entry, values_of}
 use Rattle.std.specs.declared.string.String.{String}

@@ -1,4 +1,4 @@
--- What is ensured of a stage of any kind where a call answers Ok.
+-- What is ensured of a stage of any kind if a call returns Ok.
 use Rattle.std.specs.Prelude.{◌≡◌, List, OnOk, Result}
 use Rattle.dv_change.specs.declared.change.Change.{Change}
 use Rattle.dv_change.specs.declared.input.Input.{Input}

@@ -28,7 +28,7 @@ same-position one (f ∷ fs) (g ∷ gs) h k equal = ap (λ l. Up l ∷ []) (one 
 
 -- ---- the rows keep their own positions
 
--- each row stands at its own position
+-- each row is at its own position
 abbrev pub AreOwn : Positioned → Type 0
 AreOwn rows = rows ≡ positioned (values_of rows)
 

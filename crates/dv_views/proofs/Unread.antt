@@ -1,4 +1,4 @@
--- Shares of changes: none where nothing is read, one for each view, and those of one change more.
+-- Shares of changes: none if nothing is read, one for each view, and those of one more change.
 use Rattle.std.proofs.Common.{◌≡◌, ◌||◌, ◌+◌, ℕ, suc, Bool, true, false, List, [], ◌∷◌, ◌++◌, length, map, fold, Option, Some, None, is_some, refl, ap, sym, ◌∙◌, arith}
 use Rattle.std.specs.Bool.{if◌then◌else◌}
 use Rattle.std.specs.List.{AllByRecursion, list_any}
@@ -15,7 +15,7 @@ use Rattle.dv_views.specs.Placed.{lookups_of, list_places}
 use Rattle.dv_views.specs.Views.{inputs_from}
 use Rattle.dv_views.proofs.Right.{read_among}
 
--- ---- nothing comes where nothing is told
+-- ---- no change enters a view if the names that it reads have none
 
 abbrev pub AreUntold : Told → List (List ℕ) → Type 0
 AreUntold told names = AllByRecursion (λ name. told name ≡ None) names
@@ -44,7 +44,7 @@ not_told_by stages source flow away = ap (λ (b : Bool). if b then Some (handed_
 
 -- ---- what no view reads
 
--- nothing is told but under the namespace
+-- only the namespace has changes
 abbrev pub IsToldAlone : List ℕ → Told → Type 0
 IsToldAlone namespace told = (name : List ℕ) → bytes_eq namespace name ≡ false → told name ≡ None
 
@@ -148,12 +148,12 @@ nothing_behind (v ∷ views) (a ∷ all) same =
     neutral true = refl
     neutral false = refl
 
--- the shares of one change are what it tells
+-- the shares of a list of one change are those of this change
 pub one_change : (namespace : List ℕ) (c : Change) (lists : Lists) (views : List ViewForm) → shares namespace (c ∷ []) lists views ≡ shares_of (record { places = list_places lists; told = told_at namespace (c ∷ []) }) views
 unfolding shares
 one_change namespace c lists views = let flow : Flow = record { places = list_places lists; told = told_at namespace (c ∷ []) } in nothing_behind views (shares_of flow views) (shares_of_length flow views)
 
--- the lists behind changes that are taken one by one
+-- the lists after changes that are taken one by one
 abbrev pub lists_behind : List ℕ → List Change → Lists → Lists
 lists_behind namespace changes lists = fold (λ lists c. with_changed namespace (c ∷ []) lists) lists changes
 

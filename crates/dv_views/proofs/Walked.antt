@@ -1,4 +1,4 @@
--- A change goes to all views to which it comes, and to no others.
+-- A change is passed to all views that it reaches, and to no others.
 use Rattle.std.proofs.Common.{◌≡◌, ◌≤◌, ◌<◌, ◌+◌, ◌||◌, inl, inr, ℕ, zero, suc, Bool, true, false, List, [], ◌∷◌, map, drop, get_or, length, Option, Some, None, is_some, slice_get, refl, ap, sym, subst, ◌∙◌, arith}
 use Rattle.std.specs.Prelude.{◌==◌, ◌⊎◌, ⊤}
 use Rattle.std.specs.Bool.{if◌then◌else◌}
@@ -29,9 +29,9 @@ use Rattle.dv_views.proofs.OneBehind.{forms_after, founded_after, none_of, over_
 use Rattle.dv_views.proofs.Right.{itself, or-left, or-right, read_among}
 use Rattle.dv_value.specs.Inner.ByteLaws.{bytes_eq-symmetric}
 
--- ---- a change comes to no view that reads none of the names to which it came
+-- ---- a change reaches no view that reads none of the names that it reached
 
--- nothing is told but under these names
+-- only these names have changes
 abbrev pub AreToldAlone : List (List ℕ) → Known → Type 0
 AreToldAlone names told = (name : List ℕ) → is_name_among name names ≡ false → told name ≡ None
 
@@ -75,7 +75,7 @@ told-listed names told name all alone other off =
 
 -- ---- places of readers
 
--- ascending, from one on
+-- ascending, and none below a given number
 abbrev IsFrom : ℕ → List ℕ → Type 0
 IsFrom k [] = ⊤
 IsFrom k (p ∷ ps) = (k ≤ p) × IsFrom (suc p) ps
@@ -123,7 +123,7 @@ all_at P i p [] all there = absurd cc
 all_at P zero p (q ∷ ps) all there = let same : q ≡ p = cc in subst P same all.0
 all_at P (suc i) p (q ∷ ps) all there = all_at P i p ps all.1 there
 
--- a place is before or behind
+-- a place is before a range or after it
 abbrev IsOutside : ℕ → ℕ → ℕ → Type 0
 IsOutside low high p = (p < low) ⊎ (high ≤ p)
 
@@ -152,7 +152,7 @@ behind-at end k zero p (q ∷ []) from h there = omega (arith, h)
 behind-at end k zero p (q ∷ r ∷ ps) from h there = let same : q ≡ p = cc in let rest : suc q ≤ r = from.1.0 in omega (arith, same, rest)
 behind-at end k (suc i) p (q ∷ ps) from h there = behind-at end (suc q) i p ps from.1 h there
 
--- ---- views to which a change doesn't come
+-- ---- views that a change doesn't reach
 
 no-entries : {Y : Type 0} (es : Entries Y) → views es ≡ [] → es ≡ []
 no-entries [] is = refl
@@ -168,7 +168,7 @@ module _ {Y : Type 0} where
     live = λ reached. absurd (cc (sym away ∙ reached));
   }
 
-  -- from n views on to the next one that is listed
+  -- from the first n views to the next one that is listed
   skip : (low high n m k : ℕ) (names : List (List ℕ)) (come : Known) (distances : List ℕ → ℕ) (before : Views) (es : Entries Y) → AreToldAlone names come → low ≤ k + n → k + m ≤ high → n ≤ m
       → AllByRecursion (IsOutside low high) (readers_from names k (map view_form before)) → HaveFirst n come distances before es → HaveFirst m come distances before es
   skip low high zero zero k names come distances before es alone l h le outside first = first
@@ -208,7 +208,7 @@ module _ {Y : Type 0} where
       by true is out rest = rest (v.name ∷ names) (told-listed names come v.name e.1.told alone) out.1
       by false is out rest = rest names (told-unlisted names come v.name e.1.told (none_of e.1.told (first.0.tells ∙ unreached names come (view_form v) alone is)) alone) out
 
-  -- views that aren't listed tell nothing
+  -- views that aren't listed have no changes to pass on
   quiet : (ps : List ℕ) (k : ℕ) (names : List (List ℕ)) (come : Known) (distances : List ℕ → ℕ) (before : Views) (es : Entries Y) → AreToldAlone names come
       → ((p : ℕ) → is_place_among p (readers_from names k (map view_form before)) ≡ true → is_place_among p ps ≡ true) → HaveFirst (length before) come distances before es → AreSilentBut ps k es
   quiet ps k names come distances [] es alone among first = subst (AreSilentBut ps k) (sym (no-entries es first.0)) tt
@@ -229,7 +229,7 @@ module _ {Y : Type 0} where
           let silent : e.1.told ≡ None = none_of e.1.told (first.0.tells ∙ unreached names come (view_form v) alone is) in
           (λ off. silent, rest names (told-unlisted names come v.name e.1.told silent alone) listed)
 
-  -- ---- what is let go
+  -- ---- dropped changes
 
   silenced-same : (e : String Y × Body) → e.1.told ≡ None → silenced e ≡ e
   silenced-same e silent = ap (λ (t : Option (List taking.Taken)). (e.0, record e.1 { told = t })) (sym silent)
@@ -258,7 +258,7 @@ module _ {Y : Type 0} where
     silent-at p ps (suc k) n es new (omega (arith, is)) none silent.1,
   )
 
-  -- the place that is next is let go
+  -- the changes at the next place are dropped
   pub silent_next : (ps : List ℕ) (i p : ℕ) (es : Entries Y) (new : Body) → slice_get ps i ≡ Some p → new.told ≡ None → AreSilentBut (drop i ps) 0 es → AreSilentBut (drop (i + 1) ps) 0 (set_value_at es p new)
   silent_next ps i p es new there none silent =
       let more : suc i ≡ i + 1 = omega arith in
@@ -359,7 +359,7 @@ module _ {Y : Type 0} where
         silent = silent-silenced now;
       })
 
--- what holds of views in memory holds behind a change
+-- what holds of views in memory holds after a change
 pub sound_behind : {Y : Type 0} (namespace : List ℕ) (all : List taking.Taken) (before after : Entries Y) (listing : Listing) → AreSoundEntries before listing → IsHandedOn namespace all before after → AreSoundEntries after listing
 sound_behind namespace all before after listing sound on =
     let come = known_at namespace all in

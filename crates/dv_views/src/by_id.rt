@@ -25,8 +25,8 @@ use std::collections::btree_map::Range;
 use std::marker::Model;
 use std::ops::Bound;
 
-/// The rows of a view, which are known to be in the order of their `_id`s if the documents under a namespace, its base, begin with
-/// theirs.
+/// The rows of a view. They are known to be in the order of their `_id`s if each document under a namespace, the base, begins with
+/// its `_id`.
 #[derive(Drop)]
 pub struct Standing<'a> {
     alloc: Global,
@@ -51,7 +51,7 @@ impl<'a> Model for Standing<'a> {
 }
 
 impl<'a> Standing<'a> {
-    /// Rows that are kept by changes, and their base.
+    /// The rows of a live view, and their base.
     pub(crate) fn of(alloc: Global, base: &'a str, live: &'a ToldRows<StageOperator>) -> Self
         requires { IsPositioned live.now.rows.entries }
         ensures { result ≡ (base.now, live.now.rows.entries) }
@@ -59,7 +59,7 @@ impl<'a> Standing<'a> {
         Standing { alloc, base, live }
     }
 
-    /// The namespace on whose documents it depends.
+    /// The namespace on whose documents the order of the rows depends.
     pub fn base(&self) -> &'a str
         ensures { result.now ≡ self.now.0 }
     {
@@ -79,7 +79,7 @@ impl<'a> Standing<'a> {
 }
 
 /// The rows of a view that begin with their `_id`s and are in the order of these. No two `_id`s are equal, whatever the width of
-/// their integers. A row is found by its `_id` in time logarithmic in their number.
+/// their integers. A row is found by its `_id` in time logarithmic in the number of rows.
 #[derive(Drop)]
 pub struct RowsById<'a> {
     alloc: Global,
@@ -118,7 +118,7 @@ impl<'a> RowsById<'a> {
         self.walk(low, high, false)
     }
 
-    /// The same from the last one on.
+    /// The same rows, in reverse order.
     pub fn between_from_last(
         &self,
         low: Bound<Key>,
@@ -130,7 +130,7 @@ impl<'a> RowsById<'a> {
         self.walk(low, high, true)
     }
 
-    /// The rows whose `_id`s' keys stand between two ends, in their order or from the last one on.
+    /// The rows whose `_id`s' keys are between two ends, in their order or in reverse.
     fn walk(
         &self,
         low: Bound<Key>,
@@ -159,7 +159,7 @@ impl<'a> RowsById<'a> {
     }
 }
 
-/// The position at which the rows begin or end that stand at the key, or beyond it.
+/// A bound on keys as a bound on positions.
 fn end_at(alloc: Global, end: Bound<Key>) -> Result<Bound<Pos>, NoMemory>
     ensures { IfOk result (λ at. at ≡ bound_map (λ k. Up k ∷ []) end) }
 {
@@ -177,7 +177,7 @@ fn first_array(alloc: Global) -> Result<Key, NoMemory>
     key_of(&Value::Array(List::new(alloc)))
 }
 
-/// The key of the first value that stands behind all arrays.
+/// The key of the first value after all arrays.
 fn first_behind_arrays(alloc: Global) -> Result<Key, NoMemory>
     ensures { IfOk result (λ key. key ≡ value (binary 0 [])) }
 {
@@ -187,7 +187,7 @@ fn first_behind_arrays(alloc: Global) -> Result<Key, NoMemory>
     })
 }
 
-/// Rows of a view that are still to come, in the order of their `_id`s or from the last one on.
+/// Rows of a view that are still to come, in the order of their `_id`s or in reverse.
 #[derive(Debug, Drop)]
 pub struct RowsBetween<'a> {
     rows: Range<'a, Pos, Document>,

@@ -1,4 +1,4 @@
-//! Documents of namespaces that are kept so that a change of them can be told with what stood there.
+//! Documents of namespaces, kept so that each change of them can be passed on with the document that was there before.
 
 ghost use Rattle.std.specs.Prelude.{◌≡◌, [], Some, is_some, IfOk, OnErr, OnOk};
 ghost use Rattle.std.specs.List.{AllByRecursion};
@@ -21,7 +21,7 @@ use std::alloc::Global;
 use std::collections::BTreeMap;
 use std::marker::Model;
 
-/// The documents of some namespaces, at their positions. They share their memory with those that they are copies of.
+/// The documents of some namespaces, at their positions. They share their memory with the documents that they are copies of.
 #[derive(Debug, Drop)]
 pub(crate) struct Copies {
     lists: IndexMap<String, BTreeMap<Pos, Document>>,
@@ -57,8 +57,8 @@ impl Copies {
         self.lists.contains_key(namespace)
     }
 
-    /// Takes in a change of the namespace, and tells what stood there. None where nothing is kept of the namespace, and when
-    /// memory runs out for the change; then nothing is kept of it any more.
+    /// Takes in a change of the namespace, and returns it with the document that was there before. None if nothing is kept of the
+    /// namespace, or if memory runs out for the change; then nothing is kept of the namespace any more.
     pub(crate) fn take(&mut self, namespace: &str, change: &Change) -> Option<Taken>
         ensures { HaveTold namespace.now change.now self.old self.new result }
     {
@@ -109,7 +109,7 @@ impl Copies {
         Ok(())
     }
 
-    /// Lets go what no view reads. Takes no memory.
+    /// Drops the documents of namespaces that no view reads. Takes no memory.
     pub(crate) fn keep_read(&mut self, views: &ToldRegistry)
         ensures { HaveCopiesRead views.now self.old self.new }
     {
@@ -117,7 +117,7 @@ impl Copies {
     }
 }
 
-/// Takes in a change, which is told with what stood there. Fails when memory runs out.
+/// Takes in a change, and returns it with the document that was there before. Fails when memory runs out.
 fn taken_in(rows: &mut BTreeMap<Pos, Document>, change: &Change) -> Result<Taken, NoMemory>
     requires { IsPositioned rows.old.entries }
     ensures told { IfOk result (λ taken. taken ≡ with_old rows.old.entries change.now) }

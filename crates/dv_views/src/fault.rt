@@ -1,4 +1,4 @@
-//! Why there can be no such view.
+//! Why a new view is refused.
 
 ghost use Rattle.std.specs.Prelude.{◌≡◌};
 ghost use Rattle.dv_views.specs.declared.fault.ViewFault.TheVariants.{NoMemory};
@@ -7,7 +7,7 @@ use std::alloc::{AllocError, AllocFailed};
 use std::error::Error;
 use std::fmt;
 
-/// Why there can be no such view. Its text is its name.
+/// Why a new view is refused. Its text is its name.
 #[derive(Clone, Copy, Debug, PartialEq, Eq)]
 pub enum ViewFault {
     /// A view has the name.

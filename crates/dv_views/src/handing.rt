@@ -1,4 +1,4 @@
-//! A change of what stands under a namespace, which goes to the views to which it comes, in creation order.
+//! A change of the documents under a namespace, which is passed to the views that it reaches, in creation order.
 
 ghost use Rattle.std.specs.Prelude.{◌≡◌, ◌<◌, List, length, map};
 ghost use Rattle.std.specs.List.{AllByRecursion};
@@ -14,7 +14,7 @@ use dv_change::Taken;
 use indexmap::IndexMap;
 use std::alloc::Global;
 
-/// Hands a change on to the views at these places, in their order: to all that it comes to.
+/// Passes a change to the views at these places, in their order. These are all views that it reaches.
 pub(crate) fn take_each(
     alloc: Global,
     views: &mut IndexMap<String, View>,
@@ -33,7 +33,7 @@ pub(crate) fn take_each(
     fall_silent(views, places);
 }
 
-/// Hands a change for which memory ran out on to the views at these places: to all that it comes to. Takes no memory.
+/// Passes a change for which memory ran out to the views at these places. These are all views that it reaches. Takes no memory.
 pub(crate) fn lose_each(
     alloc: Global,
     views: &mut IndexMap<String, View>,
@@ -51,7 +51,7 @@ pub(crate) fn lose_each(
     fall_silent(views, places);
 }
 
-/// Lets go what the views at these places told of a change; the others tell nothing.
+/// Drops the changes that the views at these places have passed on; the other views have none.
 fn fall_silent(views: &mut IndexMap<String, View>, places: &[usize])
     requires places { AllByRecursion (λ place. place < length views.old.entries) places.now }
     requires others { AreSilentBut places.now 0 views.old.entries }

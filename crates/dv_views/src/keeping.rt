@@ -1,4 +1,4 @@
-//! Rows that are kept by changes of what stages read.
+//! Rows of stages, updated by the changes of what the stages read.
 
 ghost use Rattle.std.specs.Prelude.{◌≡◌, ◌∷◌, [], Some, IfOk};
 ghost use Rattle.std.specs.Option.{option_map};
@@ -27,8 +27,8 @@ pub(crate) fn nothing_taken_in(
     Ok(ToldRows::new(alloc, operators))
 }
 
-/// Takes in what is told to an input, one change after the other, where anything is, and tells what changes of the rows behind
-/// what is in `told`. Fails when memory runs out; then the rows are dropped.
+/// Takes in the changes of an input, one after the other, if there are any, and appends the changes of the rows to `told`. Fails
+/// when memory runs out; then the rows are dropped.
 pub(crate) fn taken_in_told(
     rows: ToldRows<StageOperator>,
     input: Input,
@@ -77,7 +77,7 @@ fn taken_in(
     rows.take(input, taken.try_clone()?, told)
 }
 
-/// Takes in rows of the source, where none of it was taken in. Counts nothing. Fails when memory runs out; then the rows are
+/// Takes in rows of the source, of which none was taken in before. Counts nothing. Fails when memory runs out; then the rows are
 /// dropped.
 pub(crate) fn filled_left(
     rows: ToldRows<StageOperator>,

@@ -1,4 +1,4 @@
-//! What holds of changes and of views, each the contract of a function that does nothing.
+//! Laws about changes and views. Each is the contract of a function that does nothing.
 
 ghost use Rattle.std.specs.Prelude.{◌≡◌, ◌≢◌, ◌≤◌, ◌++◌, ◌∷◌, [], ℕ, List, length, map, Some, None, true, false, codes, is_some, if◌then◌else◌};
 ghost use Rattle.std.specs.List.{AllByRecursion, list_any};
@@ -25,14 +25,14 @@ ghost use Rattle.dv_views.specs.Placed.{ListPlaces, own_position, positioned};
 ghost use Rattle.dv_views.specs.Inner.Views.{AreNamedApart, AreRight, AreSameWhereRead, Views, view_form, reads_name, rows_shown, views_without};
 ghost use Rattle.dv_views.specs.declared.fault.ViewFault.TheVariants.{Exists, LimitReached, NoMemory, ReadByView};
 
-/// A document that is put at its own position replaces the one that has an equal `_id`, if there is one, and else it comes in its
-/// place.
+/// A document that is put at its own position replaces the document with an equal `_id`, if there is one. Otherwise it is inserted
+/// at its place.
 #[tactic(auto, using(crate::proofs::Made::put_made))]
 pub fn a_put_is_the_collections()
     ensures { (d : Row) (ds : List Row) → IsAscending ds → documents_changed (Put (own_position d) d ∷ []) ds ≡ (if is_some (found (id_key d) ds) then replaced d ds else inserted d ds) }
 {}
 
-/// The document that was at the position of a key that is gone is taken out.
+/// A removal at the position of a key removes the document that is found under the key.
 #[tactic(auto, using(crate::proofs::Made::gone_made))]
 pub fn a_gone_is_the_collections()
     ensures { (k : KeyTree) (ds : List Row) → IsAscending ds → documents_changed (Gone (Up k ∷ []) ∷ []) ds ≡ removed k ds }
@@ -51,7 +51,7 @@ pub fn no_change_changes_nothing()
     ensures { (ds : List Row) → documents_changed [] ds ≡ ds }
 {}
 
-/// Changes that a collection makes, and then others, are made one after the other.
+/// If a collection makes some changes and then others, it makes all of them, one after the other, with the same result.
 #[tactic(auto, using(crate::proofs::Turns::changed_parts))]
 pub fn changes_follow_on()
     ensures documents { (first second : List Change) (ds : List Row) → AllByRecursion HasId ds → AreMadeInTurn first ds → documents_changed (first ++ second) ds ≡ documents_changed second (documents_changed first ds) }
@@ -60,8 +60,8 @@ pub fn changes_follow_on()
     dv_order::laws::equal_keys_are_one();
 }
 
-/// What stands at the position of a key is the document that is found under it; and behind a change that a collection makes, its
-/// documents stand at their own positions.
+/// At the position of a key is the document that is found under the key. After a change that a collection makes, its documents are
+/// at their own positions.
 #[tactic(auto, using(crate::proofs::Made::found_at))]
 pub fn documents_stand_at_their_ids()
     ensures found { (k : KeyTree) (ds : List Row) → at (Up k ∷ []) (positioned ds) ≡ found k ds }
@@ -70,8 +70,9 @@ pub fn documents_stand_at_their_ids()
     dv_order::laws::equal_keys_are_one();
 }
 
-/// What stages make at positions are, without these, the rows of the pipeline from scratch, if each name that they read has the
-/// same rows with positions and without them. So what a live view keeps by changes is what it would have if it were recomputed.
+/// The rows that stages return at positions are, without the positions, the rows of the pipeline from scratch, if each name that
+/// the stages read has the same rows with positions and without them. So a live view, whose rows are updated by changes, keeps what
+/// it would have if it were recomputed.
 pub fn kept_rows_are_those_from_scratch()
     ensures { (stages : List Stage) (source : List ℕ) (places : ListPlaces) (lists : Lists) → IsPositioned (places source) → HaveOneLength (places source)
         → AreFromScratch stages source places lists }
@@ -96,7 +97,7 @@ pub fn what_is_not_read_is_not_kept()
     what_is_not_read_does_not_matter();
 }
 
-/// Changes of what no view reads come to none, so they count no work.
+/// Changes of what no view reads reach no view, so they count no work.
 #[tactic(auto, using(crate::proofs::Unread::no_shares))]
 pub fn what_is_not_read_is_not_counted()
     ensures { (namespace : List ℕ) (changes : List Change) (lists : Lists) (views : List ViewForm) → is_read_by views namespace ≡ false → shares namespace changes lists views ≡ map (λ v. nothing) views }
@@ -108,7 +109,7 @@ pub fn each_view_has_its_share()
     ensures { (namespace : List ℕ) (changes : List Change) (lists : Lists) (views : List ViewForm) → length (shares namespace changes lists views) ≡ length views }
 {}
 
-/// Views stay right if one is taken out that none reads.
+/// Views stay right if a view is removed that no view reads.
 #[tactic(auto, using(crate::proofs::Right::right_without))]
 pub fn a_removed_view_leaves_views_right()
     ensures { (name : List ℕ) (lists : Lists) (views : Views) → reads_name views name ≡ false → AreRight lists views → AreRight lists (views_without name views) }
@@ -116,22 +117,23 @@ pub fn a_removed_view_leaves_views_right()
     dv_pipe::laws::what_is_not_read_does_not_matter();
 }
 
-/// What a right view shows are the rows under its name; and under another name is what the list holds.
+/// The rows that a right view shows are the rows under its name. Under a name that is no view's are the documents of the list.
 #[tactic(auto, using(crate::proofs::Shown::right_shown, crate::proofs::Shown::no_rows))]
 pub fn what_is_shown_is_right()
     ensures rows { (name : List ℕ) (lists : Lists) (views : Views) (rows : List Row) → AreNamedApart views → AreRight lists views → rows_shown name views ≡ Some rows → rows ≡ rows_over (map view_form views) lists name }
     ensures none { (name : List ℕ) (lists : Lists) (views : List ViewForm) → list_any (λ v. bytes_eq name v.name) views ≡ false → rows_over views lists name ≡ lists name }
 {}
 
-/// What is asked for is needed, and if nothing is asked for, nothing is needed.
+/// Each requested name is needed, and if none is requested, none is needed.
 #[tactic(auto, using(crate::proofs::Needed::asked, crate::proofs::Needed::none_needed))]
 pub fn what_is_asked_for_is_needed()
     ensures asked { (views : List ViewForm) (names : List (List ℕ)) (name : List ℕ) → is_name_among name names ≡ true → is_name_among name (needed views names) ≡ true }
     ensures none { (views : List ViewForm) → needed views [] ≡ [] }
 {}
 
-/// Beside the view `v` of `c` there can be no second one, and none in place of what it reads, which is reported in this order. A
-/// view can't be over itself. One over `v` is allowed, and eight of which each is over the one before, but no ninth.
+/// If there is a view `v` over `c`, no other view can have its name, nor the name of what it reads, `c`. The latter is reported
+/// before the limit. A view can't be over itself. Another view over `c` is allowed, and one over `v`, and eight views of which each
+/// is over the one before, but no ninth.
 pub fn refusals_by_example()
     ensures exists { fault_of_new (over_lists (codes "v") (codes "c") ∷ []) (codes "v") (codes "v") [] ≡ Some Exists }
     ensures read_by_view { fault_of_new (over_lists (codes "v") (codes "c") ∷ []) (codes "c") (codes "d") [] ≡ Some ReadByView }

@@ -1,9 +1,9 @@
-//! Views: named pipelines over collections and older views, each with stored rows, which the changes of what it reads keep up to
-//! date.
+//! Views: named pipelines over collections and older views. A live view stores its rows, and the changes of what it reads update
+//! them.
 //!
-//! A `ToldRegistry` is for whoever knows, with each change, which document stood there, as one who keeps the documents does: it
-//! keeps nothing of what views read but what their stages need. A `Registry` is for everybody else: it keeps the documents of each
-//! namespace that views read, and so finds by itself what stood where a change is.
+//! A `ToldRegistry` is for a caller that knows, for each change, which document was at its position before, because it stores the
+//! documents. Of what views read, it keeps only what their stages need. A `Registry` is for all other callers: it keeps the
+//! documents of each namespace that views read, and so finds by itself which document was at the position of a change.
 #![tactic(auto)]
 
 mod by_id;

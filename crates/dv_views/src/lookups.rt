@@ -1,4 +1,4 @@
-//! The namespaces that stages look into.
+//! The namespaces that stages read by `$lookup`.
 
 ghost use Rattle.std.specs.Prelude.{◌≡◌, ◌++◌, IfOk, OnOk};
 ghost use Rattle.std.specs.String.{string_bytes};
@@ -12,8 +12,8 @@ use dv_pipe::{Pipeline, Stage};
 use dv_value::{NoMemory, Str};
 use std::alloc::Global;
 
-/// The namespaces that the stages of a pipeline over `source` look into, in their order. Fails with `NoMemory` when memory runs
-/// out.
+/// The namespaces that the stages of a pipeline over `source` read by `$lookup`, in their order. Fails with `NoMemory` when memory
+/// runs out.
 pub fn lookups_of(alloc: Global, source: &str, stages: &[Stage]) -> Result<Vec<Str>, NoMemory>
     ensures { IfOk result (λ lookups. lookups.items ≡ defined.lookups_of stages.now source.now) }
 {
@@ -26,8 +26,8 @@ pub fn lookups_of(alloc: Global, source: &str, stages: &[Stage]) -> Result<Vec<S
     Ok(lookups)
 }
 
-/// The names that the pipeline over `source` reads: it, and each that a stage looks into, in their order. Fails with `NoMemory`
-/// when memory runs out.
+/// The names that the pipeline over `source` reads: `source`, and each that a stage reads by `$lookup`, in their order. Fails with
+/// `NoMemory` when memory runs out.
 pub fn names_read(alloc: Global, source: &str, pipeline: &Pipeline) -> Result<Vec<Str>, NoMemory>
     ensures { IfOk result (λ names. names.items ≡ forms.names_read pipeline.now source.now) }
 {
@@ -67,7 +67,7 @@ pub(crate) fn is_listed(names: &[Str], name: &str) -> bool
     false
 }
 
-/// Puts the names that the view reads behind the others. Fails when memory runs out.
+/// Appends the names that the view reads. Fails when memory runs out.
 pub(crate) fn push_names_read(names: &mut Vec<Str>, view: &View) -> Result<(), NoMemory>
     ensures { OnOk result (names.new.items ≡ names.old.items ++ names_read view.now.stages view.now.source) }
 {

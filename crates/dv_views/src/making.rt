@@ -1,4 +1,4 @@
-//! What a view keeps as it is made: over older views, and over what collections hold.
+//! What a view keeps when it is created or recomputed, over older views and the documents of collections.
 
 ghost use Rattle.std.specs.Prelude.{◌≡◌, false, IfOk};
 ghost use Rattle.std.specs.List.{AllByRecursion};
@@ -27,8 +27,8 @@ use dv_value::{Document, NoMemory, Str};
 use indexmap::IndexMap;
 use std::alloc::Global;
 
-/// What stands under names for a view that is made: views, of which those before the place are older, and what collections
-/// hold.
+/// The rows under names for a view that is created or recomputed: those of views, of which the ones before the place are older, and
+/// the documents of collections.
 #[derive(Drop)]
 pub(crate) struct Ground<'a> {
     pub(crate) views: &'a IndexMap<String, View>,
@@ -36,8 +36,8 @@ pub(crate) struct Ground<'a> {
     pub(crate) sources: &'a Sources<'a>,
 }
 
-/// What the pipeline over `source` makes of what it reads there, kept by changes; `lookups` is what its stages look into, and no
-/// view that it reads is stale. Nothing is counted. Fails when memory runs out.
+/// The rows of the pipeline over `source`, ready to be updated by changes. `lookups` are the names that its stages read by
+/// `$lookup`, and no view that it reads is stale. Nothing is counted. Fails when memory runs out.
 pub(crate) fn made(
     alloc: Global,
     ground: &Ground<'_>,
@@ -51,7 +51,7 @@ pub(crate) fn made(
     ensures sound { IfOk result (λ rows. IsSoundLive rows) }
     ensures built { IfOk result (λ rows. IsBuilt pipeline.now source.now (views_below ground.now) (lists_below ground.now) (live (kept_seen rows))) }
 {
-    // With the lists that stages look into there first, each row of the source is made once.
+    // The lists that stages read by `$lookup` are taken in first, so that each row of the source is computed only once.
     let fresh = nothing_taken_in(alloc, pipeline)?;
     let some = filled_lists(alloc, fresh, ground, lookups)?;
     let firsts = firsts_under(alloc, ground, source)?;
@@ -59,7 +59,7 @@ pub(crate) fn made(
     Ok(whole.counted_anew())
 }
 
-/// Puts in what stands under the name of each list that a stage looks into.
+/// Takes in the rows under the name of each list that a stage reads by `$lookup`.
 fn filled_lists(
     alloc: Global,
     rows: ToldRows<StageOperator>,
@@ -81,7 +81,7 @@ fn filled_lists(
     Ok(live)
 }
 
-/// Takes in the rows of a list of which none came yet; nothing is told of them.
+/// Takes in the rows of a list, of which none was taken in before; no changes are passed on.
 fn filled_list(
     alloc: Global,
     rows: ToldRows<StageOperator>,
@@ -96,7 +96,7 @@ fn filled_list(
     taken_in_each(rows, Input::Named(place), firsts.as_slice(), &mut told)
 }
 
-/// What stands under a name, each row put at its position, where none stood. Fails when memory runs out.
+/// The rows under a name, each put at its position, where no row was before. Fails when memory runs out.
 fn firsts_under(alloc: Global, ground: &Ground<'_>, name: &str) -> Result<Vec<Taken>, NoMemory>
     requires ordered { AreInOrder (lists_below ground.now name.now) }
     requires live { IsNoStale (view_under name.now (views_below ground.now)) }

@@ -1,4 +1,4 @@
-//! Views among others in creation order: a view knows the older ones alone.
+//! Views among others in creation order: a view knows only the older ones.
 
 ghost use Rattle.std.specs.Prelude.{◌≡◌, map, take};
 ghost use Rattle.std.specs.Option.{option_map};
@@ -9,7 +9,7 @@ ghost use Rattle.dv_views.specs.Inner.Views.{view_under};
 use crate::view::View;
 use indexmap::IndexMap;
 
-/// The place of the view of this name, where it stands before a place.
+/// The place of the view of this name, if it is before a given place.
 pub(crate) fn place_before(
     views: &IndexMap<String, View>,
     place: usize,
@@ -21,7 +21,7 @@ pub(crate) fn place_before(
     if found < place { Some(found) } else { None }
 }
 
-/// The view of this name, where it stands before a place.
+/// The view of this name, if it is before a given place.
 pub(crate) fn older<'a>(
     views: &'a IndexMap<String, View>,
     place: usize,

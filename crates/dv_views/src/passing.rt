@@ -1,4 +1,4 @@
-//! A change of what stands under a namespace, which views hand on in creation order.
+//! A change of the documents under a namespace, which is passed on from view to view in creation order.
 
 ghost use Rattle.std.specs.Prelude.{◌≡◌, ◌<◌, ◌∷◌, [], length, map, slice_get, is_some, Some, IfOk, IsTrue};
 ghost use Rattle.std.specs.List.{AllByRecursion, list_any};
@@ -40,8 +40,8 @@ impl From<AllocError> for StaleCause {
     }
 }
 
-/// A change of what stands under a namespace, as it comes to the view at a place: views, of which those before the place tell
-/// what it makes of their rows.
+/// A change of the documents under a namespace, as it reaches the view at a place: the views before the place already have the
+/// changes of their rows.
 #[derive(Drop)]
 pub(crate) struct Passing<'a> {
     pub(crate) views: &'a IndexMap<String, View>,
@@ -51,7 +51,7 @@ pub(crate) struct Passing<'a> {
 }
 
 impl<'a> Passing<'a> {
-    /// What is told under a name: nothing, where the change doesn't come there.
+    /// The changes under a name. None if the change doesn't reach the name.
     fn told(&self, name: &str) -> Option<&'a [Taken]>
         ensures { option_map (λ all. all.now) result ≡ told_to self.now name.now }
     {
@@ -62,14 +62,14 @@ impl<'a> Passing<'a> {
         }
     }
 
-    /// Whether the change comes to the name.
+    /// Whether the change reaches the name.
     fn comes_to(&self, name: &str) -> bool
         ensures { result ≡ is_some (told_to self.now name.now) }
     {
         self.told(name).is_some()
     }
 
-    /// Whether the change comes to one of these names.
+    /// Whether the change reaches one of these names.
     fn reaches(&self, names: &[Str]) -> bool
         ensures { result ≡ list_any (λ name. is_some (told_to self.now name)) names.now }
     {
@@ -81,7 +81,7 @@ impl<'a> Passing<'a> {
         false
     }
 
-    /// Whether each of these names that is a view's is that of a live one.
+    /// Whether each older view with one of these names is live.
     fn are_live(&self, names: &[Str]) -> bool
         ensures { IsTrue result → AllByRecursion (λ name. IsLiveView (view_under name (older_views self.now))) names.now }
     {
@@ -93,7 +93,7 @@ impl<'a> Passing<'a> {
         true
     }
 
-    /// Whether the name, if it is a view's, is that of a live one.
+    /// Whether the older view of this name is live. True if there is none.
     fn is_live(&self, name: &str) -> bool
         ensures { IsTrue result → IsLiveView (view_under name.now (older_views self.now)) }
     {
@@ -103,8 +103,8 @@ impl<'a> Passing<'a> {
         }
     }
 
-    /// Takes in what comes to the source and to each list that a stage looks into, and tells what changes of the rows. Fails when
-    /// memory runs out, and where a view that is read is stale; then the rows are dropped.
+    /// Takes in the changes of the source and of each list that a stage reads by `$lookup`, and returns the rows and their changes.
+    /// Fails when memory runs out, or if a view that is read is stale; then the rows are dropped.
     fn turned(
         &self,
         alloc: Global,
@@ -127,7 +127,7 @@ impl<'a> Passing<'a> {
         Ok((rows, told))
     }
 
-    /// Takes in what comes to each list.
+    /// Takes in the changes of each list.
     fn taken_by_lists(
         &self,
         live: ToldRows<StageOperator>,
@@ -147,8 +147,8 @@ impl<'a> Passing<'a> {
     }
 }
 
-/// Hands a change on to the view at a place: it takes it in where it comes to what the view reads, and tells what it makes of
-/// its rows. A view that finds no memory, or of which one that it reads is stale, drops what it keeps and is stale.
+/// Passes a change to the view at a place. If the change reaches what the view reads, the view takes it in and passes on the
+/// changes of its rows; if memory runs out for that, or if a view that it reads is stale, it drops what it keeps and becomes stale.
 pub(crate) fn take_at(
     alloc: Global,
     views: &mut IndexMap<String, View>,
@@ -178,8 +178,8 @@ pub(crate) fn take_at(
     views[place].settle(turned);
 }
 
-/// Hands a change for which memory ran out on to the view at a place: where it comes to what the view reads, this drops what it
-/// keeps and is stale. Takes no memory.
+/// Passes a change for which memory ran out to the view at a place. If the change reaches what the view reads, the view drops what
+/// it keeps and becomes stale. Takes no memory.
 pub(crate) fn lose_at(
     alloc: Global,
     views: &mut IndexMap<String, View>,
@@ -197,7 +197,7 @@ pub(crate) fn lose_at(
     let _ = views[place].take_out(Vec::new(alloc));
 }
 
-/// Whether the change comes to what the view at a place reads.
+/// Whether the change reaches what the view at a place reads.
 fn is_reached(views: &IndexMap<String, View>, place: usize, namespace: &str, all: &[Taken]) -> bool
     requires { place < length views.now.entries }
     ensures { (view : Body) → slice_get (values_of views.now.entries) place ≡ Some view → result ≡ comes_to view.stages view.source (told_found namespace.now all.now place views.now.entries) }

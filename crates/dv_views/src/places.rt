@@ -12,8 +12,8 @@ use dv_order::Key;
 use dv_value::{Document, NoMemory};
 use std::alloc::Global;
 
-/// The document, which is shared and begins with its `_id`, put at its own position, where `before` stood, if anything did. Fails
-/// with `NoMemory` when memory runs out.
+/// The change that puts the document, which begins with its `_id`, at its own position. `before` is the document that was there, if
+/// any. Their memory is shared. Fails with `NoMemory` when memory runs out.
 pub fn document_put(
     alloc: Global,
     before: Option<&Document>,
@@ -29,7 +29,8 @@ pub fn document_put(
     })
 }
 
-/// The document under the key gone, where `before` stood, if anything did. Fails with `NoMemory` when memory runs out.
+/// The change that removes the document under the key. `before` is the document that was there, if any. Fails with `NoMemory` when
+/// memory runs out.
 pub fn document_gone(alloc: Global, key: Key, before: Option<&Document>) -> Result<Taken, NoMemory>
     ensures { IfOk result (λ taken. taken ≡ record { pos = Up key ∷ []; old = option_map (λ d. d.now) before.entry; new = None }) }
 {
@@ -40,7 +41,7 @@ pub fn document_gone(alloc: Global, key: Key, before: Option<&Document>) -> Resu
     })
 }
 
-/// The document, where there is one, of its own, whose memory is shared.
+/// A copy of the document, if there is one. It shares its memory.
 fn shared(document: Option<&Document>) -> Result<Option<Document>, NoMemory>
     ensures { IfOk result (λ copy. copy ≡ option_map (λ d. d.now) document.entry) }
 {

@@ -1,4 +1,4 @@
-//! Which views a change of a namespace comes to.
+//! Which views a change of a namespace reaches.
 
 ghost use Rattle.std.specs.Prelude.{◌≡◌, ◌∷◌, ◌++◌, [], ℕ, List, OnOk, IfOk};
 ghost use Rattle.dv_views.specs.Inner.Readers as defined;
@@ -10,8 +10,8 @@ use dv_value::NoMemory;
 use indexmap::IndexMap;
 use std::alloc::Global;
 
-/// For each namespace that a view reads, the places of the views to which a change of it comes, ascending: of those that read it,
-/// and of those that read one of these.
+/// For each namespace that a view reads, the places of the views that a change of it reaches, ascending: of those that read it,
+/// directly or through other views.
 #[derive(Debug, Drop)]
 pub(crate) struct Readers {
     lists: IndexMap<String, Vec<usize>>,
@@ -27,7 +27,7 @@ impl Readers {
         }
     }
 
-    /// The places of the views to which a change of the namespace comes. Takes no memory.
+    /// The places of the views that a change of the namespace reaches. Takes no memory.
     pub(crate) fn under(&self, namespace: &str) -> &[usize]
         ensures { result.now ≡ places_under namespace.now (listing_seen self.now.lists.entries) }
     {
@@ -37,7 +37,7 @@ impl Readers {
         }
     }
 
-    /// The lists with a view more, which will stand behind the others. Fails when memory runs out.
+    /// The lists with one more view, which will be after the others. Fails when memory runs out.
     pub(crate) fn with(
         &self,
         alloc: Global,
@@ -55,7 +55,7 @@ impl Readers {
         Ok(Readers { lists })
     }
 
-    /// Each list with a view more, where a change of its namespace comes to that.
+    /// Each list, with one more view if a change of the list's namespace reaches this view.
     fn lists_with(
         &self,
         alloc: Global,
@@ -73,7 +73,7 @@ impl Readers {
         Ok(lists)
     }
 
-    /// Takes a place out of the lists; those behind it stand one lower. Takes no memory.
+    /// Removes a place from the lists; each place after it becomes one lower. Takes no memory.
     pub(crate) fn take_out(&mut self, place: usize)
         ensures { listing_seen self.new.lists.entries ≡ listing_without place (listing_seen self.old.lists.entries) }
     {
@@ -84,7 +84,7 @@ impl Readers {
     }
 }
 
-/// The places with that of a view more, where a change of the namespace comes to it. Fails when memory runs out.
+/// The places, with that of one more view if a change of the namespace reaches it. Fails when memory runs out.
 fn places_with(
     alloc: Global,
     places: &[usize],
@@ -101,7 +101,7 @@ fn places_with(
     Ok(more)
 }
 
-/// Whether the view reads one of those at these places.
+/// Whether the view reads one of the views at these places.
 fn reads_one(view: &View, views: &IndexMap<String, View>, places: &[usize]) -> bool
     ensures { result ≡ defined.reads_one view.now.stages view.now.source views.now.entries places.now }
 {
@@ -111,7 +111,7 @@ fn reads_one(view: &View, views: &IndexMap<String, View>, places: &[usize]) -> b
     })
 }
 
-/// Lists this place under the name, where nothing is listed. Fails when memory runs out.
+/// Lists this place under the name, if nothing is listed there. Fails when memory runs out.
 fn list_under(
     alloc: Global,
     lists: &mut IndexMap<String, Vec<usize>>,
@@ -129,7 +129,7 @@ fn list_under(
     Ok(())
 }
 
-/// Takes a place out of the list; those behind it stand one lower.
+/// Removes a place from the list; each place after it becomes one lower.
 fn take_out_of(places: &mut Vec<usize>, place: usize)
     ensures { places.new.items ≡ without place places.old.items }
 {

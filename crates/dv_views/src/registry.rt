@@ -1,4 +1,4 @@
-//! Views whose registry knows what stands in the namespaces that they read.
+//! Views whose registry keeps the documents of the namespaces that they read.
 
 ghost use Rattle.std.specs.Prelude.{◌≡◌, ◌≢◌, [], false, length, map, slice_get, None, OnOk, OnErr};
 ghost use Rattle.std.specs.List.{AllByRecursion};
@@ -24,9 +24,9 @@ use std::alloc::Global;
 use std::marker::Model;
 use std::slice::from_ref;
 
-/// Views in creation order, for whoever doesn't know which document stood where a change is. It keeps the documents of each namespace
-/// that views read and that is no view: they are shared, and each takes an entry of a tree. Whoever does know it, as one who keeps
-/// the documents, takes a `ToldRegistry`, which needs no such entries.
+/// Views in creation order, for a caller that doesn't know which document was at the position of a change before. It keeps the
+/// documents of each namespace that views read and that is no view: their memory is shared, and each takes an entry of a tree. A
+/// caller that knows the document, because it stores the documents, uses a `ToldRegistry`, which needs no such entries.
 #[derive(Debug, Drop)]
 pub struct Registry {
     alloc: Global,
@@ -58,7 +58,7 @@ impl Registry {
         }
     }
 
-    /// The views, of which all can be asked that a `ToldRegistry` answers.
+    /// The views as a `ToldRegistry`, whose methods that change nothing can be called.
     pub fn views(&self) -> &ToldRegistry
         ensures { result.now ≡ self.now.views }
     {
@@ -94,9 +94,9 @@ impl Registry {
         self.views.rows(name)
     }
 
-    /// The count of the work that changes of what it reads took since the rows of the view of this name were made or recomputed: for
-    /// each stage, 1 for each change that it took in, and 1 for each that it returned. It stays at 9,223,372,036,854,775,807, and
-    /// is 0 if the view is stale. None if there is no such view. Takes no memory.
+    /// The ticks of the view of this name: the work that the changes of what it reads took, since its rows were made or recomputed.
+    /// Each of its stages counts 1 for each change that it took in, and 1 for each that it returned. The count stays at
+    /// 9,223,372,036,854,775,807, and is 0 if the view is stale. None if there is no such view. Takes no memory.
     pub fn ticks(&self, name: &str) -> Option<u64>
         ensures { result ≡ option_map (λ v. mark_ticks v.mark) (view_under name.now self.now.views) }
     {
@@ -110,10 +110,10 @@ impl Registry {
         self.views.is_read(namespace)
     }
 
-    /// Adds a view after the others, with the rows that its pipeline returns over what it reads: views, of which the stale ones
-    /// that are needed are recomputed first, and `sources`, each in the order of its `_id`s. Refused with the first fault that
-    /// holds of `Exists`, `ReadByView` and `LimitReached`, which takes no memory; then nothing is changed. If none holds, refused
-    /// with `NoMemory` when memory runs out; then views that were recomputed before stay so. The pipeline is dropped.
+    /// Adds a view after the others, with the rows of its pipeline. The pipeline reads views, of which the needed stale ones are
+    /// recomputed first, and `sources`, each in the order of its `_id`s. Refused with the first of `Exists`, `ReadByView` and
+    /// `LimitReached` that applies, which takes no memory; then nothing is changed. If none applies, refused with `NoMemory` when
+    /// memory runs out; then views that were recomputed before stay live. If refused, the pipeline is dropped.
     pub fn create(
         &mut self,
         name: &str,
@@ -136,7 +136,7 @@ impl Registry {
         created
     }
 
-    /// Adds a view for which there is no fault but want of memory, where what it needs is kept first.
+    /// Adds a view that can only be refused because memory runs out. The documents that it needs are kept first.
     fn keep_and_create(
         &mut self,
         name: &str,
@@ -159,7 +159,7 @@ impl Registry {
         self.views.create(name, source, pipeline, sources)
     }
 
-    /// Takes out the view of this name, which none reads, and returns whether there was one. The others keep their order. Takes no
+    /// Removes the view of this name, which no view reads, and returns whether there was one. The others keep their order. Takes no
     /// memory.
     pub fn remove(&mut self, name: &str) -> bool
         requires { reads_name self.old.views name.now ≡ false }
@@ -173,11 +173,12 @@ impl Registry {
         there
     }
 
-    /// Passes changes that were made to the documents under the namespace to the views that depend on it. Each change goes to each
-    /// view in creation order before the next one. In a view it goes to the source first and then to each list that a stage looks
-    /// into. What changes of a view's rows goes to the views that read it, one change after the other. A view counts the work that
-    /// this takes. One that runs out of memory drops what it keeps and is stale, which takes none; so is each that reads a stale
-    /// one. If memory runs out for the namespace's own documents, each view that the change comes to is stale.
+    /// Passes changes that were made to the documents under the namespace to the views that depend on it. Each change is passed to
+    /// all these views, in creation order, before the next change. A view takes in the changes of its source first, and then those
+    /// of each list that a stage reads by `$lookup`. The changes of a view's rows are passed to the views that read it, one after
+    /// the other. A view counts the work that this takes. A view that runs out of memory drops what it keeps and becomes stale,
+    /// which takes no memory; so does each view that reads a stale one. If memory runs out for the namespace's own documents, each
+    /// view that the change reaches becomes stale.
     pub fn apply(&mut self, namespace: &str, changes: &[Change])
         ensures forms { map view_form self.new.views ≡ map view_form self.old.views }
         ensures right { StayKeptRight namespace.now changes.now self.old self.new }
@@ -191,7 +192,7 @@ impl Registry {
         }
     }
 
-    /// Hands a change on to each view to which it comes, in creation order.
+    /// Passes a change to each view that it reaches, in creation order.
     fn take(&mut self, namespace: &str, change: &Change)
         ensures { HaveTakenChange namespace.now change.now self.old self.new }
     {
@@ -202,8 +203,8 @@ impl Registry {
     }
 
     /// Recomputes the stale views of these names, in creation order, over older views and `sources`, each in the order of its
-    /// `_id`s. The names have to be such as `needed` returns: with each view those that it reads. Fails with `NoMemory` when memory
-    /// runs out; then views that were recomputed before stay so.
+    /// `_id`s. With each view, the names must include those that it reads, as the names do that `needed` returns. Fails with
+    /// `NoMemory` when memory runs out; then views that were recomputed before stay live.
     pub fn refresh(&mut self, names: &[Str], sources: &Sources<'_>) -> Result<(), NoMemory>
         requires closed { forms.IsClosed names.now (map view_form self.old.views) }
         requires read { AllByRecursion (λ n. AreInOrder (lists_of sources.now n)) names.now }
@@ -216,7 +217,7 @@ impl Registry {
         refreshed
     }
 
-    /// The same, where what the names need is kept first.
+    /// Recomputes views as `refresh` does. The documents under the names are kept first.
     fn keep_and_refresh(&mut self, names: &[Str], sources: &Sources<'_>) -> Result<(), NoMemory>
         requires closed { forms.IsClosed names.now (map view_form self.old.views) }
         requires read { AllByRecursion (λ n. AreInOrder (lists_of sources.now n)) names.now }

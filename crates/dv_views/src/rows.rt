@@ -29,7 +29,7 @@ impl<'a> Model for ViewRows<'a> {
 }
 
 impl<'a> ViewRows<'a> {
-    /// The rows that are kept by changes.
+    /// The rows of a live view.
     pub(crate) fn of_kept(live: &'a ToldRows<StageOperator>) -> Self
         ensures { result ≡ forget live.now.rows.entries }
     {

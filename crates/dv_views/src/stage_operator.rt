@@ -1,4 +1,4 @@
-//! Stages that are told of each change with the row that stood at its position.
+//! Stages that receive each change with the row that was at its position before.
 
 ghost use Rattle.std.specs.Prelude.{IfOk};
 ghost use Rattle.dv_views.specs.Inner.Operating.{AreFresh, HoldsStage, IsFreshStage, IsSoundStage, stage_empty, stage_even, stage_makes, stage_ordered, stage_positioned};
@@ -14,7 +14,7 @@ use dv_value::{Document, NoMemory};
 use std::alloc::Global;
 use std::collections::BTreeMap;
 
-/// A stage of any kind that is told of changes, so that all can stand one behind the other.
+/// A stage of any kind that receives changes. It is one type for all kinds, so that they can follow each other.
 #[derive(Drop)]
 pub(crate) enum StageOperator {
     /// `$match`.
@@ -122,7 +122,7 @@ impl Operator for StageOperator {
     }
 }
 
-/// The stages, where they have taken in nothing. Fails when memory runs out.
+/// The stages, which have taken in nothing yet. Fails when memory runs out.
 pub(crate) fn operators_of(alloc: Global, stages: &[Stage]) -> Result<Vec<StageOperator>, NoMemory>
     ensures { IfOk result (λ operators. AreFresh stages.now operators.items) }
 {
@@ -134,7 +134,7 @@ pub(crate) fn operators_of(alloc: Global, stages: &[Stage]) -> Result<Vec<StageO
     Ok(operators)
 }
 
-/// The stage, where it has taken in nothing. Fails when memory runs out.
+/// The stage, which has taken in nothing yet. Fails when memory runs out.
 #[tactic(auto, unfolding(crate::specs::Placed::stage_at))]
 fn operator_of(alloc: Global, stage: &Stage) -> Result<StageOperator, NoMemory>
     ensures { IfOk result (λ operator. IsFreshStage stage.now operator) }

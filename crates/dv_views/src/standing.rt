@@ -1,4 +1,4 @@
-//! Whether the rows of views stand by their `_id`s.
+//! Whether the position of each row of a view is the key of its `_id`.
 
 ghost use Rattle.std.specs.Prelude.{◌≡◌, ◌<◌, codes, length, map, IfSome};
 ghost use Rattle.std.specs.List.{list_any};
@@ -13,12 +13,12 @@ use crate::view::View;
 use dv_pipe::{Paths, Project, Stage};
 use indexmap::IndexMap;
 
-/// The name of the field by which documents stand.
+/// The name of the field by which documents are ordered.
 const ID: &str = "_id";
 
-/// A namespace of no older view on whose documents it depends whether the rows of the view at a place stand at their `_id`s:
-/// they do where these begin with theirs. `None` where the stages don't leave rows so. Takes as long as views stand one over
-/// the other, and no memory.
+/// A namespace whose documents decide whether the position of each row of the view at a place is the key of its `_id`: it is if
+/// each of these documents begins with its `_id`. `None` if the stages don't keep such positions. Takes time proportional to the
+/// number of views that are each over the next, and no memory.
 #[cycle(base)]
 pub(crate) fn base_at(views: &IndexMap<String, View>, place: usize) -> Option<&str>
     requires place { place < length views.now.entries }
@@ -39,7 +39,7 @@ pub(crate) fn base_at(views: &IndexMap<String, View>, place: usize) -> Option<&s
     }
 }
 
-/// Whether rows stand at their `_id`s behind stages, by whether they do before them.
+/// Whether the position of each row after these stages is the key of its `_id`, given whether it is before them.
 fn are_at_ids(before: bool, stages: &[Stage]) -> bool
     ensures { result ≡ defined.at_ids_through before stages.now }
 {
@@ -50,7 +50,7 @@ fn are_at_ids(before: bool, stages: &[Stage]) -> bool
     are
 }
 
-/// The same behind a stage. The rows of groups stand at their keys.
+/// The same after one stage. The position of a group's row is the group's key.
 fn are_behind(before: bool, stage: &Stage) -> bool
     ensures { result ≡ defined.at_ids_behind before stage.now }
 {

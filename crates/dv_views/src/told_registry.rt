@@ -37,12 +37,13 @@ use std::slice::from_ref;
 /// How many views there are at most.
 const MOST_VIEWS: usize = 1000;
 
-/// How high a view stands at most: one over collections alone stands at 1, and another one higher than all that it reads.
+/// The greatest height of a view. A view over collections alone has height 1, and any other view is one higher than the highest
+/// view that it reads.
 const MOST_HEIGHT: usize = 8;
 
-/// Views in creation order, each under a name of its own. A view is found by its name in constant time, and so are the views to
-/// which a change of a namespace comes. It is told with each change which document stood there; whoever doesn't know that takes a
-/// `Registry`.
+/// Views in creation order, each under a name of its own. A view is found by its name in constant time, and so are the views that a
+/// change of a namespace reaches. It receives each change with the document that was there before; a caller that doesn't know this
+/// document uses a `Registry`.
 #[derive(Debug, Drop)]
 pub struct ToldRegistry {
     alloc: Global,
@@ -138,7 +139,7 @@ impl ToldRegistry {
         view.rows()
     }
 
-    /// How many rows the view of this name keeps: none if it is stale. None if there is no such view. Takes no memory.
+    /// How many rows the view of this name keeps: 0 if it is stale. None if there is no such view. Takes no memory.
     pub fn row_count(&self, name: &str) -> Option<usize>
         ensures { result ≡ option_map (λ v. mark_rows v.mark) (view_under name.now self.now) }
     {
@@ -146,9 +147,9 @@ impl ToldRegistry {
         Some(view.row_count())
     }
 
-    /// The count of the work that changes of what it reads took since the rows of the view of this name were made or recomputed: for
-    /// each stage, 1 for each change that it took in, and 1 for each that it returned. It stays at 9,223,372,036,854,775,807, and
-    /// is 0 if the view is stale. None if there is no such view. Takes no memory.
+    /// The ticks of the view of this name: the work that the changes of what it reads took, since its rows were made or recomputed.
+    /// Each of its stages counts 1 for each change that it took in, and 1 for each that it returned. The count stays at
+    /// 9,223,372,036,854,775,807, and is 0 if the view is stale. None if there is no such view. Takes no memory.
     pub fn ticks(&self, name: &str) -> Option<u64>
         ensures { result ≡ option_map (λ v. mark_ticks v.mark) (view_under name.now self.now) }
     {
@@ -156,7 +157,7 @@ impl ToldRegistry {
         Some(view.ticks())
     }
 
-    /// The view of this name, where there is one.
+    /// The view of this name, if there is one.
     fn view(&self, name: &str) -> Option<&View>
         ensures { option_map (λ view. view_seen name.now view.now) result ≡ view_under name.now self.now }
     {
@@ -170,8 +171,8 @@ impl ToldRegistry {
         !self.readers.under(namespace).is_empty()
     }
 
-    /// The names that are needed for these: these, and after them what each view that is needed reads. Fails with `NoMemory` when
-    /// memory runs out.
+    /// The names that are needed to compute these: these names, and after them what each needed view reads. Fails with `NoMemory`
+    /// when memory runs out.
     pub fn needed(&self, names: Vec<Str>) -> Result<Vec<Str>, NoMemory>
         ensures needed { IfOk result (λ all. all.items ≡ forms.needed (map view_form self.now) names.items) }
         ensures closed { IfOk result (λ all. forms.IsClosed all.items (map view_form self.now)) }
@@ -189,7 +190,8 @@ impl ToldRegistry {
         Ok(needed)
     }
 
-    /// Why there can be no such view, if there is a reason other than memory: the first that holds. Takes no memory.
+    /// Why a view with this name, source and pipeline is refused, if there is a reason other than memory: the first one that
+    /// applies. Takes no memory.
     pub(crate) fn fault_of_new(
         &self,
         name: &str,
@@ -210,10 +212,10 @@ impl ToldRegistry {
         Some(ViewFault::LimitReached)
     }
 
-    /// Adds a view after the others, with the rows that its pipeline returns over what it reads: views, of which the stale ones
-    /// that are needed are recomputed first, and `sources`, each in the order of its `_id`s. Refused with the first fault that
-    /// holds of `Exists`, `ReadByView` and `LimitReached`, which takes no memory; then nothing is changed. If none holds, refused
-    /// with `NoMemory` when memory runs out; then views that were recomputed before stay so. The pipeline is dropped.
+    /// Adds a view after the others, with the rows of its pipeline. The pipeline reads views, of which the needed stale ones are
+    /// recomputed first, and `sources`, each in the order of its `_id`s. Refused with the first of `Exists`, `ReadByView` and
+    /// `LimitReached` that applies, which takes no memory; then nothing is changed. If none applies, refused with `NoMemory` when
+    /// memory runs out; then views that were recomputed before stay live. If refused, the pipeline is dropped.
     pub fn create(
         &mut self,
         name: &str,
@@ -237,8 +239,8 @@ impl ToldRegistry {
         Ok(self.add(name, source, pipeline, sources)?)
     }
 
-    /// Adds a view under a new name behind the others, none of which that it reads is stale. Fails when memory runs out; then
-    /// nothing is changed.
+    /// Adds a view under a new name after the others. No view that it reads is stale. Fails when memory runs out; then nothing is
+    /// changed.
     fn add(
         &mut self,
         name: &str,
@@ -273,7 +275,7 @@ impl ToldRegistry {
         Ok(())
     }
 
-    /// Takes out the view of this name, which none reads, and returns whether there was one. The others keep their order. Takes no
+    /// Removes the view of this name, which no view reads, and returns whether there was one. The others keep their order. Takes no
     /// memory.
     pub fn remove(&mut self, name: &str) -> bool
         requires { reads_name self.old name.now ≡ false }
@@ -287,11 +289,11 @@ impl ToldRegistry {
         true
     }
 
-    /// Passes changes that were made to the documents under the namespace, each told with the document that stood there, to the
-    /// views that depend on it. Each change goes to each view in creation order before the next one. In a view it goes to the source
-    /// first and then to each list that a stage looks into. What changes of a view's rows goes to the views that read it, one change
-    /// after the other. A view counts the work that this takes. One that runs out of memory drops what it keeps and is stale, which
-    /// takes none; so is each that reads a stale one.
+    /// Passes changes that were made to the documents under the namespace, each with the document that was there before, to the
+    /// views that depend on it. Each change is passed to all these views, in creation order, before the next change. A view takes
+    /// in the changes of its source first, and then those of each list that a stage reads by `$lookup`. The changes of a view's
+    /// rows are passed to the views that read it, one after the other. A view counts the work that this takes. A view that runs out
+    /// of memory drops what it keeps and becomes stale, which takes no memory; so does each view that reads a stale one.
     pub fn apply(&mut self, namespace: &str, all: &[Taken])
         ensures forms { map view_form self.new ≡ map view_form self.old }
         ensures right { StaysRight namespace.now (changes_told all.now) all.now self.old self.new }
@@ -305,7 +307,7 @@ impl ToldRegistry {
         }
     }
 
-    /// Hands a change on to each view to which it comes, in creation order.
+    /// Passes a change to each view that it reaches, in creation order.
     pub(crate) fn take(&mut self, namespace: &str, all: &[Taken])
         ensures taken { HaveTaken (known_at namespace.now all.now) self.old self.new }
         ensures sound { IsSoundRegistry self.new }
@@ -315,8 +317,8 @@ impl ToldRegistry {
     }
 
     /// Recomputes the stale views of these names, in creation order, over older views and `sources`, each in the order of its
-    /// `_id`s. The names have to be such as `needed` returns: with each view those that it reads. Fails with `NoMemory` when memory
-    /// runs out; then views that were recomputed before stay so.
+    /// `_id`s. With each view, the names must include those that it reads, as the names do that `needed` returns. Fails with
+    /// `NoMemory` when memory runs out; then views that were recomputed before stay live.
     pub fn refresh(&mut self, names: &[Str], sources: &Sources<'_>) -> Result<(), NoMemory>
         requires closed { forms.IsClosed names.now (map view_form self.old) }
         requires read { AllByRecursion (λ n. AreInOrder (lists_of sources.now n)) names.now }
@@ -330,8 +332,8 @@ impl ToldRegistry {
         Ok(())
     }
 
-    /// Makes the view at a place anew, where it is stale and its name is one of these. Fails when memory runs out; then nothing
-    /// is changed.
+    /// Recomputes the view at a place, if it is stale and its name is one of these. Fails when memory runs out; then nothing is
+    /// changed.
     fn refresh_at(
         &mut self,
         place: usize,
@@ -371,8 +373,8 @@ impl ToldRegistry {
         Ok(())
     }
 
-    /// How high a view of the pipeline over `source` would stand: one more than the highest view that it reads. Takes no
-    /// memory.
+    /// The height that a view of the pipeline over `source` would have: one more than the greatest height of what it reads. Takes
+    /// no memory.
     fn height_over(&self, source: &str, pipeline: &Pipeline) -> usize
         ensures { result ≡ forms.height_over (forms.heights (map view_form self.now)) pipeline.now source.now }
     {

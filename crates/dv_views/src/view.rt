@@ -18,26 +18,26 @@ use std::fmt;
 use std::marker::Model;
 use std::mem::replace;
 
-/// A view: what its rows are made of, what it keeps, and what it tells of the change that views hand on.
+/// A view: its source and pipeline, what it keeps, and the changes of its rows that it passes on.
 #[derive(Debug, Drop)]
 pub(crate) struct View {
     source: Str,
     pipeline: Pipeline,
-    /// The namespaces that its stages look into, in their order.
+    /// The namespaces that its stages read by `$lookup`, in their order.
     lookups: Vec<Str>,
-    /// How high it stands: one higher than the highest view that it reads.
+    /// Its height: one more than the greatest height of what it reads.
     height: usize,
     mark: Mark,
-    /// Its own changes, where the change comes to it.
+    /// The changes of its rows, if the change that views pass on reaches it.
     told: Option<Vec<Taken>>,
 }
 
 /// What a view keeps.
 #[derive(Drop)]
 pub(crate) enum Mark {
-    /// Its rows, kept by changes.
+    /// Its rows, updated by changes.
     Live(ToldRows<StageOperator>),
-    /// Nothing, since its rows have to be made anew.
+    /// Nothing, since its rows have to be recomputed.
     Stale,
 }
 
@@ -102,14 +102,14 @@ impl View {
         &self.pipeline
     }
 
-    /// The namespaces that its stages look into, in their order.
+    /// The namespaces that its stages read by `$lookup`, in their order.
     pub(crate) fn lookups(&self) -> &[Str]
         ensures { result.now ≡ defined.lookups_of self.now.stages self.now.source }
     {
         self.lookups.as_slice()
     }
 
-    /// How high it stands: one higher than the highest view that it reads.
+    /// Its height: one more than the greatest height of what it reads.
     pub(crate) fn height(&self) -> usize
         ensures { result ≡ self.now.height }
     {
@@ -170,7 +170,7 @@ impl View {
         }
     }
 
-    /// Its rows, where they are kept by changes.
+    /// Its rows, if it is live.
     pub(crate) fn live(&self) -> Option<&ToldRows<StageOperator>>
         ensures kept { IfSome result (λ rows. self.now.mark ≡ live (kept_seen rows.now)) }
         ensures sound { IfSome result (λ rows. IsSoundLive rows.now) }
@@ -182,7 +182,7 @@ impl View {
         }
     }
 
-    /// What it tells of the change that views hand on; none where the change doesn't come to it.
+    /// The changes of its rows for the change that views pass on. None if that change doesn't reach it.
     pub(crate) fn told(&self) -> Option<&[Taken]>
         ensures { option_map (λ all. all.now) result ≡ self.now.told }
     {
@@ -192,15 +192,15 @@ impl View {
         }
     }
 
-    /// Tells nothing.
+    /// Drops the changes of its rows, so that it passes on none.
     pub(crate) fn leave(&mut self)
         ensures { self.new ≡ record self.old { told = None } }
     {
         self.told = None;
     }
 
-    /// Takes out the rows that are kept by changes, where they are, for a change that comes to the view: it is stale then, and
-    /// tells of no change.
+    /// Takes out the rows, if the view is live, for a change that reaches it. The view is stale then, and passes on an empty list
+    /// of changes.
     pub(crate) fn take_out(&mut self, nothing: Vec<Taken>) -> Option<ToldRows<StageOperator>>
         requires { nothing.items ≡ [] }
         ensures left { self.new ≡ record self.old { mark = stale; told = Some [] } }
@@ -214,7 +214,7 @@ impl View {
         }
     }
 
-    /// Puts back the rows behind a change, and what is told of it, where all went well.
+    /// Puts back the rows after a change, with the changes of the rows, if `turned` is `Ok`.
     pub(crate) fn settle<E: Drop>(
         &mut self,
         turned: Result<(ToldRows<StageOperator>, Vec<Taken>), E>,

@@ -1,4 +1,4 @@
--- A play and the plain one, where each step keeps what their states have in common.
+-- A play and the plain one, if each step keeps what their states have in common.
 use Rattle.std.proofs.Common.{◌≡◌, ◌≤◌, ℕ, zero, suc, ◌⊎◌, Bool, true, false, List, [], ◌∷◌, ◌++◌, length, map, take, Option, Some, None, Ok, Err, MatchOption, refl, sym, ap, ap₂, subst, ◌∙◌, inl, inr, if◌then◌else◌, lt-ltb, le-ltb}
 use Rattle.std.specs.List.{AllByRecursion, concat}
 use Rattle.std.proofs.lemmas.Bool.{and_from, and_left, and_right}
@@ -26,29 +26,29 @@ use Rattle.dv_wire.proofs.Orders.{plain_conversation}
 use Rattle.dv_wire.proofs.Runs.{follows_cases}
 use Rattle.dv_wire.proofs.Wanting.{holds_behind}
 
--- what is kept by such steps, behind the commands that are meant
+-- what such steps keep, for the commands that are meant
 pub record Keeps (Step : SessionSteps) (Alike : State → State → Type 0) (Meant : Command → Type 0) : Type 0 where
   pub replied : (real plain new : State) (session : ℕ) (command : Command) (reply : List Field) → Alike real plain → Meant command → Step real session command (Reply reply) new
       → (reply ≡ (counted_step plain session command).reply) × Alike new (counted_step plain session command).state
   pub wanting : (old new : State) (session : ℕ) (command : Command) (reply : List Field) → Step old session command (Wanting reply) new → IsReplyOfWant reply
   pub ended : (session : ℕ) (real plain : State) → Alike real plain → Alike (end_session session real) (end_session session plain)
 
--- the world, but for its state
+-- the world with this state instead of its own
 abbrev pub at : State → World → World
 at state world = record { state = state; next = world.next; sessions = world.sessions }
 
--- the same is answered, and states are alike
+-- the answers are the same, and the states are in the relation `Alike`
 record AreRunsAlike (Alike : State → State → Type 0) (run plain : Run) : Type 0 where
   answers : run.answers ≡ plain.answers
   state : Alike run.state plain.state
   conversation : run.conversation ≡ plain.conversation
 
--- worlds are the same, but for their states, which are alike
+-- the worlds are the same, except for their states, which are in the relation `Alike`
 pub record AreAlike (Alike : State → State → Type 0) (world plain : World) : Type 0 where
   pub state : Alike world.state plain.state
   pub others : at plain.state world ≡ plain
 
--- what is said is what the plain machine says, and worlds are alike behind it
+-- the plain machine reports the same, and the worlds after it are `AreAlike`
 pub record IsPlayAlike (Alike : State → State → Type 0) (told : List Said) (new : World) (plain : Played) : Type 0 where
   pub said : told ≡ plain.said
   pub world : AreAlike Alike new plain.world
@@ -76,7 +76,7 @@ module _ (Meant : Command → Type 0) where
 module _ (Step : SessionSteps) (Alike : State → State → Type 0) (Meant : Command → Type 0) (keeps : Keeps Step Alike Meant) where
   -- ---- one message after the other
 
-  -- a message is replied to by its step, or its reply tells of want
+  -- a message gets the reply of its step, or its reply reports that memory ran out
   module _ (session : ℕ) (old mid : State) (message : Message) (bytes : List ℕ) where
     abbrev IsReplied : Type 0
     IsReplied = (reply : List Field) × (bytes ≡ reply_bytes message reply) × Step old session (command_of message) (Reply reply) mid
@@ -131,7 +131,8 @@ module _ (Step : SessionSteps) (Alike : State → State → Type 0) (Meant : Com
 
   -- ---- one event after the other
 
-  -- what is said of an event is what the plain machine says, worlds are alike behind it, and later events bring what is meant
+  -- the plain machine reports the same of an event, the worlds after it are `AreAlike`, and the commands of later events are meant
+  -- ones
   record IsHappeningAlike (first : Said) (new : World) (plain : Happening) (later : List Event) : Type 0 where
     said : first ≡ plain.said
     world : AreAlike Alike new plain.world
@@ -145,7 +146,7 @@ module _ (Step : SessionSteps) (Alike : State → State → Type 0) (Meant : Com
     meant = subst (λ (w : World). OfCommands Meant (order w.next w.sessions later)) (sym is) meant;
   }
 
-  -- of a session that takes what it heard
+  -- for a session that takes what it heard
   runs_alike : (old new : World) (plain : State) (session : ℕ) (bytes : List ℕ) (told : Fed) (stream : Split) (run : Run) (later : List Event) → bytes ≡ bytes_of run → told ≡ fed_of run.conversation
       → new ≡ world_behind session run old → AreRunsAlike Alike run (plain_run session plain stream)
       → OfCommands Meant (order old.next (with_conversation session stream.conversation old.sessions) later)

@@ -1,4 +1,4 @@
--- How views stand behind a step that leaves all of them live: each has counted the step's work.
+-- The marks of views after a step that leaves all of them live: each has counted the step's work.
 use Rattle.std.proofs.Common.{◌≡◌, ℕ, Bool, true, false, List, [], ◌∷◌, ◌++◌, Option, Some, None, Result, Ok, Err, refl, ap, ap₂, subst, ◌∙◌, inl, inr, if◌then◌else◌}
 use Rattle.dv_catalog.specs.Changes.{Statement}
 use Rattle.dv_catalog.specs.Marks.{AreMarkedSo, AreMarkedWhere, IsMarkedBy, Mark, Marks, all_counted, all_gone, live, mark_counted, mark_read, marks_counted, marks_made, marks_named, marks_read, marks_without, shares_told, stale}
@@ -16,7 +16,7 @@ use Rattle.dv_views.specs.Flow.{Share}
 use Rattle.dv_views.specs.Forms.{ViewForm, is_name_among, names_read, needed}
 use Rattle.dv_wire.specs.Standing.{AreAllLive}
 
--- ---- behind changes
+-- ---- after changes
 
 mark_is : (share : Share) (before after : Mark) → IsMarkedBy share before after → (after ≡ stale → ⊥) → after ≡ mark_counted share before
 mark_is share before after (inl is) not_stale = is
@@ -25,7 +25,7 @@ mark_is share before after (inr struck) not_stale = absurd (not_stale struck.sta
 mark_was : (share : Share) (before after : Mark) → IsMarkedBy share before after → (after ≡ stale → ⊥) → before ≡ stale → ⊥
 mark_was share before after marked not_stale was = not_stale (mark_is share before after marked not_stale ∙ ap (mark_counted share) was)
 
--- they were live before, too
+-- the views were live before, too, and have counted their shares
 counted_by : (shares : List Share) (before after : Marks) → AreMarkedSo shares before after → AreAllLive after → AreAllLive before × (after ≡ all_counted shares before)
 counted_by [] before after is are_live = (subst AreAllLive is are_live, is)
 counted_by (share ∷ rest) [] after is are_live = (tt, is)
@@ -36,7 +36,7 @@ counted_by (share ∷ rest) (mark ∷ before) (now ∷ after) marked are_live =
       ap₂ (λ (m : Mark) (ms : Marks). m ∷ ms) (mark_is share mark now marked.0 are_live.0) others.1,
     )
 
--- ---- behind statements
+-- ---- after statements
 
 module _ (namespace : List ℕ) (ordered : Bool) (views : List ViewForm) where
   each_counted : (so_far : Written) (statements : List Statement) (before after : Marks) → AreMarkedByEach namespace ordered views so_far statements before after → AreAllLive after
@@ -48,7 +48,7 @@ module _ (namespace : List ℕ) (ordered : Bool) (views : List ViewForm) where
       let here = counted_by (shares_told namespace (due_changes namespace ordered views so_far statement) (lists_of so_far.namespaces) views) before mid first later.0 in
       (here.0, later.1 ∙ ap (marks_written namespace ordered views next statements) here.1)
 
--- ---- behind a command
+-- ---- after a command
 
 module _ (old : State) (marks : Marks) (are_live : AreAllLive marks) where
   write_counted : (view : Bool) (write : WriteSteps) → AreMarkedByWrite view write old marks
@@ -72,7 +72,7 @@ module _ (old : State) (marks : Marks) (are_live : AreAllLive marks) where
   marks_are (Ok asked) is = is
   marks_are (Err refusal) is = is
 
--- ---- views that are live stay so, where each counts
+-- ---- views that are live stay so, if each counts
 
 live_mark : (share : Share) (mark : Mark) → (mark ≡ stale → ⊥) → mark_counted share mark ≡ stale → ⊥
 live_mark share (live ticks) not_stale e = absurd cc

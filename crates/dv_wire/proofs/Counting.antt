@@ -7,7 +7,7 @@ use Rattle.dv_wire.specs.declared.session.Counts.{Counts}
 use Rattle.dv_wire.specs.Service.{reply_count}
 use Rattle.dv_wire.specs.Inner.View.{Counted}
 
--- bytes behind others
+-- bytes of answers after those of others
 pub answered_more : (old mid new : List ℕ) (one two : List (List ℕ)) → mid ≡ old ++ concat one → new ≡ mid ++ concat two → new ≡ old ++ concat (one ++ two)
 answered_more old mid new one two first second =
     second ∙ ap (λ (b : List ℕ). b ++ concat two) first ∙ append_assoc old (concat one) (concat two) ∙ ap (λ (b : List ℕ). old ++ b) (sym (concat-append one two))

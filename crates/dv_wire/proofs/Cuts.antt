@@ -75,7 +75,7 @@ module _ (session : ℕ) (old : State) (more : List ℕ) (run : Run) where
 
 -- ---- and two as one
 
--- behind the same messages there are others, or none
+-- after the same messages there are others, or none
 messages_more : (s : Split) (more : List ℕ) (conversation : Conversation) → s.conversation ≡ conversation → (others : List Message) × ((continuation s more).messages ≡ s.messages ++ others)
 messages_more s more (reading kept) e = ((split (kept ++ more)).messages, rw e refl)
 messages_more s more (closed fault) e = ([], rw e (sym (append-nil s.messages)))
@@ -166,7 +166,7 @@ is_last : (session : ℕ) (ss : List (ℕ × Conversation)) (first now : Convers
 is_last session [] first now = refl
 is_last session (s ∷ ss) first now = grind (arith, is_last session ss first now, eq-eqb session session refl)
 
--- a session that stood in another way between stands as it did last
+-- if a session's conversation is replaced twice, the last one stays
 pub world_twice : (old : World) (session : ℕ) (one two : Run) → world_behind session two (world_behind session one old) ≡ world_behind session two old
 world_twice old session one two =
     ap (λ (ss : List (ℕ × Conversation)). record { state = two.state; next = old.next; sessions = ss }) (is_last session old.sessions one.conversation two.conversation)

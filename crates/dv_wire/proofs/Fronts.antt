@@ -13,11 +13,11 @@ use Rattle.dv_message.specs.Inner.View.{front_seen}
 abbrev pub SplitByFronts : Type 0
 SplitByFronts = (bytes : List ℕ) → split bytes ≡ split_from bytes (stream_front bytes) split
 
--- what follows a message is the end of the bytes, and less
+-- what follows a message is the last part of the bytes, and shorter
 abbrev pub FollowMessages : Type 0
 FollowMessages = (bytes : List ℕ) (message : Message) (following : List ℕ) → stream_front bytes ≡ whole message following → (taken : List ℕ) × (bytes ≡ taken ++ following) × (length following < length bytes)
 
--- splitting goes on where more bytes come
+-- splitting goes on if more bytes follow
 abbrev pub GoOn : Type 0
 GoOn = (bytes more : List ℕ) → split (bytes ++ more) ≡ continuation (split bytes) more
 
@@ -25,7 +25,7 @@ GoOn = (bytes more : List ℕ) → split (bytes ++ more) ≡ continuation (split
 abbrev pub AreFew : Type 0
 AreFew = (bytes : List ℕ) → length (split bytes).messages ≤ length bytes
 
--- bytes bring messages of bytes
+-- a stream of bytes splits into messages of bytes
 abbrev pub BringBytes : Type 0
 BringBytes = (bytes : List ℕ) → IsBytes bytes → IsByteSplit (split bytes)
 
@@ -39,7 +39,7 @@ module _ (by_front : SplitByFronts) where
   pub split_whole : (bytes : List ℕ) (message : Message) (following : List ℕ) → stream_front bytes ≡ whole message following → split bytes ≡ split_behind message (split following)
   split_whole bytes message following e = by_front bytes ∙ rw e refl
 
--- what the code sees is the front, unless memory ran out to look at its sections
+-- what the code sees is the front, unless memory ran out while its sections were read
 pub seen_is : (seen : code.Front) (shown : StreamFront) → (front_seen seen ≡ shown) ⊎ (seen ≡ Closing NoMemory) → (seen ≡ Closing NoMemory → ⊥) → shown ≡ front_seen seen
 seen_is seen shown (inl e) other = sym e
 seen_is seen shown (inr want) other = absurd (other want)

@@ -1,4 +1,4 @@
--- A schedule where memory is never wanting is the machine's run in the schedule's order.
+-- A schedule in which memory never runs out is the machine's run in the schedule's order.
 use Rattle.std.proofs.Common.{◌≡◌, ℕ, suc, Bool, true, false, ◌&&◌, cond, eqb, ltb, List, [], ◌∷◌, ◌++◌, length, map, Option, Some, None, refl, sym, ap, ◌∙◌, append_assoc, inl, inr}
 use Rattle.std.proofs.lemmas.Bool.{cases_Bool, and_parts, ltb-true, ltb-false}
 use Rattle.dv_core.specs.State.{State}
@@ -70,7 +70,7 @@ abbrev IsAnswered : ℕ → List Event → Type 0
 IsAnswered listener later = (world : World) → answers listener later (plain_play world later).said ≡ replies_behind listener world.state (order world.next world.sessions later)
 
 module _ (session : ℕ) (world : World) (later : List Event) where
-  -- what is ordered behind the messages that are heard
+  -- the moments after the messages that are heard
   abbrev behind : Conversation → List Moment
   behind conversation = order world.next (with_conversation session conversation world.sessions) later
 
@@ -131,7 +131,7 @@ same_order world one two same = (
   λ session. ordered_answers session world one ∙ ap (replies_behind session world.state) same ∙ sym (ordered_answers session world two),
 )
 
--- ---- it is one of the runs that are allowed
+-- ---- the plain run is one of those that are allowed
 
 full_by : (a b : Bool) → a && b ≡ false → (P : Type 0) → (a ≡ false → P) → (b ≡ false → P) → P
 full_by true b e P left right = right e

@@ -14,9 +14,7 @@ use Rattle.dv_wire.proofs.Cuts.{hears_joined, world_twice}
 use Rattle.dv_wire.proofs.Fronts.{GoOn}
 use Rattle.dv_wire.proofs.Worlds.{conversation_of-with}
 
--- ---- where a piece is cut
-
--- ---- one piece behind another
+-- ---- one piece after another
 
 both_same : (a a' b b' : List (List ℕ)) → a ≡ a' → b ≡ b' → a ++ b ≡ a' ++ b'
 both_same a a' b b' p q = cc
@@ -70,13 +68,13 @@ writes_then bytes left more both behind before mid after (written, parts, taken)
 writes_left : (bytes left more : List ℕ) (before after : Option (List ℕ)) → Writes bytes left before after → Writes (bytes ++ more) (left ++ more) before after
 writes_left bytes left more before after (written, parts, taken) = (written, ap (λ (b : List ℕ). b ++ more) parts ∙ append_assoc written left more, taken)
 
--- where nothing is left
+-- if nothing is left
 pub none_behind : (rest dropped : List ℕ) → rest ≡ dropped → dropped ≡ [] → eqb (length rest) 0 ≡ true
 none_behind rest dropped same none = rw (same, none) refl
 
 -- ---- as far as a loop has come
 
--- the first of what was read came, and of its answers these bytes are left to be written: none at the end
+-- the first part of what was read came, and of its answers these bytes are left to be written: none at the end
 pub record Answering (session : ℕ) (old : World) (read rest left : List ℕ) (first now : Counts) (told : Fed) (here : World) (before after : Option (List ℕ)) : Type 0 where
   pub front : List ℕ
   pub answers : List (List ℕ)
@@ -135,7 +133,7 @@ module _ (go_on : GoOn) (session : ℕ) (old here new : World) (read rest left :
         ),
       )
 
--- all came, and is answered
+-- all of it came, and is answered
 pub at_end : GoOn → (session : ℕ) (old new : World) (read rest left : List ℕ) (first counts : Counts) (told : Fed) (before after : Option (List ℕ)) → 0 < length read → rest ≡ []
     → Answering session old read rest left first counts told new before after → AnswersAll old session read first counts told [] new before after
 at_end go_on session old new read rest left first counts told before after some end answering =

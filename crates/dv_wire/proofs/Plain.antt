@@ -1,4 +1,5 @@
--- A schedule of which nothing tells of want of memory is the plain one, but for how views stand; and where all stay live, in that too.
+-- A schedule in which nothing reports that memory ran out is the plain one, except for the marks of views; and if all views stay
+-- live, also in these.
 use Rattle.std.proofs.Common.{◌≡◌, ℕ, List, [], ◌∷◌, refl, sym, ap, ◌∙◌}
 use Rattle.std.specs.Prelude.{⊤}
 use Rattle.std.specs.List.{AllByRecursion}
@@ -24,7 +25,7 @@ use Rattle.dv_wire.proofs.Replies.{Allows, IsAllowed}
 use Rattle.dv_wire.proofs.Standing.{answer_standing, step_standing}
 use Rattle.dv_wire.proofs.Wanting.{reply_of_want}
 
--- ---- where all views stay live
+-- ---- schedules in which all views stay live
 
 -- any command is meant
 all_commands : (moments : List Moment) → OfCommands (λ command. ⊤) moments
@@ -69,7 +70,7 @@ allows_live allowed = record {
 pub plain_live : IsAllowed → (world : World) (all : List Event) → AreAllLive world.state.marks → PlaysBy LiveStep world all (plain_play world all).said (plain_play world all).world
 plain_live allowed = plain_plays LiveStep (λ state. AreAllLive state.marks) (allows_live allowed)
 
--- ---- but for how views stand
+-- ---- except for the marks of views
 
 abbrev StandsAs : State → State → Type 0
 StandsAs real plain = real ≡ standing real.marks plain

@@ -28,14 +28,14 @@ pub message_spelling-some : (request_id response_to flags : ℕ) (sections : Lis
 unfolding message_spelling
 message_spelling-some request_id response_to flags sections = omega arith
 
--- ---- the command that a message brings
+-- ---- the command in a message
 
--- where nothing changed, views stand as they may behind any command that is refused for want of memory
+-- if nothing changed, the marks are among those that any command may leave that is refused because memory ran out
 pub unmarked : (old : State) (asked : Result Asked Refusal) (marks : Marks) → marks ≡ old.marks → AreMarkedForWant old asked marks
 unmarked old (Ok asked) marks same = inl same
 unmarked old (Err refusal) marks same = same
 
--- when memory ran out to read a command, that is told of it which may be told of any command
+-- if memory ran out while a command was read, its outcome is one that any command may have
 steps_unread : (session : ℕ) (old new : State) (command : Command) (outcome : Outcome) → MemoryStep old session (Invalid bson.NoMemory) outcome new → TellsOfWant outcome → MemoryStep old session command outcome new
 steps_unread session old new command (Reply reply) steps told = absurd told
 steps_unread session old new command (Wanting reply) (inl (refused, same)) told = inl (refused, unmarked old (asked_by command) new.marks same)
@@ -53,7 +53,7 @@ steps_as session old new meant read outcome (inr e) steps told = steps_unread se
 abbrev WantsAsked : State → Result Asked Refusal → Answer → Marks → Type 0
 WantsAsked old asked answer marks = ((answer ≡ answered old (Err WantOfMemory)) × AreMarkedForWant old asked marks) ⊎ Cut old asked answer marks
 
--- commands that ask the same come to the same
+-- commands that ask the same lead to the same
 pub steps_alike : (session : ℕ) (old new : State) (meant read : Command) (outcome : Outcome) → asked_by meant ≡ asked_by read → MemoryStep old session read outcome new → MemoryStep old session meant outcome new
 steps_alike session old new meant read (Reply reply) same steps =
     let answer : Answer = record { reply = reply; state = standing old.marks new } in
@@ -93,7 +93,7 @@ module _ (session : ℕ) (old new : State) (message : Message) (outcome : Outcom
 
 -- ---- the plain run
 
--- steps that may be those where memory is never wanting, from states of which this holds
+-- steps that may be those in which memory never runs out, from states of which this holds
 pub record Allows (Step : SessionSteps) (Kept : State → Type 0) : Type 0 where
   pub steps : (state : State) (session : ℕ) (command : Command) → Kept state → let answer = counted_step state session command in Step state session command (Reply answer.reply) answer.state
   pub kept : (state : State) (session : ℕ) (command : Command) → Kept state → Kept (counted_step state session command).state
@@ -106,7 +106,7 @@ pub allows_any : IsAllowed → Allows MemoryStep (λ state. ⊤)
 allows_any allowed = record { steps = λ state session command kept. allowed state session command; kept = λ state session command kept. tt; ended = λ session state kept. tt }
 
 module _ (Step : SessionSteps) (Kept : State → Type 0) (allows : Allows Step Kept) where
-  -- it is one of those that are allowed
+  -- the plain run is one of those that are allowed
   pub plain_carries : (session : ℕ) (old : State) (messages : List Message) (conversation : Conversation) → Kept old
       → CarriesOutBy Step session old messages conversation (plain_messages session old messages conversation)
   unfolding plain_messages
@@ -140,7 +140,7 @@ goes_on_done session old mid message (Reply reply) conversation run bytes more s
 goes_on_done session old mid message (Wanting reply) conversation run bytes more steps is e = let sent = rw more at is in absurd cc
 goes_on_done session old mid message NoReply conversation run bytes more steps is e = absurd cc
 
--- where the session goes on, its step was carried out
+-- if the session goes on, the message's step was carried out
 pub silent_done : (session : ℕ) (old : State) (message : Message) (kept : List ℕ) (run : Run) → message.more_to_come ≡ true → CarriesOutMessages session old (message ∷ []) (reading kept) run
     → run.conversation ≡ reading kept → run ≡ unanswered (standing run.state.marks (step old session (command_of message)).state) (reading kept)
 silent_done session old message kept run more (outcome, mid, steps, follows) on =

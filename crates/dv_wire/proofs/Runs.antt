@@ -11,11 +11,11 @@ use Rattle.dv_wire.specs.Inner.View.{GoesOn}
 pub in_front_twice : (one two : List (List ℕ)) (run : Run) → in_front (one ++ two) run ≡ in_front one (in_front two run)
 in_front_twice one two run = ap (λ (all : List (List ℕ)). record { answers = all; state = run.state; conversation = run.conversation }) (append_assoc one two run.answers)
 
--- a run behind which nothing is answered any more
+-- a run after which nothing more is answered
 pub in_front-silence : (run : Run) → in_front run.answers (silence run.state run.conversation) ≡ run
 in_front-silence run = ap (λ (all : List (List ℕ)). record { answers = all; state = run.state; conversation = run.conversation }) (append-nil run.answers)
 
--- ---- behind one step
+-- ---- after one step
 
 pub follows_shut : (answer : Option (List ℕ)) (state : State) (Others : Run → Type 0) (run : Run) → run ≡ unanswered state (closed NoMemory) → Follows answer state Others run
 follows_shut None state Others run shut = shut
@@ -40,7 +40,7 @@ follows_cases (Some bytes) state Others run (inr shut) = inl shut
 
 -- ---- a session that is closed among its messages
 
--- it is closed, whatever other messages there are, and however it would stand behind them
+-- the session is closed, whatever other messages follow, and whatever its conversation after them would be
 pub record Stops (session : ℕ) (old : State) (messages : List Message) (run : Run) : Type 0 where
   pub shut : run.conversation ≡ closed NoMemory
   pub before : (others : List Message) (conversation : Conversation) → CarriesOutMessages session old (messages ++ others) conversation run
@@ -49,7 +49,7 @@ pub stops_so : (session : ℕ) (old : State) (messages : List Message) (run : Ru
 stops_so session old messages run conversation stops =
     subst (λ (ms : List Message). CarriesOutMessages session old ms conversation run) (append-nil messages) (stops.before [] conversation)
 
--- or the first of its messages are carried out, and then the second
+-- or the first messages are carried out, and then the second
 pub record Divides (session : ℕ) (old : State) (first second : List Message) (conversation : Conversation) (run : Run) : Type 0 where
   pub answers : List (List ℕ)
   pub mid : State
@@ -95,7 +95,7 @@ pub carries_all : (session : ℕ) (old : State) (messages : List Message) (conve
 carries_all session old messages conversation run h =
     carries_cases session old messages [] conversation run (subst (λ (ms : List Message). CarriesOutMessages session old ms conversation run) (sym (append-nil messages)) h)
 
--- behind which a session is closed in any case
+-- messages after which a session is closed in any case
 pub carries_shut : (session : ℕ) (old : State) (messages : List Message) (fault : CloseFault) (run : Run) → CarriesOutMessages session old messages (closed fault) run
     → (shown : CloseFault) × (run.conversation ≡ closed shown)
 carries_shut session old messages fault run h =
@@ -131,7 +131,7 @@ pub carries_then : (session : ℕ) (old mid : State) (first second : List Messag
 carries_then session old mid first second answers conversation two before behind =
     carries_behind session old mid first second conversation (record { answers = answers; state = mid; conversation = reading [] }) two before refl refl behind
 
--- a session whose messages are carried out stands as given behind them
+-- after a session's messages are carried out, its conversation may be any
 pub carries_to : (session : ℕ) (old mid : State) (messages : List Message) (answers : List (List ℕ)) (conversation : Conversation) → GoesOn session old messages answers mid
     → CarriesOutMessages session old messages conversation (record { answers = answers; state = mid; conversation = conversation })
 carries_to session old mid messages answers conversation before =

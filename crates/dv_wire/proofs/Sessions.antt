@@ -20,7 +20,7 @@ use Rattle.dv_wire.specs.Sound.{AreNumbered}
 use Rattle.dv_wire.specs.View.{conversation_seen, session_seen}
 use Rattle.dv_wire.proofs.Worlds.{AreNumbered-append, AreNumbered-with, AreNumbered-but, at_next, conversation_of-append}
 
--- ---- found by halves
+-- ---- found by binary search
 
 number_least : (first : ℕ) (ss : List Session) (next k : ℕ) (d : Session) → AreNumbered first (map session_seen ss) next → k < length ss → first ≤ (get_or ss k d).number
 number_least first [] next k d numbered lt = absurd (omega arith)
@@ -54,7 +54,7 @@ module _ (n : ℕ) where
   comparisons_rise ss next numbered i j d le lt =
       let rise = numbers_ascend 0 ss next i j d numbered le lt in grind (arith, nat_tests)
 
-  -- a search by halves finds the first one with the number
+  -- a binary search finds the first one with the number
   pub searched : (ss : List Session) (r : Result ℕ ℕ) → ((next : ℕ) × AreNumbered 0 (map session_seen ss) next) → IsSearchInRange r (length ss) → IsBinarySearchResult (λ s. nat_cmp s.number n) ss r
       → result_ok r ≡ position_from (λ s. eqb s.number n) 0 ss
   searched [] (Ok k) numbered lt equal = absurd (omega arith)
@@ -116,7 +116,7 @@ module _ (n : ℕ) where
       → with_conversation n (conversation_seen now) (map session_seen ss) ≡ map session_seen (set ss k (record { number = n; conversation = now; shapes = shapes }))
   with_conversation-set k ss now shapes place = let here : k - 0 ≡ k = omega arith in rw here at (with_conversation_from 0 k ss now shapes place)
 
-  -- they stay in order where one of them changes, and where one goes
+  -- the sessions stay in order if one of them changes, and if one is removed
   pub numbered_set : (k : ℕ) (ss : List Session) (next : ℕ) (before after : Session) → position_from (λ s. eqb s.number n) 0 ss ≡ Some k → before ≡ get_or ss k before → after.number ≡ before.number
       → AreNumbered 0 (map session_seen ss) next → AreNumbered 0 (map session_seen (set ss k after)) next
   numbered_set k ss next before after place here same numbered =
@@ -154,7 +154,7 @@ module _ (n : ℕ) where
       let run : Run = record { answers = answers; state = state; conversation = conversation_seen after.conversation } in
       rw now_there (run, rw (← number) hears, refl, tells, rw (with_conversation-set k ss after.conversation after.shapes place, set_to) refl)
 
--- and where one is opened
+-- and if one is opened
 pub numbered_more : (ss new : List Session) (next : ℕ) (s : Session) → AreNumbered 0 (map session_seen ss) next → new ≡ ss ++ s ∷ [] → s.number ≡ next → AreNumbered 0 (map session_seen new) (next + 1)
 numbered_more ss new next s numbered is same =
     let one : suc next ≡ next + 1 = omega arith in

@@ -26,7 +26,7 @@ use Rattle.dv_wire.proofs.Runs.{follows_cases}
 
 -- ---- reading
 
--- what is read is spelled, and fits
+-- what is read is encoded in the bytes, and is within the limits
 abbrev pub ReadsSpelled : Type 0
 ReadsSpelled = (bytes : List ℕ) (document : List Field) (count : ℕ) → IsBytes bytes → document_at bytes ≡ Ok (document, count) → (count ≤ length bytes) × Spells document (take count bytes) × Fits document
 
@@ -37,7 +37,7 @@ ReadsSound = (bytes : List ℕ) (document : List Field) (count : ℕ) → IsByte
 pub spelled_sound : ReadsSpelled → ReadsSound
 spelled_sound reads bytes document count h e = let read = reads bytes document count h e in record { valid = read.1.valid; fits = read.2 }
 
--- ---- what messages bring
+-- ---- what messages contain
 
 cons_bytes : (b : ℕ) (bytes : List ℕ) → b < 256 → IsBytes bytes → (i : ℕ) → get_or (b ∷ bytes) i 0 < 256
 cons_bytes b bytes lt h zero = lt

@@ -1,4 +1,4 @@
--- Only viewStats looks at how views stand: another step is the same, however they do.
+-- Only viewStats reads the marks of views: any other step is the same, whatever they are.
 use Rattle.std.proofs.Common.{◌≡◌, ℕ, Bool, true, false, List, [], Result, Ok, Err, refl, if◌then◌else◌}
 use Rattle.dv_value.specs.Tree.{Field}
 use Rattle.dv_catalog.specs.Marks.{Marks}
@@ -21,7 +21,7 @@ use Rattle.dv_core.specs.Step.{Answer, answer_to, answered, on_catalog, on_curso
 use Rattle.dv_core.specs.Writes.{write_by}
 use Rattle.dv_wire.specs.Standing.{AsksNoStats, asks_stats}
 
--- the answer, but that views stand so
+-- the answer with these marks of views
 abbrev pub answer_standing : Marks → Answer → Answer
 answer_standing marks answer = record { reply = answer.reply; state = standing marks answer.state }
 

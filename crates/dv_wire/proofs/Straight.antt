@@ -1,4 +1,4 @@
--- A session that is closed behind its messages, since what follows them finds no memory.
+-- A session that is closed after its messages, because memory runs out for what follows them.
 use Rattle.std.proofs.Common.{◌≡◌, ℕ, List, [], ◌++◌, length, take, sym, ap, subst, ◌∙◌, arith, inl, inr}
 use Rattle.std.proofs.lemmas.List.{append-nil, take_all}
 use Rattle.dv_message.specs.declared.fault.CloseFault.TheVariants.{NoMemory}

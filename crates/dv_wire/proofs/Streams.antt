@@ -22,7 +22,7 @@ split_before messages others = record { messages = messages ++ others.messages; 
 
 -- ---- as far as a loop has come
 
--- the messages carried out so far and what they answered; the stream is they and the rest
+-- the messages carried out so far and what they answered; the stream consists of these messages and the rest
 pub record Progress (session : ℕ) (old new : State) (stream following out_before out_after : List ℕ) (before after : Counts) : Type 0 where
   pub messages : List Message
   pub answers : List (List ℕ)
@@ -91,7 +91,7 @@ module _ (by_front : SplitByFronts) (session : ℕ) (old mid : State) (stream he
       → Answered out_before out_now before now (λ answers. TakesSplit session old (split stream) (record { answers = answers; state = mid; conversation = closed fault }))
   at_closing fault shown = (progress.answers, progress.answered, progress.counted, whole_run (closed fault) (split_closing by_front here fault shown))
 
-  -- memory runs out to look at the next message
+  -- memory runs out while the next message is read
   pub at_want : Answered out_before out_now before now (λ answers. TakesSplit session old (split stream) (record { answers = answers; state = mid; conversation = closed NoMemory }))
   at_want =
       let run : Run = record { answers = progress.answers; state = mid; conversation = closed NoMemory } in

@@ -43,7 +43,7 @@ hears_few few session old bytes run hears = omega (arith, takes_few session old 
 
 -- ---- what was read so far
 
--- it was taken by the session, and what came of it is counted
+-- what was read was taken by the session, and what it led to is counted
 pub record Spoken (session : ℕ) (old : World) (from to : Option (List ℕ)) (new : World) (counts : Counts) (reads : ℕ) (run : Run) : Type 0 where
   pub read : List ℕ
   pub heard : Hears session old.state (reading []) read run
@@ -54,7 +54,7 @@ pub record Spoken (session : ℕ) (old : World) (from to : Option (List ℕ)) (n
   pub least : reads ≤ length read
   pub most : length read ≤ reads * 65536
 
--- and it is answered, and the session open
+-- and it is answered, and the session is open
 pub record Talking (session : ℕ) (old : World) (from to before after : Option (List ℕ)) (new : World) (counts : Counts) (reads : ℕ) : Type 0 where
   pub run : Run
   pub spoken : Spoken session old from to new counts reads run
@@ -86,7 +86,7 @@ begins session old from before counts there messages replies = record {
   written = Appends-nil before;
 }
 
--- what stands of an answer that is known to be one
+-- what holds of an error, or of a value, if the result is known to be one
 pub at_err : {A E : Type 0} (r : Result A E) (P : Type 0) → is_err r ≡ true → OnErr r P → P
 at_err (Ok x) P e holds = absurd cc
 at_err (Err y) P e holds = holds
@@ -108,7 +108,7 @@ closing_same (reading kept) = refl
 closing_same (closed fault) = refl
 
 module _ (go_on : GoOn) (few_messages : AreFew) (session : ℕ) (old : World) (there : conversation_of session old.sessions ≡ Some (reading [])) where
-  -- what a piece that is read comes to
+  -- what a piece that is read leads to
   pub record Said (from to before after : Option (List ℕ)) (new : World) (counts : Counts) (reads : ℕ) (answers : List (List ℕ)) (told : Fed) : Type 0 where
     pub first : Run
     pub run : Run
@@ -154,7 +154,7 @@ module _ (go_on : GoOn) (few_messages : AreFew) (session : ℕ) (old : World) (t
           told_so = ap closing_fed tells ∙ closing_same two.conversation;
         }
 
-    -- so many bytes of the buffer are read, and taken by the session
+    -- `count` bytes of the buffer are read, and taken by the session
     pub read_more : (buffer : List ℕ) (count : ℕ) (answers : List (List ℕ)) (told : Fed) → count ≤ length buffer → (count ≡ 0 → ⊥) → length buffer ≡ 65536 → Consumes mid to (take count buffer) → reads < 2 ^ 32
         → Comes here session (take count buffer) answers told new → Counted counts answers now → Said from to before after new now (reads + 1) answers told
     read_more buffer count answers told few some room taken fits comes counted =
@@ -180,7 +180,7 @@ module _ (go_on : GoOn) (few_messages : AreFew) (session : ℕ) (old : World) (t
         let consumed = subst (Consumes from to) (append-nil talking.spoken.read) (Consumes-trans from mid to talking.spoken.read [] talking.spoken.consumed nothing) in
         (talking.run, talks consumed, talking.spoken.messages, talking.spoken.replies, sym talking.goes_on, λ none. end)
 
-    -- it fails
+    -- the reader fails
     pub at_failure : Keeps mid to → TalksTo (Err Read) session old here from to before after
     at_failure keeps = (talking.run, talks (Consumes-kept from mid to talking.spoken.read talking.spoken.consumed keeps))
 

@@ -1,4 +1,4 @@
--- What is answered when memory runs out tells of it.
+-- What is answered when memory runs out reports it.
 use Rattle.std.proofs.Common.{◌≡◌, ℕ, ◌⊎◌, Bool, true, false, List, [], ◌∷◌, ◌++◌, map, Result, Ok, Err, sym, ap, ◌∙◌, append_assoc, inl, inr, if◌then◌else◌}
 use Rattle.std.specs.List.{concat}
 use Rattle.dv_value.specs.Tree.{Tree, Field}
@@ -39,7 +39,7 @@ pub reply_of_want : (old new : State) (command : Command) (reply : List Field) (
 reply_of_want old new command reply marks (inl refused) = inl (ap (λ (a : Answer). a.reply) refused.0)
 reply_of_want old new command reply marks (inr cut) = reply_of_cut old new (asked_by command) reply marks cut
 
--- so it is with the bytes of another reply in front
+-- the same holds with the bytes of another reply before them
 pub holds_behind : (message : Message) (reply : List Field) (others : List ℕ) → HoldsWant others → HoldsWant (reply_bytes message reply ++ others)
 holds_behind message reply others (before, want, behind, is, tells) = go message.more_to_come
   where

@@ -1,4 +1,4 @@
--- What stands in each world: sessions ascend by their numbers, and what happens to one leaves the others.
+-- What holds in each world: sessions ascend by their numbers, and what happens to one leaves the others unchanged.
 use Rattle.std.proofs.Common.{◌≡◌, ℕ, suc, ◌≤◌, ◌<◌, eqb, List, [], ◌∷◌, ◌++◌, Option, Some, None, Result, Ok, Err, refl, sym, ap, subst, ◌∙◌, arith, inl, inr}
 use Rattle.std.proofs.lemmas.Bool.{cases_Bool, eq-eqb, ne_eqb, eqb-true}
 use Rattle.std.specs.List.{concat}
@@ -76,7 +76,7 @@ pub conversation_of-with : (session : ℕ) (ss : List (ℕ × Conversation)) (be
 conversation_of-with session [] before now e = absurd cc
 conversation_of-with session (s ∷ ss) before now e = grind (arith, conversation_of-with session ss before now, eq-eqb session session refl)
 
--- one that stands so already
+-- a session that has this conversation already
 pub with-same : (session : ℕ) (ss : List (ℕ × Conversation)) (now : Conversation) → conversation_of session ss ≡ Some now → with_conversation session now ss ≡ ss
 with-same session [] now e = refl
 with-same session (s ∷ ss) now e =
@@ -138,7 +138,7 @@ module _ (old new : World) where
   refused_same NoMemory refused = refused
 
   module _ (session : ℕ) (piece bytes : List ℕ) (answer : Fed) where
-    -- whatever stands in a world of other numbers, and so in any that a session behind a run stands in
+    -- what holds of the old world, and of each world after a run of this session, holds of the new one
     fed_by : (P : World → Type 0) (here : Option Conversation) → conversation_of session old.sessions ≡ here → Feeds old session piece bytes answer new → P old
         → ((state : State) (now : Conversation) → P (record { state = state; next = old.next; sessions = with_conversation session now old.sessions })) → P new
     fed_by P None e feeds before behind = let (answers, is, nothing) = rw e at feeds in subst P (sym nothing.2) before

@@ -9,7 +9,7 @@ use std::alloc::{AllocError, AllocFailed};
 /// Why no session is opened.
 #[derive(Clone, Copy, Debug, PartialEq, Eq)]
 pub enum HubFault {
-    /// As many sessions as may be are opened and not ended, or no number is left.
+    /// As many sessions as are allowed are opened and not ended, or no number is left.
     TooManySessions,
     /// Memory ran out.
     NoMemory,
@@ -36,7 +36,7 @@ pub enum RunFault {
     Read,
     /// The writer failed, or took no byte.
     Write,
-    /// As many reads as may be were made.
+    /// As many reads as are allowed were made.
     TooManyReads,
     /// No session is opened, or memory ran out for what is read.
     Hub(HubFault),

@@ -41,7 +41,7 @@ impl Sessions for Hub {
     }
 }
 
-/// What is told of a session, with a fault's number.
+/// What is reported of a session, with the number of its closing fault.
 fn told_as(fed: Fed) -> dv_host::Fed
     ensures { result ≡ told_as fed }
 {

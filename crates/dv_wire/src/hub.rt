@@ -120,9 +120,9 @@ impl Hub {
         self.feed_counted(session, piece, out, &mut Counts::none())
     }
 
-    /// How many bytes of a session's next piece come up to the end of its next message: so many bring at most one message, so its
-    /// reply can be sent before the next one is made. At least 1, and at most all of them: all if the message isn't whole with the
-    /// piece, or the session takes none.
+    /// How many bytes of a session's next piece belong to its next message, as far as its length is known. They complete at most
+    /// one message, so its reply can be sent before the next one is made. At least 1, and at most all of the piece; all if the
+    /// session takes no bytes.
     pub fn whole_front(&self, session: SessionId, piece: &[u8]) -> usize
         requires { 0 < length piece.now }
         ensures front { result ≡ whole_front (conversation_of session.number self.now.sessions) piece.now }
@@ -178,9 +178,9 @@ impl Hub {
         session.conversation.unfinished_len()
     }
 
-    /// Lets events happen in order, as `open`, `feed` and `end` do, and appends what they answer to `out`. Fails with `NoMemory`
-    /// when memory runs out for as many answers; then nothing happens. If memory runs out for a reply's bytes, its session is
-    /// closed, as in `feed`.
+    /// Carries out events in order, as `open`, `feed` and `end` do, and appends what is reported of each to `out`. Fails with
+    /// `NoMemory` when memory runs out for that many reports; then nothing happens. If memory runs out for a reply's bytes, its
+    /// session is closed, as in `feed`.
     pub fn play(&mut self, events: &[Event], out: &mut Vec<Said>) -> Result<(), NoMemory>
         ensures played { OnOk result ((said : List heard.Said) × (out.new.items ≡ out.old.items ++ said) × Plays self.old events.now said self.new) }
         ensures refused { OnErr result ((out.new.items ≡ out.old.items) × (self.new ≡ self.old)) }
@@ -209,7 +209,7 @@ impl Hub {
     }
 }
 
-/// The place of the session with the number, where it is there, among sessions in the order of their numbers.
+/// The place of the session with the number, if there is one, among sessions in the order of their numbers.
 fn place_of(sessions: &[Session], number: u32) -> Option<usize>
     requires { (next : ℕ) × AreNumbered 0 (map session_seen sessions.now) next }
     ensures { result ≡ position_from (λ s. s.number == number) 0 sessions.now }

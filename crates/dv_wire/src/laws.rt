@@ -53,23 +53,23 @@ pub fn schedules_may_be_joined()
         → Plays old (first ++ second) all new ↔ PlaysInTurn old first second all new }
 {}
 
-/// What is done to a hub's sessions for many connections at once, step by step, is a schedule of events, which answers the same
-/// to each session. So what holds of schedules holds of it.
+/// What is done to a hub's sessions for many connections at once, step by step, is a schedule of events, with the same replies to
+/// each session. So what holds of schedules holds of these steps.
 pub fn steps_are_a_schedule()
     ensures { (old new : World) (steps : List Step) → PlaysSteps old steps new → AreSchedule old steps new }
 {}
 
-/// A whole session is a schedule: it is opened, its bytes come, and it ends. What is said of its bytes and of its end is
-/// what its messages come to.
+/// A whole session is a schedule: it is opened, its bytes come, and it ends. What is reported of its bytes and of its end is what
+/// its messages lead to.
 pub fn a_whole_session_is_a_schedule()
     ensures { (old new : World) (bytes : List ℕ) (run : Run) → IsNumbered old → (whole : IsSession old bytes run new)
         → Plays old (events_of_session whole.session bytes) (said_of_session whole.session run) new }
 {}
 
 /// If memory never runs out, only the order counts in which sessions are opened and end and their messages become whole: the state
-/// that a schedule leaves, and what it answers to each session, are those of a machine that in that order takes one message after
-/// the other, and ends the cursors of each session that ends. So two schedules of one order answer the same to each session and
-/// leave the same state, however their bytes are cut and interleaved. Such a run is one of those that are allowed.
+/// that a schedule leaves, and its replies to each session, are those of a machine that takes one message after the other in that
+/// order, and ends the cursors of each session that ends. So two schedules with the same order give the same replies to each
+/// session and leave the same state, however their bytes are cut and interleaved. Such a run is one of those that are allowed.
 pub fn only_the_order_counts()
     ensures state { (world : World) (all : List Event) → (plain_play world all).world.state ≡ state_in_order world all }
     ensures answers { (session : ℕ) (world : World) (all : List Event)
@@ -80,10 +80,11 @@ pub fn only_the_order_counts()
     dv_core::laws::the_counted_step_is_allowed();
 }
 
-/// A play in which memory never runs out, not even for a view, is the plain one: if nothing that is said reports it, as no session
-/// is refused or closed for it and no reply reports it, and each step leaves all views live, then all is said that the plain run
-/// says, and nothing else, and the world that is left is the plain run's. So the state, and what is answered to each session, are
-/// those of the machine that takes one message after the other. The plain run itself is such a play, if views are live before it.
+/// A play in which memory never runs out, not even for a view, is the plain one. If nothing that is reported says that memory ran
+/// out (no session is refused or closed for it, and no reply reports it), and each step leaves all views live, then exactly what
+/// the plain run reports is reported, and the world that is left is the plain run's. So the state, and the replies to each session,
+/// are those of the machine that takes one message after the other. The plain run itself is such a play, if views are live before
+/// it.
 pub fn a_play_without_want_of_memory_is_the_plain_one()
     ensures plain { (old new : World) (all : List Event) (told : List Said) → PlaysBy LiveStep old all told new → NoneSaysWant told
         → IsPlain old all told new }
@@ -96,8 +97,8 @@ pub fn a_play_without_want_of_memory_is_the_plain_one()
 }
 
 /// The states of views matter only to viewStats. A view for which memory ran out becomes stale without a reply that reports it. But
-/// if nothing that is said reports that memory ran out, and no message asks viewStats, then all is said that the plain run says,
-/// and nothing else, and the world that is left is the plain run's, except that views may be in other states.
+/// if nothing that is reported says that memory ran out, and no message asks viewStats, then exactly what the plain run reports is
+/// reported, and the world that is left is the plain run's, except that views may be in other states.
 pub fn how_views_stand_matters_to_view_stats_alone()
     ensures plain { (old new : World) (all : List Event) (told : List Said) → Plays old all told new → NoneSaysWant told → NoneAsksStats old all
         → IsPlainButMarks old all told new }
@@ -105,8 +106,8 @@ pub fn how_views_stand_matters_to_view_stats_alone()
         → IsInOrderButMarks old all told new.state }
 {}
 
-/// The plain run is allowed: whatever the pieces are, an open session may answer what the steps of its messages answer, one after
-/// the other, without those that moreToCome leaves out, and its state may then be as its stream says.
+/// The plain run is allowed: whatever the pieces are, an open session may get the replies of the steps of its messages, one after
+/// the other, without those that moreToCome leaves out, and it may then be in the state that its stream leads to.
 pub fn the_plain_run_is_allowed()
     ensures { (world : World) (session : ℕ) (kept piece : List ℕ) (pieces : List (List ℕ)) → IsReading session kept world
         → FeedsRun world session piece pieces (plain_bytes session world.state (kept ++ stream_of piece pieces)) }
@@ -122,8 +123,8 @@ pub fn what_is_untold_is_done()
         → GoesOn session old message kept run → run ≡ done_unanswered session old message kept run.state.marks }
 {}
 
-/// No number is used again: sessions ascend by their numbers, which are below the next one. So it is before the first session is
-/// opened, and so after each event, and the next number grows if a session is opened and otherwise stays.
+/// No number is used again: sessions ascend by their numbers, which are below the next one. This holds before the first session is
+/// opened, and after each event. The next number grows by 1 if a session is opened, and otherwise stays.
 pub fn numbers_are_never_used_again()
     ensures before { (state : State) → IsNumbered (world_of state) }
     ensures opened { (old new : World) (session : SessionId) → IsNumbered old → Opens old (Ok session) new
@@ -133,14 +134,14 @@ pub fn numbers_are_never_used_again()
     ensures ended { (old : World) (session : ℕ) → IsNumbered old → IsNumbered (end session old) × ((end session old).next ≡ old.next) }
 {}
 
-/// A session is there from when it is opened, without any bytes, until it ends.
+/// A session exists from when it is opened, without any bytes, until it ends.
 pub fn sessions_come_and_go()
     ensures opened { (old new : World) (session : SessionId) → IsNumbered old → Opens old (Ok session) new
         → IsUnknown session.number old × IsReading session.number [] new }
     ensures ended { (old : World) (session : ℕ) → IsNumbered old → IsUnknown session (end session old) }
 {}
 
-/// What happens to a session leaves the others as they are.
+/// What happens to a session leaves the others unchanged.
 pub fn sessions_keep_to_themselves()
     ensures opened { (old new : World) (session : SessionId) (other : ℕ) → Opens old (Ok session) new → session.number ≢ other
         → HasSameConversation other old new }
@@ -148,8 +149,9 @@ pub fn sessions_keep_to_themselves()
     ensures ended { (old : World) (session other : ℕ) → session ≢ other → HasSameConversation other old (end session old) }
 {}
 
-/// Documents change only when an open session takes its bytes: not when one is opened or ends, which leaves all except its cursors,
-/// nor when bytes come for one that is closed, which stays closed by the same fault, or that doesn't exist.
+/// Documents change only when an open session takes its bytes. They don't change when a session is opened or ends, which changes
+/// nothing except its cursors; nor when bytes come for a session that is closed, which stays closed by the same fault, or that
+/// doesn't exist.
 pub fn only_open_sessions_change_documents()
     ensures opened { (old new : World) (result : Result SessionId HubFault) → Opens old result new → new.state ≡ old.state }
     ensures ended { (old : World) (session : ℕ) → (end session old).state.catalog ≡ old.state.catalog }
@@ -159,8 +161,8 @@ pub fn only_open_sessions_change_documents()
         → EachPiece old session (λ bytes answer new. SaysOnly fed.Unknown bytes answer × (new ≡ old)) }
 {}
 
-/// Worlds stay sound: so it is before the first session is opened, if the store is sound, and so after each event, as what
-/// is read from bytes is sound.
+/// Worlds stay sound. They are sound before the first session is opened, if the store is sound, and after each event, since what is
+/// read from bytes is sound.
 pub fn worlds_stay_sound()
     ensures before { (state : State) → IsSound state → IsSoundWorld (world_of state) }
     ensures opened { (old new : World) (session : SessionId) → IsSoundWorld old → Opens old (Ok session) new → IsSoundWorld new }

@@ -21,7 +21,7 @@ const MOST_READS: u64 = 4_294_967_296;
 /// The most bytes that one read takes.
 const PIECE: usize = 65_536;
 
-/// How many bytes of replies are enough to be written before the next message is looked at.
+/// How many bytes of replies are enough to be written before the next message is carried out.
 const REPLIES_WRITTEN_AT: usize = 65_536;
 
 /// What is reported of a session that ended.
@@ -39,8 +39,8 @@ pub struct Done {
 
 /// Carries out a whole session: opens it, reads to the end of input in pieces of at most 65,536 bytes, feeds each to it, writes its
 /// replies, and ends it. Many messages of one read are answered by one write, if the writer takes that much; else the rest is given
-/// to it. Replies are written as soon as they are 65,536 bytes or more, before the next message is carried out, so no more than one
-/// reply is held beside so many bytes. At a closing fault it stops reading. Returns only then and at the end of input.
+/// to it. Replies are written as soon as they are 65,536 bytes or more, before the next message is carried out. So fewer than
+/// 65,536 bytes and one reply are held at most. At a closing fault it stops reading. Returns only then and at the end of input.
 ///
 /// Fails with `Read` or `Write` if the reader or the writer does (one that takes 0 bytes has failed), with `TooManyReads` after
 /// 4,294,967,296 reads, and with `Hub` if no session is opened or memory runs out for a piece; in the last case nothing is changed
@@ -70,8 +70,8 @@ pub fn run<R: ByteIn, W: ByteOut>(
     })
 }
 
-/// Reads to the end of input or to a closing fault, feeds each piece to the session, and writes the replies. Answers
-/// how many messages and replies there were, and the closing fault.
+/// Reads to the end of input or to a closing fault, feeds each piece to the session, and writes the replies. Returns how many
+/// messages and replies there were, and the closing fault.
 fn serve<R: ByteIn, W: ByteOut>(
     alloc: Global,
     hub: &mut Hub,
@@ -111,8 +111,8 @@ fn serve<R: ByteIn, W: ByteOut>(
     Err(RunFault::TooManyReads)
 }
 
-/// Feeds what was read to the session, message by message, and writes the replies. Answers what the session is then. Fails
-/// where the writer does; then the rest was carried out too.
+/// Feeds what was read to the session, message by message, and writes the replies. Returns what the session is then. Fails if the
+/// writer does; then the rest was carried out too.
 fn answer<W: ByteOut>(
     hub: &mut Hub,
     session: SessionId,
@@ -143,7 +143,7 @@ fn answer<W: ByteOut>(
     Ok(fed)
 }
 
-/// Writes the replies and drops them where they are enough, or `all` are to be written.
+/// Writes the replies and drops them, if they have enough bytes or `all` are to be written.
 fn write_enough<W: ByteOut>(writer: &mut W, replies: &mut Vec<u8>, all: bool) -> Result<(), Failed>
     ensures some { OnOk result (Writes replies.old.items replies.new.items (W.contents writer.old) (W.contents writer.new)) }
     ensures all { OnOk result (all ≡ true → replies.new.items ≡ []) }
@@ -160,7 +160,7 @@ fn write_enough<W: ByteOut>(writer: &mut W, replies: &mut Vec<u8>, all: bool) ->
     Ok(())
 }
 
-/// Feeds the others of the bytes that were read to the session, message by message, and drops the replies.
+/// Feeds the rest of the bytes that were read to the session, message by message, and drops the replies.
 fn hear_out(
     hub: &mut Hub,
     session: SessionId,
@@ -181,7 +181,7 @@ fn hear_out(
     }
 }
 
-/// What closed the session of which this is told.
+/// What closed the session of which this is reported, if it is closed.
 fn closing_in(fed: Fed) -> Option<CloseFault>
     ensures { result ≡ closing_fed fed }
 {
@@ -191,7 +191,7 @@ fn closing_in(fed: Fed) -> Option<CloseFault>
     }
 }
 
-/// Room for so many bytes. Apart, and of any size, so that no proof spells all of them out.
+/// Room for `size` bytes. This is a function of its own, for any size, so that no proof writes all of the bytes out.
 fn room(alloc: Global, size: usize) -> Result<Vec<u8>, NoMemory>
     ensures { IfOk result (λ piece. length piece.items ≡ size) }
 {

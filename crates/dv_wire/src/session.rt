@@ -43,7 +43,7 @@ impl Counts {
     }
 }
 
-/// How a session stands.
+/// The state of a session.
 #[derive(Debug, Drop)]
 pub(crate) enum Conversation {
     /// The session is open, with the bytes of a message that isn't whole.
@@ -56,7 +56,7 @@ impl Conversation {
     ghost use Rattle.dv_wire.specs.Schedule.{unfinished_in, fed_of, whole_front};
     ghost use Rattle.dv_wire.specs.View.{conversation_seen};
 
-    /// What is told of the session.
+    /// What is reported of the session.
     fn answer(&self) -> Fed
         ensures { result ≡ fed_of (conversation_seen self.now) }
     {
@@ -66,7 +66,7 @@ impl Conversation {
         }
     }
 
-    /// How many bytes of the next piece come up to the end of the next message.
+    /// How many bytes of the next piece belong to the next message, as far as its length is known; all if the session is closed.
     pub(crate) fn whole_front(&self, piece: &[u8]) -> usize
         requires { 0 < length piece.now }
         ensures { result ≡ whole_front (Some (conversation_seen self.now)) piece.now }
@@ -158,7 +158,7 @@ fn take_in(
     Ok(())
 }
 
-/// The same where no bytes are kept: the messages that are whole in the piece are carried out where they lie.
+/// The same if no bytes are kept: the messages that are whole in the piece are carried out without copying them.
 fn take_straight(
     alloc: Global,
     store: &mut Store,
@@ -179,7 +179,7 @@ fn take_straight(
 }
 
 /// Appends a piece to the bytes that a session keeps. If memory runs out, the store's reserve is given back for them, unless they
-/// are many. Fails where it is wanting still.
+/// are many. Fails if memory still runs out.
 fn keep(store: &mut Store, kept: &mut Vec<u8>, piece: &[u8]) -> Result<(), NoMemory>
     ensures kept { OnOk result (kept.new.items ≡ kept.old.items ++ piece.now) }
     ensures store { store.new ≡ store.old }
@@ -193,8 +193,7 @@ fn keep(store: &mut Store, kept: &mut Vec<u8>, piece: &[u8]) -> Result<(), NoMem
     kept.extend_from_slice(piece)
 }
 
-/// Drops the first bytes, and moves the others only where some are dropped. The room that a great message took is
-/// given back.
+/// Drops the first bytes, and moves the others only if some are dropped. Then the room that a large message took is given back.
 fn drop_front(bytes: &mut Vec<u8>, count: usize)
     requires { count ≤ vec_len bytes.old }
     ensures { bytes.new.items ≡ drop count bytes.old.items }
@@ -205,8 +204,8 @@ fn drop_front(bytes: &mut Vec<u8>, count: usize)
     }
 }
 
-/// Carries out the whole messages that a stream begins with, in order, and appends their replies. Answers how many
-/// bytes they are.
+/// Carries out the whole messages that a stream begins with, in order, and appends their replies. Returns how many bytes these
+/// messages have.
 fn carry_out_all(
     alloc: Global,
     store: &mut Store,
@@ -238,7 +237,7 @@ fn carry_out_all(
     Ok(stream.len())
 }
 
-/// Looks at the front of a stream. If memory runs out, the store's reserve is given back for that.
+/// Reads the front of a stream. If memory runs out, the store's reserve is given back for that.
 fn front<'a>(alloc: Global, store: &mut Store, stream: &'a [u8]) -> Front<'a>
     ensures front { (front_seen result ≡ stream_front stream.now) ⊎ (result ≡ Front.Closing CloseFault.NoMemory) }
     ensures store { store.new ≡ store.old }
@@ -251,8 +250,8 @@ fn front<'a>(alloc: Global, store: &mut Store, stream: &'a [u8]) -> Front<'a>
     front_of(alloc, stream)
 }
 
-/// Carries out a message, appends its reply, and counts them. An error says that memory runs out for the reply, or that a reply
-/// which tells of want of memory isn't to be sent.
+/// Carries out a message, appends its reply, and counts them. An error says that memory ran out for the reply, or that a reply that
+/// reports that memory ran out isn't to be sent.
 fn carry_out(
     alloc: Global,
     store: &mut Store,
@@ -274,8 +273,8 @@ fn carry_out(
     Ok(())
 }
 
-/// The body of the reply that is to be sent to a message, or none where moreToCome leaves it out. An error says that the
-/// session is to be closed: there is no reply, or moreToCome would leave one out that tells of want of memory.
+/// The body of the reply that is to be sent to a message, or none if moreToCome leaves it out. An error says that the session is to
+/// be closed: there is no reply, or moreToCome would leave out one that reports that memory ran out.
 fn reply_to(message: &Message<'_>, told: Told) -> Result<Option<Body>, NoMemory>
     ensures { bytes_seen (message_seen message.now) result ≡ bytes_to (message_seen message.now) (outcome_told told) }
 {
@@ -286,21 +285,21 @@ fn reply_to(message: &Message<'_>, told: Told) -> Result<Option<Body>, NoMemory>
     }
 }
 
-/// The same where it isn't a reply with rows.
+/// The same for an outcome that isn't a reply with rows.
 fn other_reply_to(message: &Message<'_>, outcome: Outcome) -> Result<Option<Body>, NoMemory>
     ensures { bytes_seen (message_seen message.now) result ≡ bytes_to (message_seen message.now) outcome }
 {
     match outcome {
         Outcome::Reply(_) if message.more_to_come => Ok(None),
-        // Who waits for no reply is told of want of memory by the end of the session.
+        // A client that waits for no reply learns from the end of the session that memory ran out.
         Outcome::Wanting(_) if message.more_to_come => Err(AllocError),
         Outcome::Reply(reply) | Outcome::Wanting(reply) => Ok(Some(Body::Whole(reply))),
         Outcome::NoReply => Err(AllocError),
     }
 }
 
-/// Appends the reply to a request. If memory runs out, the store's reserve is given back for it; where it is wanting still,
-/// nothing is appended.
+/// Appends the reply to a request. If memory runs out, the store's reserve is given back for it; if memory still runs out, nothing
+/// is appended.
 fn send(store: &mut Store, request_id: u32, reply: &Body, out: &mut Vec<u8>) -> Result<(), NoMemory>
     ensures ok { OnOk result (out.new.items ≡ out.old.items ++ message_spelling 0 request_id 0 (0 ∷ spelling (body_seen reply.now))) }
     ensures err { OnErr result (out.new.items ≡ out.old.items) }
@@ -313,7 +312,7 @@ fn send(store: &mut Store, request_id: u32, reply: &Body, out: &mut Vec<u8>) -> 
     reply.append(request_id, out)
 }
 
-/// The command that a message's sections bring, with no more of its lists than it needs, or that memory runs out to read it, also
+/// The command in a message's sections, with no more of its lists than it needs; or that memory ran out while it was read, also
 /// with the store's reserve.
 fn read(alloc: Global, store: &mut Store, shapes: &mut Shapes, message: &Message<'_>) -> Command
     ensures command { (needed (command_of (message_seen message.now)) ≡ result) ⊎ (result ≡ Command.Invalid BsonFault.NoMemory) }
@@ -327,7 +326,7 @@ fn read(alloc: Global, store: &mut Store, shapes: &mut Shapes, message: &Message
     command_in(alloc, message.sections.as_slice(), shapes)
 }
 
-/// Carries out the command that a message's sections bring.
+/// Carries out the command in a message's sections.
 fn step(
     alloc: Global,
     store: &mut Store,

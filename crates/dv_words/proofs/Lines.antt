@@ -10,7 +10,7 @@ use Rattle.dv_words.specs.declared.said.LineFault.TheVariants.{BadLine, NoMemory
 use Rattle.dv_words.proofs.Numbers.{decimal_once, not_skipped}
 use Rattle.dv_words.proofs.Pairs.{hex_once, end_is_no_hex}
 
--- ---- what is promised of an answer
+-- ---- what is promised of a result
 
 pub record Answers (text : List ℕ) (result : Result Line LineFault) : Type 0 where
   pub read : IfOk result (λ found. IsLine found text)
@@ -40,7 +40,7 @@ answers_memory line text is = record {
 
 -- ---- lines with a number
 
--- what a line says where a number stands in front of a space, and this behind it
+-- what a line says that has a number before a space, and `rest` after it
 abbrev Says : ℕ → List ℕ → Line → Type 0
 Says n rest Skip = ⊥
 Says n rest (Bytes m bytes) = (m ≡ n) × IsHexOf bytes rest
@@ -78,7 +78,7 @@ nothing_says n rest ne none Skip h = h
 nothing_says n rest ne none (Bytes m bytes) h = none bytes h.1
 nothing_says n rest ne none (End m) h = ne h.1
 
--- ---- the answers
+-- ---- the results
 
 -- a line with a number that isn't too long
 pub record Numbered (n : ℕ) (rest text : List ℕ) : Type 0 where
@@ -105,7 +105,7 @@ pub answers_bytes : (n : ℕ) (rest text bytes : List ℕ) → Numbered n rest t
 answers_bytes n rest text bytes h hex = answers_line (Bytes n bytes) text (bytes_are_line n rest text bytes h hex)
     (λ meant form. bytes_say n rest bytes hex meant (says n rest text h.small h.whole meant form))
 
--- where pairs are read behind a number, and the faults of that are passed on
+-- if pairs are read after a number, their faults are passed on
 pub answers_fault : (n : ℕ) (rest text : List ℕ) (fault : LineFault) → Numbered n rest text → rest ≢ codes "end" → Decodes rest (Err fault) → Answers text (Err fault)
 answers_fault n rest text BadLine h ne none = answers_bad text
     (λ meant is. nothing_says n rest ne none meant (says n rest text h.small h.whole meant is.form))

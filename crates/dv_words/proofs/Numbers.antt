@@ -60,7 +60,7 @@ position_or_len-seam (d ∷ ds) rest h =
     let ih = position_or_len-seam ds rest h.1 in
     rw (digit_is_no_space d h.0) (omega (arith, ih))
 
--- the first space of a decimal, a space and more is behind the decimal
+-- in a decimal, a space and more, the first space is the one after the decimal
 pub position-decimal : (n : ℕ) (rest text : List ℕ) → n < 1000 → text ≡ decimal n ++ 32 ∷ rest → position is_space text ≡ Some (length (decimal n))
 position-decimal n rest text h e =
     let first = position_or_len-seam (decimal n) rest (digits_decimal own n (fits n h)) in
@@ -73,7 +73,7 @@ take-decimal n space rest text h e found =
     let same : space ≡ length (decimal n) = ap (λ o. unwrap_or o 0) (sym found ∙ position-decimal n rest text h e) in
     rw (same, e) (take-append-le (length (decimal n)) (decimal n) (32 ∷ rest) (omega arith) ∙ take_all (length (decimal n)) (decimal n) (omega arith))
 
--- what stands in front of a space and behind it is one number and one text
+-- only one number can come before the space, and only one text after it
 pub decimal_once : (m n : ℕ) (r s text : List ℕ) → m < 1000 → n < 1000 → text ≡ decimal m ++ 32 ∷ r → text ≡ decimal n ++ 32 ∷ s → (m ≡ n) × (r ≡ s)
 decimal_once m n r s text hm hn em en =
     let front = take-decimal m (length (decimal n)) r text hm em (position-decimal n s text hn en) in

@@ -67,7 +67,7 @@ filter-pairs text h =
 
 -- ---- one pair after the other
 
--- what stands behind spaces is one thing
+-- only one text can follow the spaces
 strip : (m n : ℕ) (xs ys : List ℕ) → slice_index xs 0 ≢ 32 → slice_index ys 0 ≢ 32 → replicate m 32 ++ xs ≡ replicate n 32 ++ ys → xs ≡ ys
 strip zero zero xs ys hx hy e = e
 strip zero (suc n) xs ys hx hy e = absurd (hx (ap (λ zs. slice_index zs 0) e))
@@ -109,7 +109,7 @@ more_pairs text behind next h gap rest =
       all = All-cons digit_holds h.high (h.low ∷ hex_digits (p ∷ rest.others)) h.first (All-cons digit_holds h.low (hex_digits (p ∷ rest.others)) h.second rest.all);
     }
 
--- pairs go on behind the first and the spaces, if anything does
+-- if anything follows the first pair, then pairs follow it and the spaces after it
 behind_first : (behind next : List ℕ) (others : List HexPair) → behind ≡ written others → AllPass is_hex_digit (hex_digits others)
     → length behind ≢ 0 → BeginsWithSpaces behind next → IsPairs next
 behind_first behind next [] e all more gap = absurd (more (ap length e))
@@ -131,7 +131,7 @@ fewer_pairs text behind next h more gap pairs =
 
 -- ---- the same bytes
 
--- pairs decode as their text without the spaces
+-- pairs decode as their text does without the spaces
 pub decode-filter : (bytes text : List ℕ) → IsHexOf bytes text → decode_of (filter no_space text) ≡ Ok bytes
 unfolding pairs_from_hex
 decode-filter bytes text h = ap decode_of (filter-pairs text (pairs_from_hex bytes text h)) ∙ h.value

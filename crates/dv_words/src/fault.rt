@@ -1,4 +1,4 @@
-//! Why the program ends without having done all.
+//! Why the program ends before all is done.
 
 ghost use Rattle.std.specs.Prelude.{◌≡◌, ◌≢◌};
 ghost use Rattle.dv_words.specs.Faults.{NamesCode, TellsLoad, fault_of_check};
@@ -11,13 +11,13 @@ use dv_value::BsonFault;
 use std::alloc::AllocError;
 use thiserror::Error;
 
-/// Why the program ends without having done all. Its text is what standard error shows.
+/// Why the program ends before all is done. Its text is what standard error shows.
 #[derive(Debug, Drop, Error)]
 pub enum DocdFault {
-    /// The words are none of the program's forms.
+    /// The arguments have none of the program's forms.
     #[error("usage")]
     Usage,
-    /// A file can't be opened, or not be read to its end.
+    /// A file can't be opened or read to its end.
     #[error("{file}: cannot read")]
     CannotRead {
         file: String,
@@ -27,7 +27,7 @@ pub enum DocdFault {
     TooLarge {
         file: String,
     },
-    /// A file's document has a fault: the document of this number, from 1, which begins at this byte, from 0.
+    /// A document in a file has a fault. The document has this number, counted from 1, and begins at this byte, counted from 0.
     #[error("{file}: document {number} at byte {at}: {fault}")]
     Document {
         file: String,
@@ -35,7 +35,7 @@ pub enum DocdFault {
         at: usize,
         fault: BsonFault,
     },
-    /// A file's document is refused under a namespace, and this is why.
+    /// A document in a file is refused under a namespace, and `why` is the reason.
     #[error("{file}: document {number} at byte {at}: {why}")]
     Refused {
         file: String,
@@ -43,10 +43,10 @@ pub enum DocdFault {
         at: usize,
         why: &'static str,
     },
-    /// The one session was closed, with this number of the fault.
+    /// The only session was closed, with the fault of this number.
     #[error("closed {0}")]
     Closed(u8),
-    /// No port is had, or no connection.
+    /// The port isn't available, or no connection could be accepted.
     #[error("cannot serve")]
     Serve,
     /// Standard input failed, or took too many reads.
@@ -58,7 +58,7 @@ pub enum DocdFault {
     /// Memory ran out.
     #[error("no memory")]
     NoMemory,
-    /// The hub opens no session.
+    /// The hub opens no further session.
     #[error("too many sessions")]
     Sessions,
     /// The script ended before its last line.
@@ -67,7 +67,7 @@ pub enum DocdFault {
 }
 
 impl DocdFault {
-    /// Why a file is not `ok`.
+    /// The program's fault for this fault of a check.
     pub fn of_check(file: String, fault: CheckFault) -> DocdFault
         ensures { result ≡ fault_of_check file fault }
     {
@@ -141,7 +141,7 @@ impl From<WordFault> for DocdFault {
     }
 }
 
-/// The exit status of a fault: 2 for words that are no form of the program, else 1.
+/// The exit status of a fault: 2 for arguments that have none of the program's forms, otherwise 1.
 pub fn status(fault: &DocdFault) -> u8
     ensures usage { fault.now ≡ DocdFault.Usage → result ≡ 2 }
     ensures other { fault.now ≢ DocdFault.Usage → result ≡ 1 }
@@ -155,7 +155,7 @@ pub fn status(fault: &DocdFault) -> u8
 /// Why a script ends before its last line.
 #[derive(Clone, Copy, Debug, PartialEq, Eq, Error)]
 pub enum ScriptFault {
-    /// A line has no form, or is too long. Lines count from 1, those that are skipped too.
+    /// A line has none of the forms, or is too long. Lines are counted from 1, skipped ones included.
     #[error("line {line}: bad line")]
     BadLine { line: u64 },
     /// The reader failed.
@@ -170,7 +170,7 @@ pub enum ScriptFault {
     /// Memory ran out.
     #[error("no memory")]
     NoMemory,
-    /// The hub opens no session.
+    /// The hub opens no further session.
     #[error("too many sessions")]
     Sessions,
 }

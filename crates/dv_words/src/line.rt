@@ -16,10 +16,10 @@ pub const LONGEST_LINE: usize = 131_200;
 /// How many numbers there are for sessions, from 0.
 pub const NUMBERS: u32 = 1_000;
 
-/// What the bytes of a line say, without its LF: nothing if they are empty or begin with `#`; else a number from 0 to 999 without
-/// leading zeros and one space, and then pairs of hexadecimal digits, with any number of spaces between two pairs, or the word
-/// `end`. `BadLine` if they have none of these forms, or are more than 131,200. Fails with
-/// `NoMemory` when memory runs out.
+/// Reads the bytes of a line, without its LF. A line that is empty or begins with `#` is skipped. Any other line has a number from
+/// 0 to 999 without leading zeros, one space, and then pairs of hexadecimal digits, with any number of spaces between two pairs, or
+/// the word `end`. Fails with `BadLine` if the bytes have none of these forms, or are more than 131,200, and with `NoMemory` when
+/// memory runs out.
 pub fn line(alloc: Global, bytes: &[u8]) -> Result<Line, LineFault>
     ensures read { IfOk result (λ found. IsLine found bytes.now) }
     ensures only { (meant : Line) → IsLine meant bytes.now → (result ≡ Ok meant) ⊎ (result ≡ Err LineFault.NoMemory) }
@@ -48,7 +48,7 @@ fn is_skipped(bytes: &[u8]) -> bool
     matches!(bytes, [] | [b'#', ..])
 }
 
-/// The number in front of the first space, and what stands behind that space.
+/// The number before the first space, and what follows that space.
 fn numbered(bytes: &[u8]) -> Option<(u32, &[u8])>
     ensures { MatchOption result ((n : ℕ) (rest : List ℕ) → n < 1000 → bytes.now ≢ decimal n ++ 32 ∷ rest)
         (λ found. (found.0 < 1000) × (bytes.now ≡ decimal found.0 ++ 32 ∷ found.1.now)) }
@@ -68,7 +68,7 @@ fn first_space(bytes: &[u8]) -> Option<usize>
     bytes.iter().position(|byte| *byte == b' ')
 }
 
-/// The number from 0 to 999 that the digits are, without leading zeros.
+/// The number from 0 to 999 that these digits are. They may have no leading zeros.
 fn number(digits: &[u8]) -> Option<u32>
     ensures { MatchOption result ((n : ℕ) → n < 1000 → digits.now ≢ decimal n)
         (λ found. (found < 1000) × (digits.now ≡ decimal found)) }
@@ -93,7 +93,7 @@ fn is_plain(text: &[u8]) -> bool
     }
 }
 
-/// The number that a text is, with a sign or leading zeros too.
+/// The number that a text is, which may have a sign or leading zeros.
 fn parsed(text: &[u8]) -> Option<u32>
     ensures plain { IfSome result (λ n. IsPlain text.now → text.now ≡ decimal n) }
     ensures decimal { (n : ℕ) → n < 1000 → text.now ≡ decimal n → result ≡ Some n }
@@ -129,7 +129,7 @@ fn without_spaces(alloc: Global, text: &[u8]) -> Result<Vec<u8>, AllocError>
         .collect(alloc)
 }
 
-/// Whether the text is pairs of hexadecimal digits, with spaces between two pairs alone.
+/// Whether the text is pairs of hexadecimal digits, with spaces only between two pairs.
 fn are_pairs(text: &[u8]) -> bool
     ensures yes { IsTrue result → IsPairs text.now }
     ensures no { IsPairs text.now → IsTrue result }
@@ -144,7 +144,7 @@ fn are_pairs(text: &[u8]) -> bool
     false
 }
 
-/// What stands behind the pair of digits in front.
+/// What follows the pair of digits at the beginning, if there is one.
 fn behind_pair(text: &[u8]) -> Option<&[u8]>
     ensures { MatchOption result ((behind : List ℕ) → BeginsWithPair text.now behind → ⊥) (λ behind. BeginsWithPair text.now behind.now) }
 {
@@ -164,7 +164,7 @@ fn is_digit(byte: u8) -> bool
     byte.is_ascii_hexdigit()
 }
 
-/// What stands behind the spaces in front.
+/// What follows the spaces at the beginning.
 fn behind_spaces(text: &[u8]) -> &[u8]
     ensures { BeginsWithSpaces text.now result.now }
 {

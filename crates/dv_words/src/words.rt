@@ -1,4 +1,4 @@
-//! The program's words.
+//! The program's arguments.
 
 ghost use Rattle.std.specs.Prelude.{◌≡◌, Err, Some, None, IfOk, string_bytes};
 ghost use Rattle.dv_words.specs.Inner.Words.{load_in};
@@ -19,12 +19,13 @@ pub enum Job {
     Check {
         file: String,
     },
-    /// To serve so many connections, one after the other, at a port of this machine.
+    /// To serve this many connections, one after the other, at a port of this machine.
     Serve {
         port: u16,
         connections: u32,
     },
-    /// To serve connections, many of them at once, at a port of this machine, after these loads in order: so many, or for good.
+    /// To serve connections, many of them at once, at a port of this machine, after these loads in order: this many, or without
+    /// end.
     Listen {
         port: u16,
         connections: Option<u32>,
@@ -39,15 +40,15 @@ pub struct Load {
     pub file: String,
 }
 
-/// What the words ask for, the first of which is the program's name:
+/// What the arguments ask for. The first is the program's name, and the others have one of these forms:
 ///
 /// - `run [--hex] [--load DB.COLL=FILE]..`;
 /// - `check FILE`;
 /// - `serve --port P --connections N`, with P from 1 to 65535 and N from 0 to 1000000;
 /// - `listen --port P [--connections N] [--load DB.COLL=FILE]..`, with the same P and N.
 ///
-/// Options may come in any order. Fails with `Usage` for any other words, including a call for help, and for a load without `=` or
-/// without a dot before its first `=`.
+/// Options may come in any order. Fails with `Usage` for any other arguments, including a call for help, and for a load without `=`
+/// or without a dot before its first `=`; and with `NoMemory` when memory runs out.
 pub fn words(alloc: Global, words: &[String]) -> Result<Job, DocdFault> {
     let matches = docd(alloc)?.try_get_matches_from(words)?;
     match matches.subcommand() {
@@ -77,7 +78,7 @@ pub fn words(alloc: Global, words: &[String]) -> Result<Job, DocdFault> {
     }
 }
 
-/// The forms that the words may have.
+/// The forms that the arguments may have.
 fn docd<'a>(alloc: Global) -> Result<Command<'a>, AllocError> {
     Command::new(alloc, "docd")
         .subcommand(run(alloc)?)?
@@ -143,7 +144,7 @@ fn loads(alloc: Global, given: &ArgMatches<'_>) -> Result<Vec<Load>, DocdFault> 
     Ok(loads)
 }
 
-/// What a load's text says: the namespace in front of its first `=`, which has a dot, and the file behind it.
+/// What a load's text says: the namespace before its first `=`, which has a dot, and the file after it.
 fn load_of(alloc: Global, text: &str) -> Result<Load, DocdFault>
     ensures found { IfOk result (λ load. load_in text.now ≡ Some (string_bytes load.namespace, string_bytes load.file)) }
     ensures refused { result ≡ Err DocdFault.Usage → load_in text.now ≡ None }

@@ -8,7 +8,7 @@ use Rattle.std.proofs.lemmas.List.{take_all, length-drop}
 use Rattle.std.proofs.lemmas.Str.{IsUtf8-from_is_utf8}
 use Rattle.dv_bson.specs.Reading.{cut_at_zero, onto_name}
 
--- where the first zero is, as a front byte and the place behind it tell
+-- where the first zero is: at the front byte, or at a place in the bytes after it
 abbrev place_behind : Bool → ℕ → ℕ
 place_behind here k = cond (not here) (1 + k) 0
 

@@ -10,11 +10,11 @@ use Rattle.dv_value.specs.Tree.{Tree, Field}
 use Rattle.dv_bson.specs.Reading.{Fails, Gives, body_at, count_at, fields_at, kind_at, cut_at_zero, name_at, value_at, Frame, frame_of, Inside}
 use Rattle.dv_value.specs.Results.{◌>>=◌}
 
--- a type, and the bytes behind its byte
+-- a type, and the bytes after its byte
 abbrev pub with_rest : List ℕ → Kind → Result (Kind × List ℕ) BsonFault
 with_rest rest kind = Ok (kind, rest)
 
--- the type of the element at the front, and the bytes behind its type byte
+-- the type of the element at the front, and the bytes after its type byte
 unfoldable pub front_kind_at : ℕ → List ℕ → Result (Kind × List ℕ) BsonFault
 front_kind_at at [] = Err BadLength
 front_kind_at at (b ∷ bytes) = kind_at b at >>= with_rest bytes
@@ -28,18 +28,18 @@ utf8_name (Some cut) = if is_utf8 cut.0 then Ok cut else Err BadUtf8
 unfoldable pub any_name_at : List ℕ → Result (List ℕ × List ℕ) BsonFault
 any_name_at bytes = utf8_name (cut_at_zero bytes)
 
--- a value under its name, and the bytes behind it
+-- a value under its name, and the bytes after it
 abbrev pub with_name : List ℕ → Tree × List ℕ → Result (Field × List ℕ) BsonFault
 with_name name value = Ok ((name, value.0), value.1)
 
--- the element at the front, behind these: its name and its value, and the bytes behind it
+-- the element at the front, which follows these: its name and its value, and the bytes after it
 unfoldable pub field_at : Inside → Bool → ℕ → List Field → List ℕ → Result (Field × List ℕ) BsonFault
 field_at inside in_array at seen bytes = do
   kind ← front_kind_at at bytes
   name ← name_at in_array seen kind.1
   value_at inside kind.0 (at + (length bytes - length name.1)) name.1 >>= with_name name.0
 
--- a document's next field, behind these, with at most this many levels inside it, and the bytes behind it
+-- a document's next field, which follows these, with at most this many levels inside it, and the bytes after it
 abbrev pub field_in : ℕ → ℕ → List Field → List ℕ → Result (Field × List ℕ) BsonFault
 field_in levels at seen bytes = field_at (body_at levels) false at seen bytes
 
@@ -48,7 +48,7 @@ abbrev pub numbered : ℕ → List Tree → List Field
 numbered i [] = []
 numbered i (v ∷ vs) = (decimal i, v) ∷ numbered (suc i) vs
 
--- a document's fields from a place on, behind those that are read, with at most this many levels inside it
+-- a document's fields: those that are read, and the rest from a place on, with at most this many levels inside it
 abbrev pub fields_from : ℕ → ℕ → List Field → List ℕ → ℕ → Result (List Field) BsonFault
 fields_from levels at fields bytes last = fields_at (body_at levels) (length bytes) false at fields bytes last
 
@@ -57,25 +57,25 @@ abbrev pub GivesPart : {X Y Z : Type 0} → (X → Z) → (Y → Z) → Result X
 GivesPart {Y = Y} view part (Ok x) read = (y : Y) × (read ≡ Ok y) × (part y ≡ view x)
 GivesPart view part (Err e) read = Fails e read
 
--- What a function returned is the next field's value and what is behind it, and the field has the name of the one at a place of other
--- fields; its fault is reading's first one, unless memory runs out.
+-- What a function returned is the next field's value and the bytes after it, and the field has the name of the one at a place of
+-- other fields; its fault is reading's first one, unless memory runs out.
 abbrev pub GivesNext : {X : Type 0} → List Field → ℕ → (X → Tree × List ℕ) → Result (Option X) ReadError → Result (Field × List ℕ) BsonFault → Type 0
 GivesNext like place view (Ok None) read = Unit {0}
 GivesNext like place view (Ok (Some x)) read = (f : Field) × (slice_get like place ≡ Some f) × (read ≡ Ok ((f.0, (view x).0), (view x).1))
 GivesNext like place view (Err e) read = Fails e read
 
--- What is left to be read behind what a function returned gives what reading gives, and its fault is reading's first one, unless memory
--- runs out.
+-- Reading the rest after what a function returned gives the same as reading all, and its fault is reading's first one, unless
+-- memory runs out.
 abbrev pub LeavesToRead : {X Y : Type 0} → (X → Result Y BsonFault) → Result X ReadError → Result Y BsonFault → Type 0
 LeavesToRead left (Ok x) read = left x ≡ read
 LeavesToRead left (Err e) read = Fails e read
 
--- Reading goes on to the end where a function says so, and else the function's fault is reading's first one, unless memory runs out.
+-- If a function passes, reading has no fault; else the function's fault is reading's first one, unless memory runs out.
 abbrev pub Passes : {X Y : Type 0} → Result X ReadError → Result Y BsonFault → Type 0
 Passes {Y = Y} (Ok x) read = (y : Y) × (read ≡ Ok y)
 Passes (Err e) read = Fails e read
 
--- what a function returned is where reading ends whose value another one returned
+-- a function returned the bytes after the value that another one returned, or its fault
 abbrev pub EndsAs : {X Y : Type 0} → (X → Tree × List ℕ) → Result X ReadError → (Y → List ℕ) → Result Y ReadError → Type 0
 EndsAs view value rest ended = (read : Result (Tree × List ℕ) BsonFault) → Gives view value read → GivesPart rest (λ x. x.1) ended read
 
@@ -91,7 +91,7 @@ outermost_frame (Some n) bytes =
 unfoldable pub outermost_frame_at : List ℕ → Result (Frame × ℕ) BsonFault
 outermost_frame_at bytes = outermost_frame (count_at bytes) bytes
 
--- what a caller is told of why reading stopped
+-- the fault that a caller receives if reading stopped
 abbrev pub public_fault : ReadError → BsonFault
 public_fault errors.Memory = NoMemory
 public_fault (errors.Fault f) = f

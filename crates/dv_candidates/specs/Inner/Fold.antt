@@ -1,4 +1,4 @@
--- Folding over candidates: a value that a call takes on, candidate by candidate.
+-- Folding over candidates: a value that calls change, candidate by candidate.
 use Rattle.std.specs.Prelude.{◌≡◌, Bool, true, List, [], ◌∷◌, ◌++◌, Result, Ok, Err, MatchResult}
 use Rattle.std.specs.List.{list_any, FoldsTo}
 use Rattle.dv_candidates.specs.Candidates.{Candidate}
@@ -32,7 +32,7 @@ pub record StopsAmong {T X E : Type 0} (seen : X → Candidate) (call : T → X 
   pub stops : Stops seen call reached last e
   pub only : (p : Candidate → Bool) → list_any p (taken ++ last ∷ []) ≡ true → May p
 
--- what a fold gives over candidates that are, as a set, those among which a test passes where it is wanted
+-- the result of a fold over candidates: as a set they are those among which exactly the wanted tests pass
 pub record Folded {T X E : Type 0} (seen : X → Candidate) (call : T → X → Result T E → Type 0) (Wanted : (Candidate → Bool) → Type 0) (t : T) (result : Result T E) : Type 0 where
   pub outcome : MatchResult result (FoldsOver seen call Wanted Wanted t) (StopsAmong seen call Wanted t)
 

@@ -1,4 +1,4 @@
--- Where a walk stands for what is wanted.
+-- The state of a walk that has to reach what is wanted.
 use Rattle.std.specs.Prelude.{Bool, Some}
 use Rattle.dv_value.specs.View.{tree}
 use Rattle.dv_candidates.specs.declared.onward.Stand.{Stand}

@@ -1,4 +1,4 @@
--- Sets of places in a path, at which a value stands.
+-- Sets of places in a path, at which a walk has reached a value.
 use Rattle.std.specs.Prelude.{◌≡◌, ℕ, zero, suc, ◌<◌, ◌≤◌, ◌==◌, ◌&&◌, nat_lt, Bool, true, false, List, [], ◌∷◌, length, drop, slice_index_or, Option, Some, None, ◌⊎◌, ⊤}
 use Rattle.std.specs.Int.{bit_at}
 use Rattle.std.specs.List.{list_any}
@@ -11,7 +11,7 @@ use Rattle.dv_candidates.specs.Candidates.{Candidate, candidates}
 unfoldable pub has : Places → ℕ → Bool
 has s place = nat_lt place 64 && bit_at s.mask place == 1
 
--- the places are no further than behind the last component
+-- no place is beyond the end, after the last component
 pub record IsWithin (names : List (List ℕ)) (s : Places) : Type 0 where
   pub within : (place : ℕ) → has s place ≡ true → place ≤ length names
 
@@ -47,13 +47,13 @@ abbrev pub IsDocument : Tree → Type 0
 IsDocument (document fs) = ⊤
 IsDocument v = ⊥
 
--- a test that one of the candidates passes which the rest of the path has from c on, behind one of the places
+-- a test that passes for one of the candidates that the rest of the path, from one of the places on, has from c
 pub record Reaches (names : List (List ℕ)) (s : Places) (c : Candidate) (p : Candidate → Bool) : Type 0 where
   pub place : ℕ
   pub inside : has s place ≡ true
   pub passes : list_any p (candidates (drop place names) c) ≡ true
 
--- the same, of an element of an array that stands at the places: it is picked, or is a document and entered
+-- the same for an element of an array that is reached at the places: it is picked, or is a document and entered
 pub record ReachesElement (names : List (List ℕ)) (s : Places) (index : ℕ) (v : Tree) (p : Candidate → Bool) : Type 0 where
   pub place : ℕ
   pub inside : has s place ≡ true

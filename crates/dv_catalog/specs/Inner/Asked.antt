@@ -1,4 +1,4 @@
--- The keys that a filter asks of `_id`s, as they stand in memory.
+-- The keys that a filter allows for `_id`s, as they are in memory.
 use Rattle.std.specs.Prelude.{Bool}
 use Rattle.dv_order.specs.Key.{KeyTree}
 use Rattle.dv_keyed.specs.Inner.Interval.{is_between}

@@ -1,4 +1,4 @@
--- Stages that look into no collection.
+-- Stages that look up no rows under a name.
 use Rattle.std.specs.Prelude.{Bool, not, is_some}
 use Rattle.dv_pipe.specs.Stages.{from_of}
 use Rattle.dv_pipe.specs.declared.stage.Stage.{Stage}

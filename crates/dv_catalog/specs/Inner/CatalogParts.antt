@@ -1,4 +1,4 @@
--- What holds of collections and views together.
+-- What is true of collections and views together.
 use Rattle.std.specs.Prelude.{◌≡◌, Bool, true, false, ℕ, List, map, Option, Some, None}
 use Rattle.std.specs.List.{AllByRecursion, list_any}
 use Rattle.dv_value.specs.Tree.{Field}
@@ -12,7 +12,7 @@ use Rattle.dv_catalog.specs.State.{Namespaces, State, documents_of, is_collectio
 abbrev pub state_of : Namespaces → views_inner.Views → State
 state_of namespaces registry = record { namespaces = namespaces; views = map views_inner.view_form registry }
 
--- how a view stands
+-- the mark of a view
 abbrev pub mark_of : views.ViewMark → Mark
 mark_of (views.live kept) = live kept.ticks
 mark_of views.stale = stale
@@ -23,7 +23,7 @@ marks_of registry = map (λ v. mark_of v.mark) registry
 abbrev pub marked_of : Namespaces → views_inner.Views → Marked
 marked_of namespaces registry = record { state = state_of namespaces registry; marks = marks_of registry }
 
--- each view that isn't stale has the rows of its pipeline over what stands there; no view stands under a collection's name
+-- each view that isn't stale has the rows of its pipeline over these collections; no view has the name of a collection
 pub record IsKept (namespaces : Namespaces) (registry : views_inner.Views) : Type 0 where
   pub right : views_inner.AreRight (lists_of namespaces) registry
   pub apart : (name : List ℕ) → is_view name (map views_inner.view_form registry) ≡ true → is_collection name namespaces ≡ false
@@ -32,19 +32,19 @@ abbrev pub rows_or : Option (List (List Field)) → List (List Field) → List (
 rows_or None others = others
 rows_or (Some rows) others = rows
 
--- the rows that a view of a name keeps, or else the documents under it
+-- the rows that the view of a name shows, or else the documents under the name
 abbrev pub rows_kept : List ℕ → Namespaces → views_inner.Views → List (List Field)
 rows_kept name namespaces registry = rows_or (views_inner.rows_shown name registry) (documents_of name namespaces)
 
--- the rows that the view of a name shows, if it shows any, are those that stand under the name
+-- the rows that the view of a name shows, if it shows any, are those of the name
 abbrev pub ShowsItsRows : List ℕ → Namespaces → views_inner.Views → Type 0
 ShowsItsRows name namespaces registry = (rows : List (List Field)) → views_inner.rows_shown name registry ≡ Some rows → rows ≡ rows_of name (state_of namespaces registry)
 
--- the rows that are kept under a name are those that stand under it
+-- the rows that are kept under a name are those of the name
 abbrev pub KeepsItsRows : List ℕ → Namespaces → views_inner.Views → Type 0
 KeepsItsRows name namespaces registry = rows_kept name namespaces registry ≡ rows_of name (state_of namespaces registry)
 
--- the same of each name
+-- the rows that are kept under each name
 abbrev pub lists_kept : Namespaces → views_inner.Views → Lists
 lists_kept namespaces registry name = rows_kept name namespaces registry
 

@@ -7,7 +7,7 @@ use Rattle.std.specs.Str.{bytes_eq}
 use Rattle.std.specs.declared.string.String.{String}
 use Rattle.dv_keyed.specs.Index.{IndexForm}
 
--- the components of a path, each behind a dot
+-- the components of a path, each after a dot
 abbrev pub joined : List (List ℕ) → List ℕ
 joined [] = []
 joined (c ∷ cs) = 46 ∷ c ++ joined cs

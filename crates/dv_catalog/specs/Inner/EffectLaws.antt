@@ -1,4 +1,4 @@
--- What holds of documents that are chosen, of what becomes of them, and of what is done to a collection.
+-- What is true of documents that are chosen, of their updates, and of what a statement does to a collection.
 use Rattle.std.proofs.Common.{◌≡◌, ◌⊎◌, inl, inr, Bool, true, false, cond, List, [], ◌∷◌, Result, Ok, Err, refl, sym, ap, subst, ◌∙◌, if◌then◌else◌}
 use Rattle.std.specs.Prelude.{codes}
 use Rattle.std.specs.List.{AllByRecursion}
@@ -101,7 +101,7 @@ module _ (c : Collection) (statement : Statement) where
       by_result (Ok made) so is = by_test made (breaks c.indexes made.changes c.documents) so refl is
       by_result (Err refusal) so is = absurd cc
 
-  -- its changes are those that it makes of the documents, or none
+  -- its changes are those of the statement on the documents, or none
   pub done_changes : (changes_of (done_to c statement) ≡ changes_of (statement c.documents)) ⊎ (changes_of (done_to c statement) ≡ [])
   done_changes = by_result (statement c.documents) refl
     where

@@ -1,4 +1,4 @@
--- What stands in memory for the effect of a statement.
+-- How the effect of a statement is represented in memory.
 use Rattle.std.specs.Prelude.{◌≡◌, ◌<◌, ◌⊎◌, ℕ, true, false, List, [], ◌∷◌, codes, length, map, take, is_some, if◌then◌else◌, ⊤}
 use Rattle.std.specs.Str.{bytes_eq}
 use Rattle.dv_value.specs.Names.{has_zero}
@@ -12,23 +12,23 @@ use Rattle.dv_catalog.specs.declared.effect.Effect as memory_effect
 use Rattle.dv_catalog.specs.declared.effect.Updated.{Updated}
 use Rattle.dv_catalog.specs.Changes.{Change, Effect, put, gone, with_change}
 
--- the document that comes in place of one that is updated
+-- an updated document, as it is after the update
 abbrev pub after_of : List ℕ → Updated → List Field
 after_of name u = outcome_seen name u.before u.outcome
 
--- those that come in place of all that are updated
+-- all updated documents, as they are after the update
 abbrev pub new_documents : List ℕ → List Updated → List (List Field)
 new_documents name each = map (after_of name) each
 
--- all that are updated, as they were
+-- all updated documents, as they were before
 abbrev pub old_documents : List Updated → List (List Field)
 old_documents each = map (λ u. u.before) each
 
--- the changes that put those that come
+-- the changes that put the updated documents
 abbrev pub update_changes : List ℕ → List Updated → List Change
 update_changes name each = map put (new_documents name each)
 
--- this alone, or nothing where an outcome leaves its document the same
+-- this value alone, or nothing if an outcome leaves its document the same
 abbrev pub unless_it_stays : {A : Type 0} → Outcome → A → List A
 unless_it_stays outcome x = if stays outcome then [] else x ∷ []
 
@@ -43,7 +43,7 @@ abbrev pub BeginsWithId : Change → Type 0
 BeginsWithId (put d) = HasId d
 BeginsWithId (gone k) = ⊤
 
--- a document that is put begins with an `_id`, and has a document to be put in place of; one that goes is there
+-- a document that is put begins with an `_id`, and replaces a document that is there; a document that is removed is there
 abbrev pub IsPlaced : List (List Field) → Change → Type 0
 IsPlaced documents (put d) = HasId d × (is_some (found (id_key d) documents) ≡ true)
 IsPlaced documents (gone k) = is_some (found k documents) ≡ true
@@ -53,7 +53,7 @@ abbrev pub ArePlaced : List (List Field) → List Change → Type 0
 ArePlaced documents [] = ⊤
 ArePlaced documents (change ∷ changes) = IsPlaced documents change × ArePlaced (with_change documents change) changes
 
--- a document that is put begins with an `_id`; one that goes is there
+-- a document that is put begins with an `_id`; a document that is removed is there
 abbrev pub IsAble : List (List Field) → Change → Type 0
 IsAble documents (put d) = HasId d
 IsAble documents (gone k) = is_some (found k documents) ≡ true
@@ -63,8 +63,8 @@ abbrev pub AreAble : List (List Field) → List Change → Type 0
 AreAble documents [] = ⊤
 AreAble documents (change ∷ changes) = IsAble documents change × AreAble (with_change documents change) changes
 
--- the documents that are updated stand there as they were, and their `_id`s stay; the name of a field that is changed alone is not `_id`,
--- and has no zero byte
+-- the documents to be updated are there as they were before, and keep their `_id`s; the name of the field, if only one is changed,
+-- is not `_id`, and has no zero byte
 pub record AreUpdatesOf (documents : List (List Field)) (name : List ℕ) (each : List Updated) : Type 0 where
   pub standing : AreStanding documents (map (λ u. u.before) each)
   pub same_ids : map id_key (map (after_of name) each) ≡ map id_key (map (λ u. u.before) each)
@@ -75,7 +75,7 @@ abbrev pub StandsFor : List (List Field) → memory.Changes → Type 0
 StandsFor documents (Put updates) = AreUpdatesOf documents updates.name updates.each.items
 StandsFor documents (Gone keys) = ⊤
 
--- the first of changes, not all of them, or none
+-- the first changes of a list, but not all of them; or none
 pub record AreFirst (some all : List Change) : Type 0 where
   pub count : ℕ
   pub fewer : (count ≡ 0) ⊎ (count < length all)

@@ -8,7 +8,7 @@ equal_to (equal v) = Some (v ∷ [])
 equal_to (among vs) = Some vs
 equal_to c = None
 
--- the values to one of which the condition that bounds the keys of a plan holds them equal, where it is an equality or $in
+-- the values of the condition that bounds the keys of a plan, if it is an equality or $in: each key equals one of them
 abbrev pub equals_in : Option (ℕ × Condition) → Option (List Tree)
 equals_in None = None
 equals_in (Some plan) = equal_to plan.1

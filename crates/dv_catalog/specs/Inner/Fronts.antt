@@ -1,4 +1,4 @@
--- What the stages in front of a pipeline leave, where a find does the same.
+-- What the first stages of a pipeline leave, if they are a find.
 use Rattle.std.specs.Prelude.{◌≡◌, ℕ, List, [], ◌∷◌, Option, Some, None}
 use Rattle.dv_match.specs.Filter.{Members}
 use Rattle.dv_path.specs.SortSpec.{Part}
@@ -21,11 +21,12 @@ sorted_where (Some parts) rows = stable parts rows
 abbrev pub passed : Option Members → Option (List Part) → Option ℕ → List Row → List Row
 passed form parts most rows = front most (sorted_where parts (matching_where form rows))
 
--- the stages behind a front, over what the front leaves of some rows, give what all stages give
+-- the later stages, over what the first ones leave of some rows, return what all stages return
 abbrev pub IsFront : (List Row → List Row) → List Stage → List Stage → Type 0
 IsFront leaves later stages = (source : List ℕ) (lists : Lists) (rows : List Row) → through later source lists (leaves rows) ≡ through stages source lists rows
 
--- how many of the first rows matter to stages, if not all: a limit takes so many, behind stages that make one row of each
+-- how many of the first rows stages need, unless they need all: as many as a limit takes, if each stage before it returns one row
+-- for each
 abbrev pub wanted : List Stage → Option ℕ
 wanted [] = None
 wanted (stages.Limit count ∷ ss) = Some count

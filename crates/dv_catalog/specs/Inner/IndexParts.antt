@@ -1,4 +1,4 @@
--- What stands in memory for what is asked and told of indexes, and what the parts of their making give.
+-- How explanations are represented in memory, and what the parts of createIndexes and dropIndexes do.
 use Rattle.std.specs.Prelude.{ℕ, List, length, Result, Ok, Err, if◌then◌else◌}
 use Rattle.std.specs.String.{string_bytes}
 use Rattle.dv_refusal.specs.declared.refusal.Refusal.{Refusal}
@@ -20,11 +20,11 @@ way_seen All = making.over_all
 abbrev pub explained_seen : Explained → making.Explained
 explained_seen e = record { way = way_seen e.way; documents = e.documents }
 
--- a collection with the indexes that are made, if they are
+-- a collection with the indexes that are made, or their refusal
 abbrev pub collection_so : Collection → Result (List IndexForm) Refusal → Result Collection Refusal
 collection_so c made = made >>= λ indexes. Ok (record c { indexes = indexes })
 
--- the same of the collection of a namespace
+-- the same for the collection of a namespace
 abbrev pub namespaces_so : List ℕ → Result (List IndexForm) Refusal → Namespaces → Result Namespaces Refusal
 namespaces_so namespace made namespaces = made >>= λ indexes. Ok (with_indexes namespace indexes namespaces)
 

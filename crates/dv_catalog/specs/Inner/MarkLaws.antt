@@ -1,4 +1,4 @@
--- Marks behind no changes.
+-- Marks after no changes.
 use Rattle.std.proofs.Common.{◌≡◌, ◌∙◌, ap, arith, inl, inr, refl}
 use Rattle.dv_views.specs.Flow.{nothing}
 use Rattle.dv_catalog.specs.Marks.{IsMarkedBy, Mark, live, mark_counted, stale}

@@ -1,4 +1,4 @@
--- What stands in memory for rows.
+-- How rows are represented in memory.
 use Rattle.std.specs.Prelude.{List, []}
 use Rattle.dv_value.specs.Tree.{Field}
 use Rattle.dv_catalog.specs.declared.rows.RowsOrigin.{RowsOrigin}

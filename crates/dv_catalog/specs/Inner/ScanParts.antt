@@ -1,4 +1,4 @@
--- What the parts of a scan give.
+-- What the parts of a scan return.
 use Rattle.std.specs.Prelude.{◌≡◌, ◌<◌, ◌+◌, ℕ, List, Option, Some, None, filter, take, ⊤}
 use Rattle.dv_value.specs.Tree.{Field}
 use Rattle.dv_coll.specs.Collection.{IsAscending}
@@ -7,12 +7,12 @@ use Rattle.dv_sort.specs.Sorting.{stable}
 use Rattle.dv_keyed.specs.declared.before.Bar.{Bar}
 use Rattle.dv_index.specs.Inner.Ahead.{is_ahead}
 
--- so many rows of a sort are enough where some are left out and some wanted; 0 stands for all
+-- whether this many rows of a sort are enough, if `skip` are left out and `limit` are wanted; a limit of 0 stands for all
 abbrev pub IsEnough : ℕ → ℕ → Option ℕ → Type 0
 IsEnough skip limit None = ⊤
 IsEnough skip limit (Some most) = (0 < limit) × (most ≡ skip + limit)
 
--- these rows are the first ones, in the order of a sort, of any rows in the order of their `_id`s that have the same ones ahead of a bar as
--- those that were found
+-- these rows are the first ones, in the order of a sort, of any rows in the order of their `_id`s that have the same rows before a
+-- bar as those that were found
 abbrev pub AreFirstAhead : Part → Bar → List (List Field) → List Part → ℕ → List (List Field) → Type 0
 AreFirstAhead by bar found sort most first = (rows : List (List Field)) → IsAscending rows → filter (is_ahead by bar) found ≡ filter (is_ahead by bar) rows → first ≡ take most (stable sort rows)

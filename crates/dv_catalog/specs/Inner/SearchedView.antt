@@ -1,4 +1,4 @@
--- What stands in memory for what a find looks through.
+-- How what a find searches is represented in memory.
 use Rattle.std.specs.Prelude.{List}
 use Rattle.dv_value.specs.Tree.{Field}
 use Rattle.dv_catalog.specs.declared.standing.Searched.{Searched}

@@ -6,6 +6,6 @@ abbrev pub with_list_where : List Row → List ℕ → List Row → List Source 
 with_list_where [] name rows sources = sources ++ (name, rows) ∷ []
 with_list_where (row ∷ there) name rows sources = sources
 
--- with these rows under a name, unless rows are there
+-- with these rows under a name, unless it has rows already
 abbrev pub with_list : List ℕ → List Row → List Source → List Source
 with_list name rows sources = with_list_where (rows_under name sources) name rows sources

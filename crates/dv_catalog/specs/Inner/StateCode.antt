@@ -1,4 +1,4 @@
--- A state as a ghost value, one to one: so a proof can tell two states apart.
+-- A state as a ghost value, one to one, so that a proof can distinguish two states.
 use Rattle.std.specs.Prelude.{◌≡◌, ℕ, List, Option, Some, None, refl}
 use Rattle.std.specs.Coded.{Coded, code_by, coded_list, coded_option, coded×, coded_ℕ}
 use Rattle.std.specs.FinMap as finite

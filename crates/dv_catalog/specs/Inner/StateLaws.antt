@@ -1,4 +1,4 @@
--- What stands under namespaces.
+-- What is under namespaces.
 use Rattle.std.proofs.Common.{◌≡◌, ℕ, List, Option, Some, None, cond, ap, ◌∙◌}
 use Rattle.std.proofs.lemmas.Map.Text.{is_eq-slice_cmp}
 use Rattle.std.specs.Cmp.Lexicographic.{nat_list_cmp_total}

@@ -1,4 +1,4 @@
--- What is told in memory of a view.
+-- How the state of a view is represented in memory.
 use Rattle.std.specs.Prelude.{Bool, true, false}
 use Rattle.dv_views.specs.declared.state.ViewState.{ViewState}
 use Rattle.dv_views.specs.declared.state.ViewState.TheVariants.{Live, Stale}

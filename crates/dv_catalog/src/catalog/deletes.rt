@@ -1,4 +1,4 @@
-//! Deleting documents under a namespace: all that a deletion is for, or as many as memory suffices for.
+//! Deleting documents under a namespace: all that a deletion selects, or as many as there is memory for.
 
 ghost use Rattle.std.specs.Prelude.{◌≡◌, false};
 ghost use Rattle.dv_command.specs.Inner.View.{deletion_seen};
@@ -13,18 +13,18 @@ use crate::effect::Changes;
 use crate::failure::Stopped;
 use dv_command::{Deletion, Refusal};
 
-/// How many documents go at most when memory runs out for all of them.
+/// How many documents are removed at most if memory runs out for all of them.
 const FIRST_PART: usize = 1_048_576;
 
-/// Memory is wanting before the first change.
+/// Memory ran out before the first change.
 const UNBEGUN: Stopped = Stopped {
     refusal: Refusal::WantOfMemory,
     done: 0,
 };
 
 impl Catalog {
-    /// Takes out the documents of a namespace that a deletion is for. If there is not enough memory for all of them, the first so
-    /// many, not all, are taken out. There is no view there.
+    /// Removes the documents of a namespace that a deletion selects. If there is not enough memory for all of them, only the first
+    /// ones are removed, or none, but never all. The namespace has no view.
     pub fn delete(&mut self, namespace: &str, deletion: &Deletion) -> Result<Counted, Stopped>
         requires { is_view namespace.now self.old.state.views ≡ false }
         ensures made { MakesCounted namespace.now (delete_chosen (deletion_seen deletion.now)) self.old result self.new }
@@ -42,7 +42,7 @@ impl Catalog {
         }
     }
 
-    /// The same, of which all is prepared before the first document goes.
+    /// The same, with all changes prepared before the first document is removed.
     fn delete_all(&mut self, namespace: &str, deletion: &Deletion) -> Result<Counted, Stopped>
         requires { is_view namespace.now self.old.state.views ≡ false }
         ensures made { MakesCounted namespace.now (delete_chosen (deletion_seen deletion.now)) self.old result self.new }
@@ -56,8 +56,8 @@ impl Catalog {
         self.carry_out(namespace, effect)
     }
 
-    /// Takes out the first documents that a deletion is for, one of several documents, and never all of them: as many as memory
-    /// suffices for, or half as many. Where it suffices for none, nothing is changed.
+    /// Removes the first documents that a deletion of several documents selects, but never all of them: at most `FIRST_PART`, then
+    /// half as many each time that memory runs out for so many. If there is memory for none, nothing is changed.
     fn delete_some(&mut self, namespace: &str, deletion: &Deletion) -> Stopped
         requires collection { is_view namespace.now self.old.state.views ≡ false }
         requires several { deletion.now.only_first ≡ false }
@@ -74,8 +74,8 @@ impl Catalog {
         self.delete_first(namespace, deletion, 1)
     }
 
-    /// Takes out the first `most` documents that a deletion is for, one of several documents, but never all of them; when memory
-    /// runs out for so many, fewer or none.
+    /// Removes the first `most` documents that a deletion of several documents selects, but never all of them; fewer or none if
+    /// memory runs out for so many.
     fn delete_first(&mut self, namespace: &str, deletion: &Deletion, most: usize) -> Stopped
         requires collection { is_view namespace.now self.old.state.views ≡ false }
         requires several { deletion.now.only_first ≡ false }

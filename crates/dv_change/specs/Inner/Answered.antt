@@ -1,4 +1,4 @@
--- What holds where a call answers Ok.
+-- What holds if a call returns Ok.
 use Rattle.std.specs.Prelude.{Result, Ok, Err, IfOk, OnOk}
 
 pub ok-both : {A E : Type 0} {P Q R : Type 0} (r : Result A E) → OnOk r P → OnOk r Q → (P → Q → R) → OnOk r R

@@ -5,7 +5,7 @@ use Rattle.dv_change.specs.Changes.{Positioned, with_change}
 use Rattle.dv_change.specs.Difference.{diff}
 use Rattle.dv_change.specs.Inner.Changes.{IsExactChange, IsPositioned}
 
--- how many changes lead from what is made of the rows to what is made of them after the change
+-- how many changes lead from the result for the rows to the result for them after the change
 abbrev pub result_changes : (Positioned → Positioned) → Positioned → Change → ℕ
 result_changes makes rows change = length (diff (makes rows) (makes (with_change rows change)))
 

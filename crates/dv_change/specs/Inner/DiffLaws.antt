@@ -1,4 +1,4 @@
--- A difference leads from the one list of rows to the other one.
+-- The difference of two lists of rows, applied to the old list, gives the new one.
 use Rattle.std.specs.Prelude.{◌≡◌, Bool, true, false, not, cond, List, [], ◌∷◌, ◌++◌, map, Option, Some, None, is_none, is_some, refl}
 use Rattle.std.proofs.Common.{ap, sym, ◌∙◌, ◌⊎◌, inl, inr, ◌≤◌, ◌+◌, length, arith}
 use Rattle.std.specs.declared.cmp.Ordering.TheVariants.{Less, Equal}
@@ -22,7 +22,7 @@ use Rattle.dv_change.specs.Difference.{diff, gones, puts, stands_as}
 use Rattle.dv_change.specs.Inner.Ordered.{found_at, gone, put}
 use Rattle.dv_change.specs.Inner.RowLaws.{at-gone, at-like, at-put, at_back, past, positioned-gone, positioned-none, positioned-put, positioned-tail, same_rows}
 
--- ---- lists that lose what fails a test
+-- ---- lists without what fails a test
 
 module _ {V : Type 0} (f : PosTree × V → Bool) where
   pub all-filter : (P : PosTree → Type 0) (es : List (PosTree × V)) → AllByRecursion P (keys_of es) → AllByRecursion P (keys_of (filter f es))
@@ -45,7 +45,7 @@ module _ {V : Type 0} (f : PosTree × V → Bool) where
   pub positioned-filter : (es : List (PosTree × V)) → IsPositioned es → IsPositioned (filter f es)
   positioned-filter es are = record { ascending = sorted-filter es are.ascending; exact = all-filter IsExact es are.exact }
 
-  -- what stands at a position where it passes
+  -- the value at a position, if it passes
   pub at-filter : (q : PosTree) (g : V → Bool) → ((p : PosTree) (v : V) → pos_order q p ≡ Equal → f (p, v) ≡ g v) → (es : List (PosTree × V)) → IsPositioned es → found_at q (filter f es) ≡ option_filter g (found_at q es)
   at-filter q g alike [] are = refl
   at-filter q g alike (e ∷ es) are = by (f e) (is_eq (pos_order q e.0)) refl refl (at-filter q g alike es (positioned-tail e es are))
@@ -74,7 +74,7 @@ all_go es = map (λ e. Gone e.0) es
 abbrev all_come : Positioned → List Change
 all_come es = map (λ e. Put e.0 e.1) es
 
--- the first, and where there is none, the second
+-- the first, or if there is none, the second
 abbrev pub or_else : {A : Type 0} → Option A → Option A → Option A
 or_else None b = b
 or_else (Some a) b = Some a
@@ -125,7 +125,7 @@ pub exact-diff : (old new : Positioned) → IsPositioned old → IsPositioned ne
 exact-diff old new o n =
     exact-both (gones old new) (puts old new) (exact-go (filter (went new) old) (positioned-filter (went new) old o).exact) (exact-come (filter (row_differs old) new) (positioned-filter (row_differs old) new n).exact)
 
--- what goes and what comes at a position
+-- what is removed and what is put at a position
 pub at-went : (old new : Positioned) (q : PosTree) → IsPositioned old → at q (filter (went new) old) ≡ option_filter (λ v. is_none (at q new)) (at q old)
 at-went old new q o = at-filter (went new) q (λ v. is_none (at q new)) (λ p v e. ap is_none (sym (at-like q p e new))) old o
 
@@ -146,7 +146,7 @@ settled (Some d) (Some v) = by (same_fields (fields_of d) (fields_of v)) refl
     by true same = ap Some ((same_documents d v).0 same)
     by false same = refl
 
--- what comes of the first list by the changes to the second is the second
+-- the first list after the changes to the second is the second
 pub apply-diff : (old new : Positioned) → IsPositioned old → IsPositioned new → with_changes old (diff old new) ≡ new
 apply-diff old new o n =
     same_rows (with_changes old (diff old new)) new (positioned-changes old (diff old new) o (exact-diff old new o n)) n (λ q exact.
@@ -162,7 +162,7 @@ apply-diff old new o n =
 
 -- ---- lists that differ in parts of them
 
--- at a position the parts have what the lists have; or they have nothing there, and the lists have the same
+-- at a position the parts have what the lists have; or the parts have nothing there, and both lists have the same
 abbrev pub IsPartAt : (old new before after : Positioned) → PosTree → Type 0
 IsPartAt old new before after q = ((at q before ≡ at q old) × (at q after ≡ at q new)) ⊎ ((at q before ≡ None) × (at q after ≡ None) × (at q old ≡ at q new))
 
@@ -189,7 +189,7 @@ module _ (old new before after : Positioned) where
   came-there q (inr same) =
       ap (option_filter (λ v. not (stands_as (at q old) v))) (sym same.2) ∙ none_differs (at q old) ∙ sym (ap (option_filter (λ v. not (stands_as (at q before) v))) same.1)
 
-  -- what goes is the same, and so is what comes
+  -- what is removed is the same, and so is what is put
   pub goes-alike : IsPositioned old → IsPositioned before → ((q : PosTree) → IsExact q → IsPartAt old new before after q) → filter (went new) old ≡ filter (went after) before
   goes-alike o b parts =
       same_rows (filter (went new) old) (filter (went after) before) (positioned-filter (went new) old o) (positioned-filter (went after) before b) (λ q exact.

@@ -19,7 +19,7 @@ place n = At n ∷ []
 abbrev pub numbered_row : ℕ → List Field
 numbered_row n = (codes "a", int32 (pos n)) ∷ []
 
--- rows with these numbers, at positions that are counted from here on
+-- rows with these numbers, at positions that are counted from `first` on
 abbrev pub numbered_rows : ℕ → List ℕ → Positioned
 numbered_rows first [] = []
 numbered_rows first (n ∷ ns) = (place first, numbered_row n) ∷ numbered_rows (suc first) ns
@@ -28,11 +28,11 @@ numbered_rows first (n ∷ ns) = (place first, numbered_row n) ∷ numbered_rows
 abbrev pub wide_number : ℕ → List Field
 wide_number n = (codes "a", int64 (pos n)) ∷ []
 
--- a stage that makes what comes to it
+-- a stage that returns its rows as they are
 abbrev pub as_it_comes : Transform
 as_it_comes = record { makes = λ named rows. rows; named = [] }
 
--- a stage that makes the first row of those that come to it
+-- a stage that returns the first of its rows
 abbrev pub first_alone : Transform
 first_alone = record { makes = λ named rows. take 1 rows; named = [] }
 
@@ -40,11 +40,11 @@ abbrev pub first_named : List Positioned → Positioned
 first_named [] = []
 first_named (rows ∷ others) = rows
 
--- a stage that makes the rows of the list that it looks into
+-- a stage that returns the rows of the list that it reads by `$lookup`
 abbrev pub looked_up_form : Positioned → Transform
 looked_up_form rows = record { makes = λ named left. first_named named; named = rows ∷ [] }
 
--- chains of them, the second one with an empty list for its look-up
+-- chains of them; each `$lookup` has an empty list
 abbrev pub two_stages : List Transform
 two_stages = as_it_comes ∷ first_alone ∷ []
 

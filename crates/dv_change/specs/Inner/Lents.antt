@@ -1,4 +1,4 @@
--- The parts that are lent of a position.
+-- The parts that are borrowed from a position.
 use Rattle.std.specs.Prelude.{[], ◌∷◌}
 use Rattle.dv_order.specs.LentKeys.{lent_key}
 use Rattle.dv_change.specs.declared.position.Part.TheVariants.{Up}

@@ -1,4 +1,4 @@
--- Turns one behind the other, each of which has taken in what the one before it makes.
+-- Operators one after the other, each of which has taken in the result of the one before it.
 use Rattle.std.specs.Prelude.{◌≡◌, ℕ, List, [], ◌∷◌, ⊤, map}
 use Rattle.std.specs.List.{AllByRecursion}
 use Rattle.dv_change.specs.declared.change.Change.{Change}
@@ -9,9 +9,9 @@ use Rattle.dv_change.specs.Work.{Transform, handed, pass, pass_in, stage_rows, t
 use Rattle.dv_change.specs.Inner.Turning.{Turning}
 use Rattle.dv_change.specs.Inner.Work.{forms_after, stage_work}
 
--- of turns: how each of them is a stage
+-- for operators: how each of them is a stage
 module _ {T : Type 0} (turning : Turning T) where
-  -- what a turn makes of the rows that it has taken in
+  -- an operator's result for the rows that it has taken in
   abbrev pub made : T → Positioned
   made t = stage_rows (turning.form t) (turning.left t)
 
@@ -22,7 +22,7 @@ module _ {T : Type 0} (turning : Turning T) where
   abbrev pub work_of_one : List Change → T → ℕ
   work_of_one changes t = stage_work (stage_rows (turning.form t)) (turning.left t) changes
 
-  -- the stages that they are
+  -- their stages
   abbrev pub forms_of : List T → List Transform
   forms_of ts = map turning.form ts
 
@@ -35,16 +35,16 @@ module _ {T : Type 0} (turning : Turning T) where
   abbrev pub HaveTakenNothing : List T → Type 0
   HaveTakenNothing ts = AllByRecursion (λ t. turning.sound t × (turning.left t ≡ [])) ts
 
-  -- none is spent, and the first one has taken in these rows, each other one what the one before it makes
+  -- none is spent, and the first one has taken in these rows, each other one the result of the one before it
   abbrev pub IsLinked : List T → Positioned → Type 0
   IsLinked [] rows = ⊤
   IsLinked (t ∷ ts) rows = turning.sound t × (turning.left t ≡ rows) × IsLinked ts (made t)
 
-  -- none is spent, and each but the first one has taken in what the one before it makes
+  -- none is spent, and each except the first one has taken in the result of the one before it
   abbrev pub AreLinked : List T → Type 0
   AreLinked ts = IsLinked ts (first_left ts)
 
-  -- what the last one makes; where there is none, the rows themselves
+  -- the result of the last one; if there is none, the rows themselves
   abbrev pub last_outs : List T → Positioned → Positioned
   last_outs [] rows = rows
   last_outs (t ∷ ts) rows = last_outs ts (made t)
@@ -67,7 +67,7 @@ module _ {T : Type 0} (turning : Turning T) where
   abbrev pub first_left_after : Input → Change → List T → Positioned
   first_left_after input change ts = left_after input change (first_left ts)
 
-  -- what their stages return of rows
+  -- what their stages return for rows
   abbrev pub rows_returned : List T → Positioned → Positioned
   rows_returned ts rows = through_forms (forms_of ts) rows
 
@@ -79,15 +79,15 @@ module _ {T : Type 0} (turning : Turning T) where
   abbrev pub StayLinkedAlong : List Change → List T → List T → Type 0
   StayLinkedAlong changes old new = IsLinked new (with_changes (first_left old) changes)
 
-  -- so they are after a change of an input
+  -- they are also linked after a change of an input
   abbrev pub StayLinked : Input → Change → List T → List T → Type 0
   StayLinked input change old new = IsLinked new (first_left_after input change old)
 
-  -- their stages are the same as before it, but for the list that it changes
+  -- their stages are the same as before it, except the list that it changes
   abbrev pub StagesFollow : Input → Change → List T → List T → Type 0
   StagesFollow input change old new = forms_of new ≡ forms_after input change (forms_of old)
 
-  -- after it the last one makes what their stages return
+  -- after it, the last one's result is what their stages return
   abbrev pub MakeAsStages : Input → Change → List T → List T → Type 0
   MakeAsStages input change old new = last_outs new (first_left_after input change old) ≡ rows_returned new (first_left_after input change old)
 

@@ -9,7 +9,7 @@ module _ {V : Type 0} where
   in_all None others = others
   in_all (Some e) others = e ∷ others
 
-  -- where there is no first one, there are no others; and all stand in the order of their positions
+  -- if there is no first one, there are no others; and all are in the order of their positions
   abbrev pub AreInOrder : Option (PosTree × V) → List (PosTree × V) → Type 0
   AreInOrder None others = others ≡ []
   AreInOrder (Some e) others = IsPositioned (e ∷ others)

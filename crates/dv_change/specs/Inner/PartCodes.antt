@@ -1,4 +1,4 @@
--- Codes of parts: three numbers, by which parts stand where these differ. Some parts are known by their codes.
+-- Codes of parts: three numbers, which order two parts if they differ. Some parts are determined by their codes.
 use Rattle.std.specs.Prelude.{◌≡◌, ℕ, suc, ◌-◌, ◌^◌, ◌<◌, ◌≤◌, nat_lt, cond, [], ◌∷◌, refl}
 use Rattle.std.proofs.Common.{inl, inr, sym, arith}
 use Rattle.std.specs.declared.cmp.Ordering.TheVariants.{Less}
@@ -12,7 +12,7 @@ use Rattle.dv_change.specs.declared.position.Part.{Part}
 use Rattle.dv_change.specs.declared.position.Part.TheVariants.{Up, Down, At}
 use Rattle.dv_change.specs.Positions.{PosTree, part_order}
 
--- the kind and the class: 1 to 13 under ascending keys, 18 to 30 under descending ones, 32 at numbers
+-- the kind and the class: 1 to 13 for ascending keys, 18 to 30 for descending ones, 32 for numbers
 abbrev pub part_top : Part → ℕ
 part_top (Up k) = suc (key_class k)
 part_top (Down k) = 30 - key_class k
@@ -23,13 +23,13 @@ part_high (Up k) = key_high k
 part_high (Down k) = 2 ^ 64 - 1 - key_high k
 part_high (At n) = n
 
--- descending keys have none
+-- the second number; descending keys and numbers have none
 abbrev pub part_low : Part → ℕ
 part_low (Up k) = key_low k
 part_low (Down k) = 0
 part_low (At n) = 0
 
--- the part that a code tells, where one does
+-- the part that a code determines, if it determines one
 abbrev pub part_of_code : ℕ → ℕ → ℕ → Part
 part_of_code top high low =
     cond (nat_lt top 16) (Up (key_of_code (top - 1) high low))
@@ -56,7 +56,7 @@ pub key_class_within : (k : KeyTree) → key_class k ≤ 12
 key_class_within no_element = omega arith
 key_class_within (value v) = class_within v
 
--- a part of a lower kind or class stands before another one
+-- of two parts, the one with the lower kind and class comes first
 pub top_ahead : (a b : Part) → part_top a < part_top b → part_order a b ≡ Less
 top_ahead (Up k) (Up l) h = class_ahead k l (omega arith)
 top_ahead (Up k) (Down l) h = refl
@@ -72,7 +72,7 @@ high_only : (a c : ℕ) → IsAhead a 0 c 0 → a < c
 high_only a c (inl h) = h
 high_only a c (inr h) = absurd (omega (arith, h.1))
 
--- and of two of one kind and class the one whose numbers are less
+-- and of two of one kind and class, the one with the lower numbers
 pub part_ahead : (a b : Part) → part_top a ≡ part_top b → IsAhead (part_high a) (part_low a) (part_high b) (part_low b) → part_order a b ≡ Less
 part_ahead (Up k) (Up l) e h = key_ahead k l (omega (arith, e)) h
 part_ahead (Up k) (Down l) e h = absurd (omega (arith, e, key_class_within k, key_class_within l))

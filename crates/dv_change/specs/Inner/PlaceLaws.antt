@@ -1,4 +1,5 @@
--- Positions stand as the codes of their first parts do, where these differ; and parts that are told by their codes as these.
+-- Positions have the order of their first parts' codes, if these differ. Parts that are determined by their codes have the order of
+-- these.
 use Rattle.std.specs.Prelude.{◌≡◌, ◌⊎◌, ℕ, ◌<◌, true, [], ◌∷◌, refl}
 use Rattle.std.proofs.Common.{inl, inr, ap, sym, ◌∙◌, arith}
 use Rattle.std.specs.declared.cmp.Ordering.{Ordering}
@@ -84,13 +85,13 @@ pos_before (p ∷ ps) [] (inl h) = absurd (omega arith)
 pos_before (p ∷ ps) [] (inr h) = absurd (omega (arith, h.0, above_none p))
 pos_before (p ∷ ps) (q ∷ qs) h = ap (λ r. ordering_then r (slice_cmp part_order ps qs)) (part_before p q h)
 
--- where the first codes differ they decide
+-- if the first codes differ, they decide
 pub first_decides : (a b : PosTree) (r : Ordering) → r ≡ code_order (first_top a) (first_high a) (first_low a) (first_top b) (first_high b) (first_low b) → is_ne r ≡ true → r ≡ pos_order a b
 first_decides a b Less e h = sym (pos_before a b (is_less _ _ _ _ _ _ (sym e)))
 first_decides a b Equal e h = cc
 first_decides a b Greater e h = back pos_order_total a b (pos_before b a (is_greater _ _ _ _ _ _ (sym e)))
 
--- parts that have these codes and are told by them
+-- parts that have these codes and are determined by them
 module _ (t h l u i m : ℕ) (a : IsCodeOf (part_of_code t h l) t h l) (b : IsCodeOf (part_of_code u i m) u i m) where
   here : IsBefore t h l u i m → IsBefore (part_top (part_of_code t h l)) (part_high (part_of_code t h l)) (part_low (part_of_code t h l)) (part_top (part_of_code u i m)) (part_high (part_of_code u i m)) (part_low (part_of_code u i m))
   here = rw (a.0, a.1, a.2, b.0, b.1, b.2) (λ x. x)

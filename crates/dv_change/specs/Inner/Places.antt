@@ -15,7 +15,7 @@ use Rattle.dv_change.specs.Inner.PartCodes.{part_top, part_high, part_low, part_
 abbrev pub text_alone : ℕ → List ℕ → PosTree
 text_alone len bytes = Up (value (string (take len bytes))) ∷ []
 
--- its parts, told by their codes, as a text, as a document or in a list
+-- its parts, given by their codes, as a text, as a document or in a list
 abbrev pub parts_of : Place → PosTree
 parts_of (One top low high) = part_of_code top high low ∷ []
 parts_of (Two top next_top low high next) = part_of_code top high 0 ∷ part_of_code next_top next low ∷ []
@@ -29,7 +29,7 @@ parts_of (Listed top low high parts) = parts.value.items
 abbrev pub IsCodeOf : Part → ℕ → ℕ → ℕ → Type 0
 IsCodeOf part top high low = (part_top part ≡ top) × (part_high part ≡ high) × (part_low part ≡ low)
 
--- these are the numbers of the first part, or 0 where there is none
+-- these are the numbers of the first part, or 0 if there is none
 abbrev pub IsFirstCode : PosTree → ℕ → ℕ → ℕ → Type 0
 IsFirstCode parts top high low = (first_top parts ≡ top) × (first_high parts ≡ high) × (first_low parts ≡ low)
 

@@ -12,7 +12,7 @@ use Rattle.dv_change.specs.declared.position.Part.{Part}
 use Rattle.dv_change.specs.declared.position.Part.TheVariants.{Up, Down, At}
 use Rattle.dv_change.specs.Positions.{kind, part_order, pos_order}
 
--- the ascending key, the descending key and the number of a part, and something fixed where it has none
+-- the ascending key, the descending key and the number of a part, and something fixed if it has none
 abbrev rising : Part → KeyTree
 rising (Up k) = k
 rising a = no_element

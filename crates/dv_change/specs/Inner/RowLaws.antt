@@ -1,4 +1,4 @@
--- What stands at each position after a put and after a removal; and lists that are one because the same stands at each position.
+-- The value at each position after a put and after a removal; and lists that are equal since each position has the same value.
 use Rattle.std.specs.Prelude.{◌≡◌, Bool, true, false, cond, List, [], ◌∷◌, Some, None, refl}
 use Rattle.std.proofs.Common.{ap, sym, ◌∙◌}
 use Rattle.std.specs.declared.cmp.Ordering.{Ordering}
@@ -35,7 +35,7 @@ part_exact (Down k) (At n) x y e = cc
 part_exact (At m) (Up l) x y e = cc
 part_exact (At m) (Down l) x y e = cc
 
--- exact positions that stand beside each other are one
+-- exact positions that are equal in the order are identical
 pub pos_exact : (p q : PosTree) → IsExact p → IsExact q → pos_order p q ≡ Equal → p ≡ q
 pos_exact [] [] x y e = refl
 pos_exact [] (b ∷ q) x y e = cc
@@ -74,7 +74,7 @@ below_not_beside : (r : Ordering) → r ≡ Greater → r ≡ Equal → ⊥
 below_not_beside r g e = cc
 
 module _ {V : Type 0} where
-  -- at positions that stand beside each other stands the same
+  -- positions that are equal in the order have the same value
   pub at-like : (p q : PosTree) → pos_order p q ≡ Equal → (es : List (PosTree × V)) → found_at p es ≡ found_at q es
   at-like p q e [] = refl
   at-like p q e (x ∷ es) = λ i. cond (is_eq (pos_order_total.congr p q x.0 e i)) (Some x.1) (at-like p q e es i)
@@ -143,25 +143,25 @@ module _ {V : Type 0} where
   unfolding IsStrictlySortedBy
   positioned-tail e es are = record { ascending = are.ascending.1; exact = are.exact.1 }
 
-  -- what stands below all others is put in front of them
+  -- what is below all others is put before them
   pub put-front : (p : PosTree) (v : V) (es : List (PosTree × V)) → AllByRecursion (λ q. pos_order p q ≡ Less) (keys_of es) → put p v es ≡ (p, v) ∷ es
   put-front p v [] below = refl
   put-front p v (e ∷ es) below = ap (λ r. match_ordering r ((p, v) ∷ e ∷ es) ((e.0, v) ∷ es) (e ∷ put p v es)) below.0
 
-  -- ---- lists in which the same stands at each position
+  -- ---- lists with the same value at each position
 
   own : (e : PosTree × V) (es : List (PosTree × V)) → found_at e.0 (e ∷ es) ≡ Some e.1
   own e es = lookup_head (is_at (pos_order e.0)) e es (ap is_eq (tied_itself pos_order_total e.0))
 
-  -- below the first, nothing stands
+  -- there is nothing below the first
   pub below : (p : PosTree) (e : PosTree × V) (es : List (PosTree × V)) → IsPositioned (e ∷ es) → pos_order p e.0 ≡ Less → found_at p (e ∷ es) ≡ None
   below p e es are h = lookup-none (is_at (pos_order p)) (e ∷ es) (none_below_head pos_order_total p e es are.ascending h)
 
-  -- behind the first, nothing stands at its position
+  -- after the first, there is nothing at its position
   pub past : (p : PosTree) (e : PosTree × V) (es : List (PosTree × V)) → IsPositioned (e ∷ es) → is_eq (pos_order p e.0) ≡ true → found_at p es ≡ None
   past p e es are h = lookup-none (is_at (pos_order p)) es (none_past_head (eq_by_cmp_equiv pos_order_total) p e es (IsDistinct-from_sorted pos_order (keys_of (e ∷ es)) are.ascending) h)
 
-  -- what stands at exact positions tells all
+  -- lists with the same value at each exact position are equal
   pub same_rows : (xs ys : List (PosTree × V)) → IsPositioned xs → IsPositioned ys → ((q : PosTree) → IsExact q → found_at q xs ≡ found_at q ys) → xs ≡ ys
   same_rows [] [] a b h = refl
   same_rows [] (y ∷ ys) a b h = let o = own y ys in let e = h y.0 b.exact.0 in cc

@@ -1,4 +1,4 @@
--- Changes that tell what stood at their positions.
+-- Changes with the rows that were at their positions.
 use Rattle.std.specs.Prelude.{◌≡◌, ◌+◌, Bool, is_none, not, if◌then◌else◌, ℕ, zero, suc, List, [], ◌∷◌, ◌++◌, Option, None, Some, length, map}
 use Rattle.std.specs.List.{AllByRecursion, filter}
 use Rattle.dv_value.specs.Tree.{Field}
@@ -16,16 +16,16 @@ use Rattle.dv_change.specs.Positions.{PosTree}
 use Rattle.dv_change.specs.Raised.{raised}
 use Rattle.dv_change.specs.Work.{owed_by}
 
--- a change of rows, with the row that stood at its position
+-- a change of rows, with the row that was at its position
 abbrev pub with_old : Positioned → Change → Taken
 with_old rows change = record { pos = position_changed change; old = at (position_changed change) rows; new = row_in change }
 
--- changes of rows, one after the other, each with the row that stood at its position
+-- changes of rows, one after the other, each with the row that was at its position
 abbrev pub told_along : Positioned → List Change → List Taken
 told_along rows [] = []
 told_along rows (change ∷ changes) = with_old rows change ∷ told_along (with_change rows change) changes
 
--- the change that is told
+-- the change without the row that was at its position
 abbrev pub change_to : PosTree → Option (List Field) → Change
 change_to pos None = Gone pos
 change_to pos (Some row) = Put pos row
@@ -36,7 +36,7 @@ change_told taken = change_to taken.pos taken.new
 abbrev pub changes_told : List Taken → List Change
 changes_told all = map change_told all
 
--- the rows of one list that go, and those of another one that come, each with what stood at its position
+-- the rows of one list that are removed, and those of another one that are put, each with what was at its position
 abbrev pub gone_told : PosTree × List Field → Taken
 gone_told e = record { pos = e.0; old = Some e.1; new = None }
 
@@ -52,14 +52,14 @@ puts_told old new = map (put_told old) (filter (row_differs old) new)
 abbrev pub diff_told : Positioned → Positioned → List Taken
 diff_told old new = gones_told old new ++ puts_told old new
 
--- the same of one row: that it goes where no new one stands at its position, or comes where the old one isn't the same
+-- the same for one row: its removal, if its position has no new row; or that it is put, if the old row isn't the same
 abbrev pub gone_if_missing : PosTree → List Field → Positioned → List Taken
 gone_if_missing pos row new = if is_none (at pos new) then gone_told (pos, row) ∷ [] else []
 
 abbrev pub put_if_other : Positioned → PosTree → List Field → List Taken
 put_if_other old pos row = if not (stands_as (at pos old) row) then put_told old (pos, row) ∷ [] else []
 
--- whether there is no row now where there was none, or the same one
+-- whether there was no row and there is none now, or the row is the same
 abbrev pub is_kept : Option (List Field) → Option (List Field) → Bool
 is_kept old None = is_none old
 is_kept old (Some row) = stands_as old row
@@ -74,7 +74,7 @@ abbrev pub input_rows : Input → List Positioned → Positioned → Positioned
 input_rows Left others left = left
 input_rows (Named i) others left = list_at i others
 
--- a change of an input, told with what stood there
+-- a change of an input, with what was at its position
 pub record ComesTo (input : Input) (taken : Taken) (change : Change) (others : List Positioned) (left : Positioned) : Type 0 where
   pub there : HasInput input others
   pub told : taken ≡ with_old (input_rows input others left) change
@@ -84,7 +84,7 @@ pub record ComesTo (input : Input) (taken : Taken) (change : Change) (others : L
 abbrev pub StaysTaken : (List Positioned → Positioned → Type 0) → (List Positioned → Positioned → Type 0) → Type 0
 StaysTaken holds holds_then = (others : List Positioned) (left : Positioned) → holds others left → holds_then others left
 
--- of an operator that holds lists and rows, and is told of a change of an input
+-- for an operator that holds lists and rows, and receives a change of an input
 module _ (holds : List Positioned → Positioned → Type 0) (input : Input) (taken : Taken) where
   -- this is true of whatever it holds, and of the change
   abbrev pub WhateverIsHeld : (List Positioned → Positioned → Change → Type 0) → Type 0
@@ -94,7 +94,7 @@ module _ (holds : List Positioned → Positioned → Type 0) (input : Input) (ta
   abbrev pub TakesIn : (List Positioned → Positioned → Type 0) → Type 0
   TakesIn holds_then = WhateverIsHeld (λ others left change. holds_then (others_after input change others) (left_after input change left))
 
-  -- what it returns are the changes of its result: with what was at their positions, or the changes alone
+  -- it returns the changes of its result: with what was at their positions, or the changes alone
   abbrev pub ReturnsTaken : (List Positioned → Positioned → Positioned) → List Taken → List Taken → Type 0
   ReturnsTaken makes before now = WhateverIsHeld (λ others left change. now ≡ before ++ told_along (makes others left) (owed_by input change makes others left))
 
@@ -105,14 +105,14 @@ module _ (holds : List Positioned → Positioned → Type 0) (input : Input) (ta
   abbrev pub CountsChanges : (List Positioned → Positioned → Positioned) → ℕ → ℕ → Type 0
   CountsChanges makes before now = WhateverIsHeld (λ others left change. now ≡ raised before (1 + length (owed_by input change makes others left)))
 
-  -- the same where the rows that it has made are those that are kept
+  -- the same, if the given rows are its result
   abbrev pub ReturnsBeside : Positioned → (List Positioned → Positioned → Positioned) → List Taken → List Taken → Type 0
   ReturnsBeside made makes before now = WhateverIsHeld (λ others left change. made ≡ makes others left → now ≡ before ++ told_along (makes others left) (owed_by input change makes others left))
 
   abbrev pub CountsBeside : Positioned → (List Positioned → Positioned → Positioned) → ℕ → ℕ → Type 0
   CountsBeside made makes before now = WhateverIsHeld (λ others left change. made ≡ makes others left → now ≡ raised before (1 + length (owed_by input change makes others left)))
 
--- where there are no lists, all are positioned
+-- if there are no lists, all are positioned
 pub no_lists : (others : List Positioned) → others ≡ [] → AllByRecursion (λ rows. IsPositioned rows) others
 no_lists [] none = tt
 no_lists (rows ∷ others) none = absurd cc

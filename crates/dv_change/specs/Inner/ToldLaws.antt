@@ -1,4 +1,4 @@
--- Changes told one after the other, each with what stood at its position.
+-- Changes one after the other, each with what was at its position.
 use Rattle.std.specs.Prelude.{◌≡◌, suc, Bool, true, false, not, cond, List, [], ◌∷◌, ◌++◌, length, map, Option, Some, None, is_none, is_some, refl}
 use Rattle.std.proofs.Common.{ap, sym, ◌∙◌, inl, inr}
 use Rattle.std.specs.declared.cmp.Ordering.TheVariants.{Less}
@@ -64,7 +64,7 @@ pub all-so : (P Q : PosTree × List Field → Type 0) → ((e : PosTree × List 
 all-so P Q f [] all = tt
 all-so P Q f (e ∷ es) all = (f e all.0, all-so P Q f es all.1)
 
--- ---- what goes, and what comes
+-- ---- what is removed, and what is put
 
 still-own : (p : PosTree) (rows es : Positioned) → IsPositioned rows → AllByRecursion (λ q. pos_order p q ≡ Less) (keys_of es) → AreOwn rows es → AreOwn (gone p rows) es
 still-own p rows [] are below all = tt
@@ -95,13 +95,13 @@ none-of : (x : List Field) (a : Option (List Field)) → option_filter (λ v. is
 none-of x None = refl
 none-of x (Some v) = refl
 
--- what doesn't go stands there as before
+-- what isn't removed is there as before
 stays : (old new : Positioned) (q : PosTree) (x : List Field) → IsPositioned old → at q new ≡ Some x → at q (with_changes old (map (λ e. Gone e.0) (filter (went new) old))) ≡ at q old
 stays old new q x o here =
     at-all_go q (filter (went new) old) old o
     ∙ ap (λ (a : Option (List Field)). cond (is_some a) None (at q old)) (at-went old new q o ∙ ap (λ (n : Option (List Field)). option_filter (λ v. is_none n) (at q old)) here ∙ none-of x (at q old))
 
--- the difference of rows, told one after the other
+-- the changes of a difference, one after the other, each with what was at its position
 pub along-diff : (old new : Positioned) → IsPositioned old → IsPositioned new → told_along old (diff old new) ≡ diff_told old new
 along-diff old new o n =
     let left = filter (went new) old in
@@ -125,7 +125,7 @@ module _ (old new before after : Positioned) where
       let rest = parts-old parts es exact.1 own.1 in
       λ i. record { pos = e.0; old = stood i; new = Some e.1 } ∷ rest i
 
-  -- the difference of lists is told as that of their parts
+  -- the difference of lists, with what was at the positions, is that of their parts
   pub told-parts : IsPositioned old → IsPositioned new → IsPositioned before → IsPositioned after → ((q : PosTree) → IsExact q → IsPartAt old new before after q) → diff_told old new ≡ diff_told before after
   told-parts o n b a parts =
       let goes = goes-alike old new before after o b parts in
@@ -140,7 +140,7 @@ puts-at : (rows : Positioned) (e : PosTree × List Field) (b : Bool) → map (pu
 puts-at rows e true = refl
 puts-at rows e false = refl
 
--- where at most one row stood at a position, and at most one stands there now
+-- if at most one row was at a position, and at most one is there now
 told-at : (p : PosTree) (old new : Option (List Field)) → diff_told (alone p old) (alone p new) ≡ cond (is_kept old new) [] (record { pos = p; old = old; new = new } ∷ [])
 told-at p None None = refl
 told-at p (Some o) None = refl

@@ -1,4 +1,4 @@
--- Of `Work`, what only bodies and proofs need.
+-- What only bodies and proofs need about `Work`.
 use Rattle.std.specs.Prelude.{ℕ, ◌+◌, ◌-◌, List, [], ◌∷◌, length, if◌then◌else◌, nat_lt, ◌<◌, ⊤}
 use Rattle.std.specs.List.{flat_map}
 use Rattle.dv_change.specs.declared.change.Change.{Change}
@@ -8,16 +8,16 @@ use Rattle.dv_change.specs.Changes.{Positioned}
 use Rattle.dv_change.specs.Inputs.{input_changed_at}
 use Rattle.dv_change.specs.Work.{Transform, handed}
 
--- the lists that stages look into, those of one stage behind those of the stages before it
+-- the lists that stages read by `$lookup`, those of each stage after those of the stages before it
 abbrev pub lists_of : List Transform → List Positioned
 lists_of forms = flat_map (λ form. form.named) forms
 
--- how many lists the stages look into
+-- how many lists the stages read by `$lookup`
 abbrev pub named_in : List Transform → ℕ
 named_in [] = 0
 named_in (form ∷ forms) = length form.named + named_in forms
 
--- a list is there for the input
+-- there is a list for the input
 abbrev pub HasAny : Input → List Transform → Type 0
 HasAny Left forms = ⊤
 HasAny (Named i) forms = i < named_in forms

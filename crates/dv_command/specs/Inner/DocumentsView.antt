@@ -1,4 +1,4 @@
--- The documents and the integers among values, and what stands in memory for documents that are still to come.
+-- The documents and the integers among values, and how documents that are still to be returned are represented in memory.
 use Rattle.std.specs.Prelude.{Bool, true, false, List, [], ◌∷◌, ⊤}
 use Rattle.dv_value.specs.Tree.{Field}
 use Rattle.dv_value.specs.declared.value.Value.{Value}
@@ -20,7 +20,7 @@ documents_seen [] = []
 documents_seen (Doc d ∷ vs) = d ∷ documents_seen vs
 documents_seen (v ∷ vs) = documents_seen vs
 
--- those of an array, or those of a list beside a body
+-- the documents of an array, or of a list next to a body
 abbrev pub source_seen : DocumentPlace → List (List Field)
 source_seen (Array values) = documents_seen values.now
 source_seen (Beside documents) = documents.now

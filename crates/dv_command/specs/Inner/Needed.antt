@@ -1,4 +1,4 @@
--- What of the lists beside its body a command needs: the rest changes nothing of what it asks.
+-- How much of the lists next to its body a command needs: the rest doesn't change what it asks for.
 use Rattle.std.specs.Prelude.{ℕ, suc, List, map, take, Option, Some, if◌then◌else◌}
 use Rattle.std.specs.Str.{bytes_eq}
 use Rattle.dv_value.specs.Tree.{Field}
@@ -8,7 +8,7 @@ use Rattle.dv_command.specs.declared.parsing.CommandName.{CommandName}
 use Rattle.dv_command.specs.declared.parsing.CommandName.TheVariants.{Writing}
 use Rattle.dv_command.specs.Asked.{command_name, command_named, statement_limit, statements_name}
 
--- as many documents as a command may have statements, and one more, by which it is refused; of a list of another name none
+-- as many documents as a command may have statements, and one more, for which it is refused; of a list of another name none
 abbrev pub statements_needed : List ℕ → List ℕ → ℕ
 statements_needed statements name = if bytes_eq statements name then suc statement_limit else 0
 

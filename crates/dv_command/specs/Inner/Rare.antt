@@ -4,7 +4,7 @@ use Rattle.std.specs.List.{list_any}
 use Rattle.dv_value.specs.Tree.{Field}
 use Rattle.dv_command.specs.Fields.{is_listed_name}
 
--- the names of a find's fields beside those of its collection, its filter and its projection
+-- the names of a find's fields besides those of its collection, its filter and its projection
 abbrev pub rare_names : List (List ℕ)
 rare_names = codes "sort" ∷ codes "skip" ∷ codes "limit" ∷ codes "batchSize" ∷ codes "singleBatch" ∷ []
 

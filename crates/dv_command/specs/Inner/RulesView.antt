@@ -1,4 +1,4 @@
--- What stands in memory for kinds, places and rules of fields.
+-- How kinds, places and rules of fields are represented in memory.
 use Rattle.std.specs.Prelude.{ℕ, List}
 use Rattle.dv_command.specs.Kinds as kinds
 use Rattle.dv_command.specs.declared.rules.FieldKind as code

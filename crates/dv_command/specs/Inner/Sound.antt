@@ -1,4 +1,4 @@
--- Of `Sound`, what only bodies and proofs need.
+-- What only bodies and proofs need of `Sound`.
 use Rattle.std.specs.Prelude.{◌≡◌, ◌≤◌, ℕ, ℤ, List, Option, Some, None, length, Ok, ⊤}
 use Rattle.std.specs.List.{AllByRecursion}
 use Rattle.std.specs.Str.{IsUtf8}
@@ -13,7 +13,7 @@ use Rattle.dv_command.specs.Namespaces.{longest_namespace}
 use Rattle.dv_pipe.specs.Laws.{AreSpellable}
 use Rattle.dv_command.specs.Sound.{IsSoundPipeline, IsIndexName}
 
--- and so has each in the lists beside a body
+-- each document in the lists next to a body has an encoding
 abbrev pub AreValidLists : CommandLists → Type 0
 AreValidLists lists = AllByRecursion (λ list. AreSpellable list.1) lists
 
@@ -21,19 +21,19 @@ AreValidLists lists = AllByRecursion (λ list. AreSpellable list.1) lists
 abbrev pub IsNamespace : List ℕ → Type 0
 IsNamespace name = IsUtf8 name × (length name ≤ longest_namespace)
 
--- a view of a namespace, where one is asked
+-- a view of a namespace, if one is asked for
 abbrev pub IsSoundViewAsked : Option ViewOn → Type 0
 IsSoundViewAsked None = ⊤
 IsSoundViewAsked (Some view) = IsNamespace view.source × IsSoundPipeline view.stages
 
--- numbers that are told as they were asked
+-- numbers that fit an int64, so that they can be returned
 abbrev pub AreIds : List ℤ → Type 0
 AreIds ids = AllByRecursion (λ id. IsValue (int64 id)) ids
 
 abbrev pub AreIndexes : List IndexAsked → Type 0
 AreIndexes indexes = AllByRecursion (λ index. IsIndexName index.name) indexes
 
--- what is asked by a body of so many bytes
+-- what a body of this many bytes asks for is sound
 abbrev pub IsSoundRequest : ℕ → Asked → Type 0
 IsSoundRequest size hello = ⊤
 IsSoundRequest size ping = ⊤
@@ -49,7 +49,7 @@ IsSoundRequest size (drop_indexes asked) = IsNamespace asked.namespace
 IsSoundRequest size (explain asked) = IsNamespace asked.find.namespace
 IsSoundRequest size (view_stats asked) = IsNamespace asked.namespace
 
--- an update that a document with valid fields is
+-- an update that is parsed from a document with valid fields
 pub record IsSoundUpdate (asked : Update) : Type 0 where
   pub document : List Field
   pub valid : AreFields (fields_of document)

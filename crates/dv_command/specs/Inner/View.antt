@@ -1,4 +1,4 @@
--- What stands in memory for what is defined.
+-- How what is defined is represented in memory.
 use Rattle.std.specs.Prelude.{List, [], map, Option, Some, None}
 use Rattle.std.specs.Option.{option_map}
 use Rattle.std.specs.String.{string_bytes}
@@ -26,7 +26,7 @@ use Rattle.dv_command.specs.declared.asking.ViewStats as telling
 use Rattle.dv_command.specs.declared.entries.Deletion as deletions
 use Rattle.dv_command.specs.declared.entries.Updating as updatings
 
--- no sort has no paths
+-- without a sort there are no paths
 abbrev pub sort_seen : Option (List Part) → List Part
 sort_seen None = []
 sort_seen (Some parts) = parts

@@ -78,11 +78,11 @@ find = find_command (codes "c")
 abbrev pub find_by : List Field → List Field → List Field
 find_by filter others = find ++ (codes "filter", document_of filter) ∷ others
 
--- these entries' deletions out of c
+-- a delete from c with these entries
 abbrev pub delete : List (List Field) → List Field
 delete entries = on (codes "t") ((codes "delete", string (codes "c")) ∷ (codes "deletes", array (elements_of (map document_of entries))) ∷ [])
 
--- what matches goes: all of it for 0, the first for 1
+-- removes what matches: all of it for 0, the first for 1
 abbrev pub deletion : List Field → ℕ → List Field
 deletion filter limit = (codes "q", document_of filter) ∷ (codes "limit", number limit) ∷ []
 
@@ -101,11 +101,11 @@ numbers ns = array (elements_of (map number ns))
 abbrev pub error : ℕ → ℕ → List ℕ → Tree
 error index code message = document_of ((codes "index", number index) ∷ (codes "code", number code) ∷ (codes "errmsg", string message) ∷ [])
 
--- the statements are counted for so many documents
+-- the statements match this many documents
 abbrev pub counted_reply : ℕ → List Field
 counted_reply count = (codes "n", number count) ∷ (codes "ok", number 1) ∷ []
 
--- they are counted for so many documents, and the other statements that were looked at have these errors
+-- the statements match this many documents, and the refused ones have these errors
 abbrev pub errors_reply : ℕ → List Tree → List Field
 errors_reply count errors = (codes "n", number count) ∷ (codes "writeErrors", array (elements_of errors)) ∷ (codes "ok", number 1) ∷ []
 
@@ -115,7 +115,7 @@ find_reply namespace documents =
     (codes "cursor", document_of ((codes "firstBatch", array (elements_of (map document_of documents))) ∷ (codes "id", int64 (pos 0)) ∷ (codes "ns", string namespace) ∷ []))
     ∷ (codes "ok", number 1) ∷ []
 
--- a text of so many letters c
+-- a text of this many letters c
 abbrev pub letters : ℕ → List ℕ
 letters zero = []
 letters (suc count) = 99 ∷ letters count
@@ -128,12 +128,12 @@ pub record InsertExamples : Type 0 where
   -- then {_id: 5} as an int64, whose _id is equal
   pub equal : AnswersAlways (holding (only 5 ∷ [])) (insert (((codes "_id", int64 (pos 5)) ∷ []) ∷ []))
       (errors_reply 0 (error 0 11000 (codes "DuplicateKey") ∷ [])) (holding (only 5 ∷ []))
-  -- {_id: 2}, {_id: 2} and {_id: 1}: an ordered insert ends at its first error, and an unordered one goes on behind it
+  -- {_id: 2}, {_id: 2} and {_id: 1}: an ordered insert ends at its first error, and an unordered one goes on after it
   pub ordered : AnswersAlways empty_store_state (insert (only 2 ∷ only 2 ∷ only 1 ∷ []))
       (errors_reply 1 (error 1 11000 (codes "DuplicateKey") ∷ [])) (holding (only 2 ∷ []))
   pub unordered : AnswersAlways empty_store_state (unordered_insert (only 2 ∷ only 2 ∷ only 1 ∷ []))
       (errors_reply 2 (error 1 11000 (codes "DuplicateKey") ∷ [])) (holding (only 1 ∷ only 2 ∷ []))
-  -- {a: 1, _id: 2} is stored with its _id in front
+  -- {a: 1, _id: 2} is stored with its _id as the first field
   pub id_behind : AnswersAlways empty_store_state (insert (((codes "a", number 1) ∷ (codes "_id", number 2) ∷ []) ∷ []))
       (counted_reply 1) (holding (((codes "_id", number 2) ∷ (codes "a", number 1) ∷ []) ∷ []))
   -- {a: 1} has no _id, and no collection is made
@@ -142,13 +142,13 @@ pub record InsertExamples : Type 0 where
   pub unfit : AnswersAlways empty_store_state
       (unordered_insert (one_field (codes "_id") (array (elements_of (number 1 ∷ []))) ∷ (only 1 ++ one_field (codes "$a") (number 1)) ∷ (only 1 ++ one_field (codes "a") (document_of (one_field (codes "b.c") (number 1)))) ∷ []))
       (errors_reply 0 (error 0 2 (codes "BadValue") ∷ error 1 2 (codes "BadValue") ∷ error 2 2 (codes "BadValue") ∷ [])) empty_store_state
-  -- a document of a database that has none, where another has {_id: 5} in a collection of the same name
+  -- a document for a database without collections, where another database has {_id: 5} in a collection of the same name
   pub elsewhere : AnswersAlways (holding (only 5 ∷ [])) (on (codes "u") ((codes "insert", string (codes "c")) ∷ (codes "documents", array (elements_of (document_of (only 5) ∷ []))) ∷ []))
       (counted_reply 1) (with_collection (codes "u.c") (only 5 ∷ []) (holding (only 5 ∷ [])))
-  -- nor is {_id: 1, a: [{b.c: 1}]}
+  -- {_id: 1, a: [{b.c: 1}]} is not stored either
   pub dotted : AnswersAlways empty_store_state (insert ((only 1 ++ one_field (codes "a") (array (elements_of (document_of (one_field (codes "b.c") (number 1)) ∷ [])))) ∷ []))
       (errors_reply 0 (error 0 2 (codes "BadValue") ∷ [])) empty_store_state
-  -- numbers stand before booleans
+  -- numbers come before booleans
   pub classes : AnswersAlways empty_store_state (insert (one_field (codes "_id") (boolean false) ∷ only 1 ∷ [])) (counted_reply 2) (holding (only 1 ∷ one_field (codes "_id") (boolean false) ∷ []))
 
 -- {_id: 1}, {_id: 2} and {_id: 3}
@@ -160,13 +160,13 @@ pub record DeleteExamples : Type 0 where
   pub first : AnswersAlways (holding three) (delete (deletion [] 1 ∷ [])) (counted_reply 1) (holding (only 2 ∷ only 3 ∷ []))
   -- those with an _id greater than 1
   pub greater : AnswersAlways (holding three) (delete (deletion (one_field (codes "_id") (document_of (one_field (codes "$gt") (number 1)))) 0 ∷ [])) (counted_reply 2) (holding (only 1 ∷ []))
-  -- all; the collection is left, without documents
+  -- all; the collection stays, without documents
   pub all : AnswersAlways (holding three) (delete (deletion [] 0 ∷ [])) (counted_reply 3) (holding [])
-  -- out of nothing; no collection is made
+  -- from a collection that doesn't exist; no collection is made
   pub nothing : AnswersAlways empty_store_state (delete (deletion [] 0 ∷ [])) (counted_reply 0) empty_store_state
   -- without a limit
   pub no_limit : AnswersAlways (holding three) (delete (one_field (codes "q") (document no_fields) ∷ [])) (errors_reply 0 (error 0 9 (codes "FailedToParse") ∷ [])) (holding three)
-  -- with another one than 0 and 1
+  -- with another limit than 0 and 1
   pub two : AnswersAlways (holding three) (delete (deletion [] 2 ∷ [])) (errors_reply 0 (error 0 2 (codes "BadValue") ∷ [])) (holding three)
 
 -- {_id: 1, a: [0, 5]}, {_id: 2, a: 4} and {_id: 3, a: 1}
@@ -182,17 +182,17 @@ abbrev pub keyed_documents : List (List Field)
 keyed_documents = with_id_and_a 1 (numbers (3 ∷ 1 ∷ [])) ∷ with_id_and_a 2 (number 2) ∷ only 3 ∷ with_id_and_a 4 (numbers []) ∷ []
 
 pub record FindExamples : Type 0 where
-  -- two bounds, each of which another element of an array may meet
+  -- two bounds, which different elements of an array may meet
   pub between : AnswersAlways (holding bounded) (find_by (one_field (codes "a") (document_of ((codes "$gt", number 1) ∷ (codes "$lt", number 3) ∷ []))) [])
       (find_reply (codes "t.c") (with_id_and_a 1 (numbers (0 ∷ 5 ∷ [])) ∷ [])) (holding bounded)
   -- a field that isn't there counts as null, an empty array doesn't
   pub null_or_missing : AnswersAlways (holding nulls) (find_by (one_field (codes "a") null) []) (find_reply (codes "t.c") (only 1 ∷ with_id_and_a 2 null ∷ with_id_and_a 4 (array (elements_of (null ∷ []))) ∷ [])) (holding nulls)
-  -- an empty array stands before null, which a missing field counts as
+  -- an empty array comes before null, and a missing field counts as null
   pub ascending : AnswersAlways (holding keyed_documents) (find ++ one_field (codes "sort") (document_of (one_field (codes "a") (number 1))))
       (find_reply (codes "t.c") (with_id_and_a 4 (numbers []) ∷ only 3 ∷ with_id_and_a 1 (numbers (3 ∷ 1 ∷ [])) ∷ with_id_and_a 2 (number 2) ∷ [])) (holding keyed_documents)
   pub descending : AnswersAlways (holding keyed_documents) (find ++ one_field (codes "sort") (document_of (one_field (codes "a") (int32 (negsuc 0)))))
       (find_reply (codes "t.c") (with_id_and_a 1 (numbers (3 ∷ 1 ∷ [])) ∷ with_id_and_a 2 (number 2) ∷ only 3 ∷ with_id_and_a 4 (numbers []) ∷ [])) (holding keyed_documents)
-  -- one is left out, and one found
+  -- one document is skipped, and one found
   pub window : AnswersAlways (holding three) (find ++ (codes "skip", number 1) ∷ (codes "limit", number 1) ∷ []) (find_reply (codes "t.c") (only 2 ∷ [])) (holding three)
 
 pub record ReadExamples : Type 0 where
@@ -211,14 +211,14 @@ pub record RefusalExamples : Type 0 where
   pub no_document : IsRefusedAlways (insert_values (codes "c") (number 1 ∷ [])) 14 (codes "TypeMismatch")
   pub no_collection : IsRefusedAlways (insert_values [] []) 2 (codes "BadValue")
   pub typed_database : IsRefusedAlways (ping_command ++ one_field (codes "$db") (number 1)) 14 (codes "TypeMismatch")
-  -- the database is looked at before the other fields
+  -- the database is checked before the other fields
   pub database_first : IsRefusedAlways (on (codes "a.b") (one_field (codes "find") (number 1))) 2 (codes "BadValue")
   pub typed_ordered : IsRefusedAlways (insert (only 1 ∷ []) ++ one_field (codes "ordered") (number 1)) 14 (codes "TypeMismatch")
   pub unknown_field : IsRefusedAlways (insert (only 1 ∷ []) ++ one_field (codes "upsert") (boolean false)) 9 (codes "FailedToParse")
   pub projected : IsRefusedAlways (find ++ one_field (codes "projection") (document_of (only 1))) 9 (codes "FailedToParse")
   pub unreadable : (state : State) (session : ℕ) → step state session (Invalid TooDeep)
       ≡ record { reply = (codes "ok", int32 (pos 0)) ∷ (codes "errmsg", string (codes "InvalidBSON: TooDeep")) ∷ (codes "code", int32 (pos 22)) ∷ (codes "codeName", string (codes "InvalidBSON")) ∷ []; state = state }
-  -- a list beside the body
+  -- a list as well as the body
   pub listed : (state : State) (session : ℕ) (list : List ℕ × List (List Field)) → step state session (Sections find (list ∷ []))
       ≡ record { reply = refusal 9 (codes "FailedToParse"); state = state }
   -- a zero byte in a collection's name
@@ -231,7 +231,7 @@ pub record RefusalExamples : Type 0 where
 abbrev pub two : List (List Field)
 two = only 1 ∷ only 2 ∷ []
 
--- a view over what stands under another name, through stages
+-- a view over another collection or view of t, with these stages
 abbrev pub view_over : List ℕ → List ℕ → List Stage → ViewForm
 view_over name source stages = record { name = codes "t." ++ name; source = codes "t." ++ source; stages = stages }
 
@@ -243,7 +243,7 @@ with_fresh_views views state = record state { catalog = record state.catalog { v
 abbrev pub viewing : State → State
 viewing state = with_fresh_views (view_over (codes "v") (codes "c") [] ∷ []) state
 
--- with a view v of the documents of c from the greatest `_id` on, and a view w of its first row
+-- with a view v of the documents of c in descending order of `_id`, and a view w of its first row
 abbrev pub nesting : State → State
 nesting state = with_fresh_views (view_over (codes "v") (codes "c") (Sort ((codes "_id" ∷ [], Descending) ∷ []) ∷ []) ∷ view_over (codes "w") (codes "v") (Limit 1 ∷ []) ∷ []) state
 
@@ -278,11 +278,11 @@ pub record LoadExamples : Type 0 where
   pub first : loaded (codes "t.c") (only 5) empty_store_state ≡ Ok (holding (only 5 ∷ []))
   -- then {_id: 5} as an int64, whose _id is equal
   pub equal : loaded (codes "t.c") ((codes "_id", int64 (pos 5)) ∷ []) (holding (only 5 ∷ [])) ≡ Err DuplicateKey
-  -- {a: 1, _id: 2} is stored with its _id in front
+  -- {a: 1, _id: 2} is stored with its _id as the first field
   pub id_behind : loaded (codes "t.c") ((codes "a", number 1) ∷ (codes "_id", number 2) ∷ []) empty_store_state ≡ Ok (holding (with_id_and_a 2 (number 1) ∷ []))
   -- {a: 1} has no _id
   pub no_id : loaded (codes "t.c") ((codes "a", number 1) ∷ []) empty_store_state ≡ Err BadValue
-  -- a view takes no documents; it is looked at before the document
+  -- no documents are stored in a view; this is checked before the document
   pub written : loaded (codes "t.v") ((codes "a", number 1) ∷ []) (viewing empty_store_state) ≡ Err OnView
   -- the first dot ends the name of the database
   pub dotted_collection : namespace_in (codes "t.c.d") ≡ Ok (codes "t.c.d")
@@ -301,10 +301,10 @@ done = (codes "ok", number 1) ∷ []
 abbrev pub dropped_reply : List ℕ → List Field
 dropped_reply namespace = (codes "ns", string namespace) ∷ done
 
--- an answer leaves the marks: how views stand behind it is told beside it
+-- an answer leaves the marks unchanged: the marks after a command are stated separately, in `MarkExamples`
 pub record ViewExamples : Type 0 where
   pub created : AnswersAlways empty_store_state (create_view (codes "v") (codes "c")) done (standing [] (viewing empty_store_state))
-  -- a view reads c, which isn't there; so no view may stand there, but a collection may
+  -- a view reads c, which doesn't exist; so no view may be created under that name, but a collection may
   pub read : AnswersAlways (viewing empty_store_state) (create_view (codes "c") (codes "d")) (refusal 904 (codes "ReadByView")) (viewing empty_store_state)
   pub collection : AnswersAlways (viewing empty_store_state) (create (codes "c")) done (viewing (holding []))
   -- a view over itself, one over a view, and one over the eighth of a chain
@@ -312,25 +312,25 @@ pub record ViewExamples : Type 0 where
   pub over_view : AnswersAlways (viewing empty_store_state) (create_view (codes "w") (codes "v")) done
       (standing (live 0 ∷ []) (with_fresh_views (view_over (codes "v") (codes "c") [] ∷ view_over (codes "w") (codes "v") [] ∷ []) empty_store_state))
   pub ninth : AnswersAlways (chained empty_store_state) (create_view (codes "9") (codes "8")) (refusal 903 (codes "LimitReached")) (chained empty_store_state)
-  -- a view where a view stands
+  -- a view where there is a view
   pub again : AnswersAlways (viewing empty_store_state) (create_view (codes "v") (codes "c")) (refusal 48 (codes "NamespaceExists")) (viewing empty_store_state)
-  -- a collection where a collection stands
+  -- a collection where there is a collection
   pub collection_again : AnswersAlways (holding two) (create (codes "c")) (refusal 48 (codes "NamespaceExists")) (holding two)
   -- a view takes no documents
   pub written : AnswersAlways (viewing empty_store_state) (insert_values (codes "v") (document_of (only 1) ∷ [])) (refusal 902 (codes "OnView")) (viewing empty_store_state)
-  -- it has those of c, as long as c has them
+  -- a view has the documents of c, as long as c has them
   pub empty : AnswersAlways (viewing empty_store_state) (find_command (codes "v")) (find_reply (codes "t.v") []) (viewing empty_store_state)
   pub found : AnswersAlways (viewing (holding two)) (find_command (codes "v")) (find_reply (codes "t.v") two) (viewing (holding two))
   pub aggregated : AnswersAlways (viewing (holding two)) (aggregate (codes "v")) (find_reply (codes "t.v") two) (viewing (holding two))
-  -- a view over it has what its stages make of those rows
+  -- a view over this view has the result of its stages for those rows
   pub nested : AnswersAlways (nesting (holding two)) (find_command (codes "w")) (find_reply (codes "t.w") (only 2 ∷ [])) (nesting (holding two))
-  -- it can't be dropped while a view reads it
+  -- a view can't be dropped while another view reads it
   pub read_dropped : AnswersAlways (nesting empty_store_state) (drop (codes "v")) (refusal 904 (codes "ReadByView")) (nesting empty_store_state)
   pub source_dropped : AnswersAlways (viewing (holding two)) (drop (codes "c")) (dropped_reply (codes "t.c")) (viewing empty_store_state)
   pub dropped : AnswersAlways (viewing empty_store_state) (drop (codes "v")) (dropped_reply (codes "t.v")) (standing (live 0 ∷ []) empty_store_state)
   pub nothing_there : AnswersAlways empty_store_state (drop (codes "v")) (refusal 26 (codes "NamespaceNotFound")) empty_store_state
 
--- the same views, but that one is stale
+-- the same view, but stale
 abbrev pub struck : State → State
 struck state = standing (stale ∷ []) (viewing state)
 
@@ -340,11 +340,11 @@ view_stats name = on (codes "t") ((codes "viewStats", string name) ∷ [])
 abbrev pub stats_reply : List ℕ → ℕ → ℕ → List Field
 stats_reply state rows ticks = (codes "state", string state) ∷ (codes "rows", int64 (pos rows)) ∷ (codes "ticks", int64 (pos ticks)) ∷ done
 
--- how views stand behind a command, where none becomes stale
+-- the marks after a command if no view becomes stale
 abbrev pub Marking : State → List Field → Marks → Type 0
 Marking old body marks = marks_behind_all old (asked_by (of_body body)) ≡ marks
 
--- how views stand, and what is told of it
+-- the marks of views, and what viewStats returns for them
 pub record MarkExamples : Type 0 where
   pub told_live : AnswersAlways (viewing (holding two)) (view_stats (codes "v")) (stats_reply (codes "live") 2 0) (viewing (holding two))
   -- a stale view has no rows
@@ -353,29 +353,30 @@ pub record MarkExamples : Type 0 where
   pub no_view : AnswersAlways (viewing (holding two)) (view_stats (codes "c")) (refusal 26 (codes "NamespaceNotFound")) (viewing (holding two))
   pub created : Marking empty_store_state (create_view (codes "v") (codes "c")) (live 0 ∷ [])
   pub dropped : Marking (viewing empty_store_state) (drop (codes "v")) []
-  -- a stale view is made anew where it is read, be the find answered or not; and not by a read of its source
+  -- a stale view is recomputed when it is read, whether or not the find is refused; but not when its source is read
   pub read : Marking (struck (holding two)) (find_command (codes "v")) (live 0 ∷ [])
   pub aggregated : Marking (struck (holding two)) (aggregate (codes "v")) (live 0 ∷ [])
   pub source_read : Marking (struck (holding two)) (find_command (codes "c")) (stale ∷ [])
-  -- so are stale views that it reads, and not those that read it
+  -- so are the stale views that it reads, but not those that read it
   pub nested : Marking (standing (stale ∷ stale ∷ []) (nesting (holding two))) (find_command (codes "w")) (live 0 ∷ live 0 ∷ [])
   pub below : Marking (standing (stale ∷ stale ∷ []) (nesting (holding two))) (find_command (codes "v")) (live 0 ∷ stale ∷ [])
-  -- a new view reads what it stands over
+  -- a new view reads its source
   pub created_over : Marking (struck empty_store_state) (create_view (codes "w") (codes "v")) (live 0 ∷ live 0 ∷ [])
-  -- a change passes from view to view: one comes to the stage of v, which hands one on, and this to that of w, which hands one on
+  -- a change passes from view to view: the stage of v takes in one and returns one, and the stage of w takes in that one and
+  -- returns one
   pub passed : Marking (limiting empty_store_state) (insert (only 5 ∷ [])) (live 2 ∷ live 2 ∷ [])
   -- a stale view counts no work
   pub written : Marking (struck empty_store_state) (insert (only 5 ∷ [])) (stale ∷ [])
 
--- what is told of want of memory
+-- what is reported when memory runs out
 pub record WantExamples : Type 0 where
-  -- any command may be refused for it; then nothing is changed
+  -- any command may be refused because memory ran out; then nothing is changed
   pub refused : (state : State) (session : ℕ) (command : Command) → MemoryStep state session command (Wanting (refusal 900 (codes "WantOfMemory"))) state
-  -- an insert that finds no memory at its second document
+  -- an insert that runs out of memory at its second document
   pub cut : (session : ℕ) → MemoryStep empty_store_state session (of_body (insert (only 5 ∷ only 6 ∷ [])))
       (Wanting (errors_reply 1 (document_of ((codes "index", number 1) ∷ (codes "code", number 900) ∷ (codes "errmsg", string (codes "WantOfMemory")) ∷ (codes "done", number 0) ∷ []) ∷ [])))
       (holding (only 5 ∷ []))
-  -- and whose reply finds none
+  -- and for whose reply there is no memory
   pub untold : (session : ℕ) → MemoryStep empty_store_state session (of_body (insert (only 5 ∷ only 6 ∷ []))) NoReply (holding (only 5 ∷ []))
-  -- the reply to a ping never tells of it
+  -- a plain reply to a ping never reports that memory ran out
   pub pinged : (state new : State) (session : ℕ) → MemoryStep state session (of_body (on (codes "t") ping_command)) (Reply (refusal 900 (codes "WantOfMemory"))) new → ⊥

@@ -59,13 +59,14 @@ reply_to_drop asked state = replying (drop_reply asked.namespace) (dropped asked
 abbrev pub AreAnsweredAlike : Find → Find → stored.State → Type 0
 AreAnsweredAlike one other state = (session : ℕ) (cursors : Cursors) → reply_to_find session one state cursors ≡ reply_to_find session other state cursors
 
--- a command whose reply may find no memory behind what it changes: it is carried out, be its reply given or not; or it is refused
+-- a command for whose reply memory may run out after its changes: it is carried out, whether its reply is returned or not; or it is
+-- refused (`Ends`)
 abbrev pub TellsOrNot : List Field → Outcome → Type 0
 TellsOrNot reply (Reply told) = told ≡ reply
 TellsOrNot reply (Wanting told) = ⊥
 TellsOrNot reply NoReply = ⊤
 
--- an outcome, made of what is told: the same, but that there may be no memory for the body of a batch
+-- the outcome that is made of a result: the same, except that there may be no memory for the body of a batch
 abbrev pub IsMadeOf : Told → Outcome → Type 0
 IsMadeOf (tells.Batch batch) outcome = TellsOrNot (batch_told batch) outcome
 IsMadeOf (tells.Outcome other) outcome = outcome ≡ other
@@ -75,12 +76,13 @@ Ends {S} defined old outcome new =
     ((done : List Field × S) × (defined ≡ Ok done) × (new ≡ done.1) × TellsOrNot done.0 outcome)
     ⊎ ((refusal : Refusal) × ((defined ≡ Err refusal) ⊎ (refusal ≡ WantOfMemory)) × Refuses refusal outcome × (new ≡ old))
 
--- how views stand behind a command that reads: as behind what it reads, or, when memory runs out, with some made anew
+-- the marks after a command that reads: those after reading what it reads, or, if memory runs out, those with some of the stale
+-- views recomputed
 abbrev pub StandRead : {B : Type 0} → Asked → State → Result B Refusal → Marks → Type 0
 StandRead asked old (Ok x) after = after ≡ marks_where_read (read_by asked) old
 StandRead asked old (Err refusal) after = (after ≡ marks_where_read (read_by asked) old) ⊎ ((refusal ≡ WantOfMemory) × ArePartlyRead (read_by asked) old.catalog.views old.marks after)
 
--- a document is loaded, or it is refused, if only for want of memory; then all is left as it is
+-- a document is loaded, or it is refused, perhaps only because memory ran out; then nothing is changed
 abbrev pub LoadsOne : {B : Type 0} → List ℕ → List Field → State → Result B Refusal → State → Type 0
 LoadsOne text d old (Ok x) new = IsLoaded text d old new
 LoadsOne text d old (Err refusal) new = ((loaded text d old ≡ Err refusal) ⊎ (refusal ≡ WantOfMemory)) × (new ≡ old)

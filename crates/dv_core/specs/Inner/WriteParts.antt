@@ -29,12 +29,12 @@ written_seen w namespaces = record { statements = w.statements; n = w.n; changed
 abbrev pub reply_seen : WriteSteps → Written → List Field
 reply_seen write did = write.reply did.n did.changed did.errors
 
--- one statement more, which was carried out, is counted for so many documents, and made so many changes
+-- what was done after one more statement, which was carried out with these counts of matched and changed documents
 abbrev pub with_counted : Written → Counted → Written
 with_counted so_far counted =
     record so_far { statements = suc so_far.statements; n = so_far.n + counted.matched; changed = so_far.changed + counted.changed }
 
--- the error of a statement that was refused; when memory ran out, behind so many of its changes
+-- the error of a statement that was refused; if memory ran out, with the number of changes that were made
 abbrev pub error_by : ℕ → Refusal → ℕ → List Field
 error_by place WantOfMemory done = cut_error place done
 error_by place refusal done = write_error place refusal
@@ -42,12 +42,12 @@ error_by place refusal done = write_error place refusal
 abbrev pub error_of : ℕ → Stopped → List Field
 error_of place stopped = error_by place stopped.refusal stopped.done
 
--- one statement more, which was refused
+-- what was done after one more statement, which was refused
 abbrev pub with_stopped : Written → Stopped → Written
 with_stopped so_far stopped =
     record { statements = suc so_far.statements; n = so_far.n; changed = so_far.changed; errors = so_far.errors ++ document_of (error_of so_far.statements stopped) ∷ []; namespaces = so_far.namespaces }
 
--- what comes behind a statement that was refused
+-- what comes after a statement that was refused
 abbrev pub next_behind : Bool → Refusal → Next
 next_behind ordered WantOfMemory = Cut
 next_behind ordered refusal = if ordered then Ended else Due
@@ -57,34 +57,34 @@ abbrev pub Notes : Bool → Stopped → Written → Result Next AllocError → W
 Notes ordered stopped so_far (Ok next) now = (now ≡ with_stopped so_far stopped) × (next ≡ next_behind ordered stopped.refusal)
 Notes ordered stopped so_far (Err e) now = ⊤
 
--- the outcome, or none for which there was memory
+-- the outcome, or no reply if memory ran out for it
 abbrev pub outcome_of : Result Outcome AllocError → Outcome
 outcome_of (Ok outcome) = outcome
 outcome_of (Err e) = NoReply
 
 module _ (namespace : List ℕ) (ordered : Bool) (views : List ViewForm) where
-  -- the next statement was carried out or refused, and another one is due behind it, or none; and how views stand
+  -- the next statement was carried out or refused; whether another one is due after it; and the marks after it
   pub record DoesNext (due : Bool) (so_far : Written) (statement : Statement) (before : Marks) (now : Written) (after : Marks) : Type 0 where
     pub is_next : now ≡ with_next namespace ordered so_far statement
     pub behind : is_due ordered now.errors ≡ due
     pub marked : AreMarkedBy namespace (next_changes namespace ordered so_far statement) (lists_of so_far.namespaces) views before after
 
-  -- the next statement is cut behind some of its changes
+  -- the next statement is cut after the first `made` of its changes
   pub record CutsNext (so_far : Written) (statement : Statement) (before : Marks) (now : Written) (after : Marks) : Type 0 where
     pub made : ℕ
     pub fewer : (made ≡ 0) ⊎ (made < length (next_changes namespace ordered so_far statement))
     pub is_cut : now ≡ cut namespace ordered made so_far statement
     pub marked : AreMarkedBy namespace (take made (next_changes namespace ordered so_far statement)) (lists_of so_far.namespaces) views before after
 
-  -- The next statement, and whether another one is due behind it: not where it was refused in an ordered command, and not where it
-  -- was cut. Where its error finds no memory, it is cut and not told.
+  -- The next statement, and whether another one is due after it: not if it was refused in an ordered command, and not if it was
+  -- cut. If memory runs out for its error, it counts as cut, and the error is not noted.
   abbrev pub NextStep : Written → Statement → Marks → Result Next AllocError → Written → Marks → Type 0
   NextStep so_far statement before (Ok Due) now after = DoesNext true so_far statement before now after
   NextStep so_far statement before (Ok Ended) now after = DoesNext false so_far statement before now after
   NextStep so_far statement before (Ok Cut) now after = CutsNext so_far statement before now after
   NextStep so_far statement before (Err e) now after = (cuts : Written) × CutsNext so_far statement before cuts after × (now.namespaces ≡ cuts.namespaces)
 
--- the same of the store, and of what statements did so far in memory
+-- the same for the store, and for what the code notes about the statements so far
 abbrev pub WritesNext : List ℕ → Bool → Statement → declared.Written → Marked → Result Next AllocError → declared.Written → Marked → Type 0
 WritesNext namespace ordered statement so_far old result now new =
     NextStep namespace ordered old.state.views (written_seen so_far old.state.namespaces) statement old.marks result (written_seen now new.state.namespaces) new.marks
@@ -94,13 +94,13 @@ pub record CarriesOutWrite (write : WriteSteps) (old new : Marked) : Type 0 wher
   pub leaves : new.state.namespaces ≡ (carry_out write old.state.namespaces).namespaces
   pub marked : AreMarkedByEach write.namespace write.ordered old.state.views (nothing_written old.state.namespaces) write.statements old.marks new.marks
 
--- cut at one of them
+-- the statements of a write that is cut at one of them
 pub record CutsWrite (write : WriteSteps) (old : Marked) (left : Written) (new : Marked) : Type 0 where
   pub is_cut : IsCutWrite write old.state.namespaces left
   pub leaves : new.state.namespaces ≡ left.namespaces
   pub marked : AreMarkedByCut write.namespace write.ordered old.state.views write.statements old.state.namespaces left is_cut old.marks new.marks
 
--- a write: the statements as they are defined, or cut at one of them; no reply after either
+-- a write: the statements as they are defined, or cut at one of them; after either there may be no reply
 abbrev pub WritesOrCuts : WriteSteps → Marked → Outcome → Marked → Type 0
 WritesOrCuts write old (Reply reply) new = (reply ≡ reply_seen write (carry_out write old.state.namespaces)) × CarriesOutWrite write old new
 WritesOrCuts write old (Wanting reply) new = (left : Written) × (reply ≡ reply_seen write left) × CutsWrite write old left new

@@ -8,7 +8,7 @@ use Rattle.dv_cursor.specs.Cursors.{Cursor, Cursors, free_id, added, advanced, c
 abbrev pub Rows : Type 0
 Rows = List (List Field)
 
--- fewer than `count` rows or as many, and within the limit of bytes where there is more than one
+-- at most `count` rows, and within the limit of bytes if there is more than one
 abbrev pub IsWithinBatch : ℕ → Rows → Type 0
 IsWithinBatch count rows = (length rows ≤ count) × ((length rows ≤ 1) ⊎ (total_size rows ≤ batch_limit))
 
@@ -17,23 +17,23 @@ abbrev pub batches_joined : List ℕ → Rows → Rows
 batches_joined [] rows = []
 batches_joined (count ∷ counts) rows = batch count rows ++ batches_joined counts (rows_behind count rows)
 
--- the rows that are left behind them
+-- the rows after these batches
 abbrev pub behind_all : List ℕ → Rows → Rows
 behind_all [] rows = rows
 behind_all (count ∷ counts) rows = behind_all counts (rows_behind count rows)
 
 -- what may happen to cursors
 pub data Event : Type 0 where
-  -- one is added for a session and a namespace, over these rows, where there is room
+  -- one is added for a session and a namespace, over these rows, if there is room
   add : ℕ → List ℕ → Rows → Event
-  -- so many rows are taken from the one of a session under an id
+  -- so many rows of the one of a session under an id are removed
   advance : ℕ → ℕ → ℕ → Event
-  -- the one of a session under an id is taken out
+  -- the one of a session under an id is removed
   close : ℕ → ℕ → Event
   -- a session ends
   end : ℕ → Event
 
--- the cursors with one more, under this id, where there is one
+-- the cursors with one more, under this id, if there is an id
 abbrev pub added_under : Option ℕ → ℕ → List ℕ → Rows → Cursors → Cursors
 added_under None session namespace rows cursors = cursors
 added_under (Some id) session namespace rows cursors = added session namespace rows cursors
@@ -66,7 +66,7 @@ is_cursor_place other number session id = (other == session) && (number == id)
 abbrev pub cursor_at : ℕ → ℕ → Cursors → Option Cursor
 cursor_at session id cursors = finite.get cursors.kept (session, id)
 
--- the same where the one of a session under a number was changed to this one
+-- the same, if the cursor of a session under a number was changed to this one
 abbrev pub changed_at : ℕ → ℕ → Option Cursor → ℕ → ℕ → Cursors → Option Cursor
 changed_at other number changed session id cursors = if is_cursor_place other number session id then changed else cursor_at session id cursors
 

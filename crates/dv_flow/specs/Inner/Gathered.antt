@@ -1,5 +1,5 @@
--- Rows made of each row by itself and put in the order of their positions: what stands at each, where the position tells of which
--- row it is.
+-- Rows computed from each row separately and put in the order of their positions: which row is at each position, if this says from
+-- which row it was computed.
 use Rattle.std.specs.Prelude.{◌≡◌, Bool, true, false, cond, List, [], ◌∷◌, ◌++◌, Option, None, Some, refl}
 use Rattle.std.proofs.Common.{ap, sym, ◌∙◌}
 use Rattle.std.specs.declared.cmp.Ordering.TheVariants.{Equal}
@@ -71,6 +71,6 @@ module _ (made : PosTree × List Field → Positioned) where
             ∙ rest
             ∙ sym (ap (λ b. at q (flat_map made (alone p (cond b (Some f.1) (at p rows))))) here)
 
-    -- what stands at a position is made of one row alone
+    -- the row at a position is computed from one row alone
     pub single-gathered : (rows : Positioned) (q p : PosTree) → IsPositioned rows → IsExact q → IsExact p → pos_order (origin q) p ≡ Equal → at q (in_row_order (flat_map made rows)) ≡ at q (in_row_order (flat_map made (alone p (at p rows))))
     single-gathered rows q p are x y e = at-in_order q (flat_map made rows) ∙ at-made rows q p are y e ∙ sym (at-in_order q (flat_map made (alone p (at p rows))))

@@ -1,4 +1,4 @@
--- The first rows, kept by changes: what such a stage has taken in, what it makes, and what holds of that.
+-- The first rows, updated by changes: what such a stage has taken in, what it returns, and what is true of that.
 use Rattle.std.specs.Prelude.{◌≡◌, ◌+◌, ◌<◌, ◌≤◌, ℕ, zero, suc, Bool, true, false, List, [], ◌∷◌, ◌++◌, length, map, Option, None, Some, slice_get, refl}
 use Rattle.std.proofs.Common.{subst}
 use Rattle.std.specs.List.{AllByRecursion, list_all}
@@ -21,7 +21,7 @@ use Rattle.dv_flow.specs.Placed.{front_at}
 
 -- ---- the operator
 
--- the rows that it has taken in: those that it shows, and behind them the others
+-- the rows that it has taken in: those that it shows, followed by the others
 abbrev pub limit_rows : LimitOperator → Positioned
 limit_rows o = o.front.entries ++ o.rest.entries
 
@@ -29,11 +29,11 @@ limit_rows o = o.front.entries ++ o.rest.entries
 abbrev pub limit_front : LimitOperator → Positioned
 limit_front o = front_at o.count (limit_rows o)
 
--- the changes of the first ones, where the row at a position becomes this one, or none
+-- the changes of the first rows when the row at a position becomes this one, or none
 abbrev pub limit_changes : LimitOperator → PosTree → Option (List Field) → List Change
 limit_changes o pos row = diff (limit_front o) (front_at o.count (with_change (limit_rows o) (change_to pos row)))
 
--- its rows stand at exact positions, in their order, and the first of them are those that it shows
+-- its rows are at exact positions, in ascending order, and those that it shows are the first of them
 pub record IsCut (o : LimitOperator) : Type 0 where
   pub positioned : IsPositioned (limit_rows o)
   pub front : o.front.entries ≡ front_at o.count (limit_rows o)
@@ -47,23 +47,23 @@ pub record HoldsLimit (o : LimitOperator) (others : List Positioned) (left : Pos
 pub positioned_held : (o : LimitOperator) (others : List Positioned) (left : Positioned) → HoldsLimit o others left → IsPositioned left
 positioned_held o others left held = subst (λ (rows : Positioned). IsPositioned rows) held.rows held.sound.positioned
 
--- the same as a cut, but that it may show one row too many
+-- the same as `IsCut`, except that it may show one row too many
 pub record IsOverfull (o : LimitOperator) : Type 0 where
   pub positioned : IsPositioned (limit_rows o)
   pub most : length o.front.entries ≤ o.count + 1
   pub least : 0 < length o.rest.entries → o.count ≤ length o.front.entries
 
--- the same, but that it shows one row too few, where there are others
+-- the same, except that it shows too few rows: one too few if there are others
 pub record IsUnderfull (o : LimitOperator) : Type 0 where
   pub positioned : IsPositioned (limit_rows o)
   pub most : length o.front.entries < o.count
   pub least : 0 < length o.rest.entries → length o.front.entries + 1 ≡ o.count
 
--- whether a position stands behind those of all rows
+-- whether a position is after those of all rows
 abbrev pub is_past : PosTree → Positioned → Bool
 is_past pos rows = list_all (λ q. is_gt (pos_order pos q)) (keys_of rows)
 
--- a row at the position would be none of the first: they are as many as are shown, and it stands behind them
+-- a row at the position would not be one of the first rows: as many as may be shown are shown, and the position is after them
 pub record IsBehind (o : LimitOperator) (pos : PosTree) : Type 0 where
   pub full : o.count ≤ length o.front.entries
   pub past : is_past pos o.front.entries ≡ true
@@ -72,22 +72,22 @@ pub record IsBehind (o : LimitOperator) (pos : PosTree) : Type 0 where
 abbrev pub IsWithinLimit : LimitOperator → PosTree → Type 0
 IsWithinLimit o pos = o.count ≤ length o.front.entries → is_past pos o.front.entries ≡ false
 
--- the position of the last of the first rows, where there are as many
+-- the position of the last of the first n rows, if there are so many
 abbrev pub last_place : ℕ → Positioned → Option PosTree
 last_place zero rows = None
 last_place (suc n) rows = slice_get (keys_of rows) n
 
--- the position of the first row behind them
+-- the position of the first row after them
 abbrev pub next_place : ℕ → Positioned → Option PosTree
 next_place n rows = slice_get (keys_of rows) n
 
--- the other position at which the first rows may change: a row that comes pushes the last of them out, one that goes lets the next
--- one in
+-- the other position at which the first rows may change: inserting a row may push the last of them out, and removing a row may let
+-- the next one in
 abbrev pub edge_of : ℕ → Option (List Field) → Positioned → Option PosTree
 edge_of n (Some row) rows = last_place n rows
 edge_of n None rows = next_place n rows
 
--- rows with one more, where there is one
+-- the rows with one more, if there is one
 abbrev pub with_limited_row : PosTree → Option (List Field) → Positioned → Positioned
 with_limited_row pos None rows = rows
 with_limited_row pos (Some row) rows = put pos row rows
@@ -115,7 +115,7 @@ limit_makes t named rows = front_at (limit_count t) rows
 abbrev pub IsSoundLimit : LimitTurn → Type 0
 IsSoundLimit t = IsCut t.keeping.operator × HoldsLimit t.keeping.operator (map (λ m. m.entries) t.keeping.lists.items) (limit_left t)
 
--- it is the stage of the first rows, which looks into no list
+-- it is the stage of the first rows, which reads no list
 abbrev pub limit_turning : Turning LimitTurn
 limit_turning = record { form = λ t. record { makes = limit_makes t; named = [] }; left = limit_left; sound = IsSoundLimit }
 

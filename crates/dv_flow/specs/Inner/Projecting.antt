@@ -1,4 +1,4 @@
--- Rows as they are shown, by positions.
+-- The rows after a `$project`, by positions.
 use Rattle.std.specs.Prelude.{◌≡◌, Bool, true, false, cond, List, [], ◌∷◌, length, None, Some, refl}
 use Rattle.std.proofs.Common.{ap, subst, sym, ◌∙◌}
 use Rattle.std.specs.List.{AllByRecursion}
@@ -44,6 +44,6 @@ project_single s rows q p are x y e =
     ∙ ap (option_map (projected s)) (at-like q p e rows ∙ sym (ap (λ r. cond (is_eq r) (at p rows) None) e) ∙ sym (at-alone q p (at p rows)))
     ∙ sym (at-shown s q (alone p (at p rows)))
 
--- what it made of a row stands at the position of that row
+-- the row that it returned for a row is at the position of that row
 pub project_beside : (p : Project) (made : Positioned) (q : PosTree) (row : List Field) (left : Positioned) → made ≡ shown_at p left → at q left ≡ Some row → alone q (at q made) ≡ shown_at p ((q, row) ∷ [])
 project_beside p made q row left is there = ap (alone q) (ap (at q) is ∙ at-shown p q left ∙ ap (option_map (projected p)) there)

@@ -1,4 +1,4 @@
--- A stage that makes its rows of each row by itself: what it has taken in.
+-- A stage that computes its rows from each row separately: what it has taken in.
 use Rattle.std.specs.Prelude.{◌≡◌, ◌+◌, ◌++◌, ℕ, List, [], Option, Some, length, map}
 use Rattle.dv_value.specs.Tree.{Field}
 use Rattle.dv_change.specs.declared.input.Input.{Input}
@@ -15,38 +15,38 @@ use Rattle.dv_flow.specs.declared.by_row.RowOperator.{RowOperator}
 use Rattle.dv_flow.specs.declared.by_row.RowsApart.{RowsApart}
 use Rattle.dv_flow.specs.declared.row_turn.RowTurn.{RowTurn}
 
--- two lists that differ as others do
+-- these two lists have the same difference as two others
 abbrev pub AreApart : Positioned → Positioned → RowsApart → Type 0
 AreApart old new rows = diff_told rows.old rows.new ≡ diff_told old new
 
 module _ (makes : Positioned → Positioned) where
-  -- whatever rows it made the kept ones of, where any are kept and this one was at a position
+  -- P holds for all rows that have this row, or none, at the position, and for which it returns the kept rows, if any are kept
   abbrev WhateverIsKept : Option Positioned → PosTree → Option (List Field) → Type 0 → Type 0
   WhateverIsKept kept pos row P = (left : Positioned) → IsPositioned left → AreKept kept (makes left) → at pos left ≡ row → P
 
-  -- these are what it made of that one
+  -- these are the rows that it returned for that row
   abbrev pub WereMadeOf : Option Positioned → PosTree → Option (List Field) → Positioned → Type 0
   WereMadeOf kept pos row rows = WhateverIsKept kept pos row (rows ≡ makes (alone pos row))
 
   abbrev pub AreMadeOf : Positioned → PosTree → Option (List Field) → Positioned → Type 0
   AreMadeOf kept pos row rows = WereMadeOf (Some kept) pos row rows
 
-  -- these lists differ as what it made of that one and what it makes of the one that is there now
+  -- these lists have the same difference as its rows for the old row and its rows for the new one
   abbrev pub TellsApart : Option Positioned → Taken → RowsApart → Type 0
   TellsApart kept taken rows = WhateverIsKept kept taken.pos taken.old (AreApart (makes (alone taken.pos taken.old)) (makes (alone taken.pos taken.new)) rows)
 
 module _ {S : Type 0} where
-  -- the operator keeps no row: it may have taken in any at exact positions, in their order, and no list
+  -- the operator keeps no row: it may have taken in any rows at exact positions, in ascending order, and no list
   pub record HoldsRows (o : RowOperator S) (others : List Positioned) (left : Positioned) : Type 0 where
     pub positioned : IsPositioned left
     pub none : others ≡ []
 
-  -- what it makes; it looks into no list
+  -- the rows that it returns; it reads no list
   abbrev pub row_makes : (S → Positioned → Positioned) → RowOperator S → List Positioned → Positioned → Positioned
   row_makes makes o others rows = makes o.stage rows
 
   module _ (makes : S → Positioned → Positioned) (o : RowOperator S) (input : Input) (taken : Taken) (kept : Option Positioned) where
-    -- what it returns are the changes of its rows, where those that it has made may be kept
+    -- it returns the changes of its rows, if the kept rows, where any are kept, are those that it has returned
     abbrev pub ReturnsKept : List Taken → List Taken → Type 0
     ReturnsKept before now = WhateverIsHeld (HoldsRows o) input taken (λ others left change. AreKept kept (makes o.stage left) → now ≡ before ++ told_along (makes o.stage left) (owed_by input change (row_makes makes o) others left))
 
@@ -62,10 +62,10 @@ module _ {S : Type 0} where
   abbrev pub rows_left : RowTurn S → Positioned
   rows_left t = t.keeping.rows.entries
 
-  -- they stand at exact positions, in their order
+  -- they are at exact positions, in ascending order
   abbrev pub IsSoundRows : RowTurn S → Type 0
   IsSoundRows t = HoldsRows t.keeping.operator (map (λ m. m.entries) t.keeping.lists.items) (rows_left t)
 
-  -- it is a stage that makes these rows, and looks into no list
+  -- it is a stage that returns these rows, and reads no list
   abbrev pub rows_turning : (S → Positioned → Positioned) → Turning (RowTurn S)
   rows_turning makes = record { form = λ t. record { makes = λ named rows. makes (rows_stage t) rows; named = [] }; left = rows_left; sound = IsSoundRows }

@@ -91,7 +91,7 @@ sorted-gathered : (parts : List sorts.Part) (rows : Positioned) → sorted_at pa
 unfolding sorted_at
 sorted-gathered parts rows = ap in_row_order (one-each parts rows)
 
--- a position behind the places of a row is of that row
+-- a position that is the sort keys of a row followed by p has the origin p
 behind-of : (parts : List sorts.Part) (d : List Field) (q p : PosTree) → pos_order q (sort_place parts d ++ p) ≡ Equal → pos_order (drop (length parts) q) p ≡ Equal
 behind-of [] d q p e = e
 behind-of (part ∷ parts) d [] p e = cc

@@ -26,7 +26,7 @@ but_last (a ∷ b ∷ p) = a ∷ but_last (b ∷ p)
 abbrev rows_of : Unwind → PosTree × List Field → Positioned
 rows_of u e = rows_numbered 0 e.0 (unwound u e.1)
 
--- rows at positions that continue `pos` by numbers, counted from i, but for those whose numbers are marked
+-- rows at positions that continue `pos` by numbers, counted from i, except those whose numbers are marked
 abbrev pub rows_unmarked : List Bool → ℕ → PosTree → List (List Field) → Positioned
 rows_unmarked marked i pos [] = []
 rows_unmarked marked i pos (d ∷ ds) = if slice_index_or marked i false then rows_unmarked marked (suc i) pos ds else (pos ++ At i ∷ [], d) ∷ rows_unmarked marked (suc i) pos ds
@@ -47,7 +47,7 @@ numbered-length : (n i : ℕ) (p : PosTree) (ds : List (List Field)) → length 
 numbered-length n i p [] e = tt
 numbered-length n i p (d ∷ ds) e = (behind-length p i ∙ ap suc e, numbered-length n (suc i) p ds e)
 
--- a position behind another one is of that one
+-- a position that is p followed by a number has the origin p
 behind-of : (q p : PosTree) (i : ℕ) → pos_order q (p ++ At i ∷ []) ≡ Equal → pos_order (but_last q) p ≡ Equal
 behind-of [] [] i e = cc
 behind-of [] (b ∷ p) i e = cc

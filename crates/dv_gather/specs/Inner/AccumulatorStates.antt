@@ -1,4 +1,4 @@
--- What a group holds for one accumulator, over the values so far: words of bodies.
+-- What a group holds for one accumulator, over the values so far: definitions for bodies.
 use Rattle.std.specs.Prelude.{ℕ, zero, suc, ℤ, pos, ◌+ℤ◌, Bool, true, not, ◌&&◌, List, [], ◌∷◌, ◌++◌}
 use Rattle.dv_value.specs.Tree.{Tree, array, null, elements_of}
 use Rattle.dv_gather.specs.declared.extreme.Extreme.{Extreme}
@@ -21,7 +21,7 @@ of_none Min = extreme_state Least null
 of_none Max = extreme_state Greatest null
 of_none Push = array_state []
 
--- with a value behind the others
+-- the state with one more value, after the others
 abbrev pub with_value : Tree → AccumulatorState → AccumulatorState
 with_value v (sum_state n narrow) = sum_state (n +ℤ addend v) (narrow && not (is_int64 v))
 with_value v (extreme_state e b) = extreme_state e (better e v b)
@@ -31,7 +31,7 @@ abbrev pub with_each_value : List Tree → AccumulatorState → AccumulatorState
 with_each_value [] t = t
 with_each_value (v ∷ vs) t = with_each_value vs (with_value v t)
 
--- with a value more in the state at a place, where there is one
+-- the states with one more value in the state at a place, if there is one
 abbrev pub with_value_at : ℕ → Tree → List AccumulatorState → List AccumulatorState
 with_value_at i v [] = []
 with_value_at zero v (t ∷ ts) = with_value v t ∷ ts

@@ -9,7 +9,7 @@ BeginsAs d [] = ⊤
 BeginsAs [] (f ∷ row) = ⊥
 BeginsAs (e ∷ d) (f ∷ row) = (e.0 ≡ f.0) × BeginsAs d row
 
--- the same, and behind them comes this name
+-- the same, and after them comes this name
 abbrev pub HasNamesOf : Row → Row → List ℕ → Type 0
 HasNamesOf d row name = BeginsAs d row × (v : Tree) × (slice_get d (length row) ≡ Some (name, v))
 

@@ -1,4 +1,4 @@
--- Worked examples: what $group and $lookup make of rows, the stage and the rows as they are written.
+-- Worked examples: what $group and $lookup return for rows, with the stage and the rows as they are written.
 use Rattle.std.specs.Prelude.{ℕ, pos, true, List, [], ◌∷◌, Result, Ok, codes}
 use Rattle.dv_value.specs.Tree.{Tree, int64, boolean, null, Field}
 use Rattle.dv_row.specs.declared.fault.PipelineFault.{PipelineFault}
@@ -32,7 +32,7 @@ group_row id least all sum = (codes "_id", id) ∷ (codes "lo", least) ∷ (code
 abbrev pub mixed : List Tree
 mixed = text (codes "x") ∷ int 3 ∷ boolean true ∷ list (int 5 ∷ []) ∷ []
 
--- what a $group makes of rows
+-- what a $group returns for rows
 abbrev pub after_group : Tree → List Row → Result (List Row) PipelineFault
 after_group v rows = group_in v >>= λ g. Ok (grouped g rows)
 
@@ -56,7 +56,7 @@ ten = (codes "_id", int 10) ∷ (codes "f", list (list (int 1 ∷ int 2 ∷ []) 
 abbrev pub documents_to_find : List Row
 documents_to_find = seven ∷ eight ∷ nine ∷ ten ∷ []
 
--- what a $lookup makes of rows
+-- what a $lookup returns for rows
 abbrev pub after_lookup : Tree → List Row → List Row → Result (List Row) PipelineFault
 after_lookup v rows others = lookup_in v >>= λ l. Ok (looked_up l rows others)
 

@@ -1,4 +1,4 @@
--- Documents gathered under keys, one after the other: words of bodies.
+-- Documents gathered under keys, one after the other: definitions for bodies.
 use Rattle.std.specs.Prelude.{List, [], ◌∷◌, ◌++◌}
 use Rattle.std.specs.Option.{unwrap_or}
 use Rattle.std.specs.Map.{lookup}
@@ -12,11 +12,11 @@ use Rattle.dv_gather.specs.Groups.{Keyed}
 abbrev pub Entry : Type 0
 Entry = KeyTree × List (List Field)
 
--- what stands under a key
+-- the documents under a key
 abbrev pub listed : KeyTree → List Entry → List (List Field)
 listed k es = unwrap_or (lookup (is_at (key_order k)) es) []
 
--- a document more, behind the others under its key
+-- one more document, after the others under its key
 abbrev pub group_put : KeyTree → List Field → List Entry → List Entry
 group_put k d es = insert_entry key_order es k (listed k es ++ d ∷ [])
 

@@ -1,4 +1,4 @@
--- The form of a $group as a ghost value, one to one: so a proof can tell two forms apart.
+-- The form of a $group as a ghost value, one to one, so that a proof can distinguish two forms.
 use Rattle.std.specs.Prelude.{ℕ, List, refl}
 use Rattle.std.specs.Coded.{Coded, code_by, coded×, coded_list, coded_ℕ}
 use Rattle.dv_row.specs.Expressions.{Expression}

@@ -20,7 +20,7 @@ back v w o e = order_total.antisymm w v ∙ ap ordering_reverse e
 pub itself : (v : Tree) → is_eq (order v v) ≡ true
 itself v = (eq_by_cmp_equiv order_total).refl v
 
--- a key compares with equal keys alike
+-- a key equals both of two equal keys, or neither
 equal-alike : (x v w : Tree) → order v w ≡ Equal → is_eq (order x v) ≡ is_eq (order x w)
 equal-alike x v w e = (eq_by_cmp_equiv order_total).symm x v ∙ ap is_eq (same-as v w x e) ∙ (eq_by_cmp_equiv order_total).symm w x
 
@@ -82,7 +82,7 @@ or-twice false b c e = refl
 abbrev pub any-equal : Tree → List Tree → Bool
 any-equal x = list_any (λ k. is_eq (order x k))
 
--- a test that finds equal keys alike
+-- a test that has the same result for equal keys
 module _ (test : Tree → Bool) (alike : (v w : Tree) → order v w ≡ Equal → test v ≡ test w) where
   any-with_key : (v : Tree) (ls : List Tree) → list_any test (with_key v ls) ≡ test v || list_any test ls
   any-with_key v [] = refl
@@ -100,7 +100,7 @@ module _ (test : Tree → Bool) (alike : (v w : Tree) → order v w ≡ Equal �
       ∙ ap (λ b. b || list_any (λ d. test d.0) ds) (any-with_key d.0 ks)
       ∙ or-first (test d.0) (list_any test ks) (list_any (λ d. test d.0) ds)
 
-  -- it finds a key among those of documents exactly where it finds a document's
+  -- it holds of one of the group keys exactly if it holds of the key of one of the documents
   pub any_key_of : (ds : List Keyed) → list_any test (group_keys ds) ≡ list_any (λ d. test d.0) ds
   any_key_of ds = any-from [] ds
 

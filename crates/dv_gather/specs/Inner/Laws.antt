@@ -1,4 +1,4 @@
--- Words of the laws about groups.
+-- Definitions for the laws about groups.
 use Rattle.std.specs.Prelude.{List, filter}
 use Rattle.std.specs.Ordering.{is_eq}
 use Rattle.dv_value.specs.Tree.{Tree}

@@ -1,4 +1,4 @@
--- Places of documents in their list, counted from 0: words of bodies.
+-- Places of documents in their list, counted from 0: definitions for bodies.
 use Rattle.std.specs.Prelude.{◌≡◌, ℕ, zero, suc, ◌==◌, ◌&&◌, ◌||◌, Bool, false, List, [], ◌∷◌, ◌++◌, Option, Some, None, Vec, map, slice_get, if◌then◌else◌}
 use Rattle.std.specs.List.{list_any}
 use Rattle.std.specs.BTreeMap.{BTreeMap, get}
@@ -37,7 +37,7 @@ AddsPlace passes place old new = (k : KeyTree) (i : ℕ) → is_under new k i �
 abbrev pub ArePlaces : {A : Type 0} → BTreeMap KeyTree (Vec ℕ A) → List (List ℕ) → List (List Field) → Type 0
 ArePlaces m path ds = (k : KeyTree) (i : ℕ) → is_under m k i ≡ item_passes_at (is_found path k) ds i
 
--- what the documents are that a document is joined with, by places of documents
+-- the values are the documents that a document is joined with, if the map has the places of the documents
 abbrev pub AreMatches : {A : Type 0} → BTreeMap KeyTree (Vec ℕ A) → List (List ℕ) → List (List Field) → List Field → List Tree → Type 0
 AreMatches m local ds d vs = (foreign : List (List ℕ)) → ArePlaces m foreign ds → vs ≡ map as_value (joined_with local foreign ds d)
 
@@ -46,7 +46,7 @@ abbrev pub items_chosen : {X : Type 0} → (ℕ → Bool) → List X → List X
 items_chosen p [] = []
 items_chosen p (x ∷ xs) = if p 0 then x ∷ items_chosen (λ i. p (suc i)) xs else items_chosen (λ i. p (suc i)) xs
 
--- the item at a place, where there is one
+-- the item at a place, if there is one
 abbrev pub item_at : {X : Type 0} → Option X → List X
 item_at None = []
 item_at (Some x) = x ∷ []

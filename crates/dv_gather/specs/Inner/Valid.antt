@@ -1,4 +1,4 @@
--- What $group and $lookup make of valid rows is valid, where the stage was read from a valid value.
+-- What $group and $lookup return for valid rows is valid, if the stage was read from a valid value.
 use Rattle.std.proofs.Common.{◌≡◌, refl, ℕ, ℤ, pos, negsuc, suc, zero, ◌<◌, ◌%◌, ◌/◌, ◌==◌, ◌||◌, ◌&&◌, not, nat_lt, Bool, true, false, List, [], ◌∷◌, map, filter, length, Some, None, Option, Result, Ok, Err, codes, arith, if◌then◌else◌}
 use Rattle.std.proofs.lemmas.Bool.Decides.{nat_tests}
 use Rattle.std.proofs.lemmas.Str.{IsUtf8-from_ascii}

@@ -1,4 +1,5 @@
--- What a group holds for one accumulator, over its rows, and how it changes as a row is added or removed: words of bodies.
+-- What a group holds for one accumulator, over its rows, and how it changes as a row is added or removed: definitions that bodies
+-- use.
 use Rattle.std.specs.Prelude.{ℕ, zero, suc, ◌+◌, ◌-◌, ℤ, pos, ◌+ℤ◌, ◌-ℤ◌, nat_eq, cond, List, [], ◌∷◌, Option, None, Some}
 use Rattle.std.specs.Map.{values_of}
 use Rattle.dv_value.specs.Tree.{Tree, array, elements_of, null}
@@ -54,14 +55,14 @@ int64s_over a (r ∷ rows) = int64s_in (field_value a r.1) + int64s_over a rows
 
 -- ---- ranks
 
--- where a value stands among others: the greatest first for $max, and else the least
+-- the rank of a value among others: for $max the greatest is first, otherwise the least
 abbrev pub rank : Accumulator → Tree → Part
 rank Max v = Down (value (canon v))
 rank Sum v = Up (value (canon v))
 rank Min v = Up (value (canon v))
 rank Push v = Up (value (canon v))
 
--- rows with one more, where it has a value that isn't null: by this, and then by its position
+-- rows with one more, if it has a value that isn't null: ordered by the value, and then by its position
 abbrev pub with_ranked : Accumulator → Option Tree → PosTree → Row → Positioned → Positioned
 with_ranked accumulator None p d rows = rows
 with_ranked accumulator (Some v) p d rows = cond (is_null v) rows (put (rank accumulator v ∷ p) d rows)
@@ -78,14 +79,14 @@ abbrev pub ranked_over : Accumulation → Positioned → Positioned
 ranked_over a [] = []
 ranked_over a (r ∷ rows) = with_ranked a.accumulator (field_value a r.1) r.0 r.1 (ranked_over a rows)
 
--- the value of the first row, null where there is none
+-- the value of the first row, or null if there is none
 abbrev pub value_of_first : Accumulation → Positioned → Tree
 value_of_first a [] = null
 value_of_first a (r ∷ rows) = or_null (field_value a r.1)
 
 -- ---- values at positions
 
--- with one in front, where there is one
+-- with one more before them, if there is one
 abbrev pub with_first : PosTree → Option Tree → Values → Values
 with_first p None vs = vs
 with_first p (Some v) vs = (p, v) ∷ vs
@@ -94,7 +95,7 @@ abbrev pub pushed_over : Accumulation → Positioned → Values
 pushed_over a [] = []
 pushed_over a (r ∷ rows) = with_first r.0 (field_value a r.1) (pushed_over a rows)
 
--- with one at its position, where there is one
+-- with one more at its position, if there is one
 abbrev pub with_pushed : PosTree → Option Tree → Values → Values
 with_pushed p None vs = vs
 with_pushed p (Some v) vs = put p v vs
@@ -118,7 +119,7 @@ state_by Push a rows = array_state (pushed_over a rows)
 abbrev pub state_over : Accumulation → Positioned → AccumulatorState
 state_over a rows = state_by a.accumulator a rows
 
--- the state with a row more
+-- the state with one more row
 abbrev pub state_with_row : Accumulation → PosTree → Row → AccumulatorState → AccumulatorState
 state_with_row a p d (sum_state n int64s) = sum_state (n +ℤ adds (field_value a d)) (int64s + int64s_in (field_value a d))
 state_with_row a p d (extreme_state rows) = extreme_state (with_ranked a.accumulator (field_value a d) p d rows)
@@ -134,7 +135,7 @@ abbrev pub state_after : RowChange → Accumulation → PosTree → Row → Accu
 state_after Added a p d t = state_with_row a p d t
 state_after Removed a p d t = state_without_row a p d t
 
--- at a place, where there is one
+-- at a place, if there is one
 abbrev pub states_after_at : RowChange → PosTree → Row → ℕ → Accumulation → List AccumulatorState → List AccumulatorState
 states_after_at change p d i a [] = []
 states_after_at change p d zero a (t ∷ ts) = state_after change a p d t ∷ ts
@@ -145,7 +146,7 @@ abbrev pub states_after_from : RowChange → PosTree → Row → ℕ → List Ac
 states_after_from change p d i [] ts = ts
 states_after_from change p d i (a ∷ fields) ts = states_after_from change p d (suc i) fields (states_after_at change p d i a ts)
 
--- of a row, where there is one
+-- for a row, if there is one
 abbrev pub states_after_some : RowChange → PosTree → Option Row → List Accumulation → List AccumulatorState → List AccumulatorState
 states_after_some change p None fields ts = ts
 states_after_some change p (Some d) fields ts = states_after_from change p d 0 fields ts

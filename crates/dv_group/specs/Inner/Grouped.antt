@@ -1,4 +1,4 @@
--- The rows of groups, at their keys: what stands at each, in which order.
+-- The rows of groups, at their keys: which row is at each key, and in which order.
 use Rattle.std.specs.Prelude.{◌≡◌, ◌||◌, Bool, true, false, cond, if◌then◌else◌, List, [], ◌∷◌, length, map, Option, None, Some, refl}
 use Rattle.std.proofs.Common.{ap, sym, ◌∙◌}
 use Rattle.std.specs.declared.cmp.Ordering.{Ordering}
@@ -28,11 +28,11 @@ use Rattle.dv_group.specs.Placed.{grouped_at}
 
 -- ---- keys
 
--- a key stands alike to those of values that compare equal
+-- if two values compare equal, a key equals both their keys or neither
 alike : (k : KeyTree) (v w : Tree) → order v w ≡ Equal → is_eq (key_order k (value (canon v))) ≡ is_eq (key_order k (value (canon w)))
 alike k v w e = ap (λ c. is_eq (key_order k (value c))) ((equal_is_canon v w).0 e)
 
--- keys that stand beside each other stand alike
+-- keys that compare equal are equal to the same keys
 pub beside : (k l m : KeyTree) → key_order k l ≡ Equal → is_eq (key_order k m) ≡ is_eq (key_order l m)
 beside k l m e = ap is_eq (key_order_total.congr k l m e)
 
@@ -40,7 +40,7 @@ beside k l m e = ap is_eq (key_order_total.congr k l m e)
 abbrev pub IsKeyPlace : PosTree → Type 0
 IsKeyPlace p = (k : KeyTree) × (p ≡ Up k ∷ [])
 
--- positions of one part each stand as these
+-- positions of one part each are equal exactly if the parts are
 pub one-part : (o : Ordering) → is_eq (ordering_then o Equal) ≡ is_eq o
 one-part Less = refl
 one-part Equal = refl
@@ -142,7 +142,7 @@ module _ (g : Grouping) where
     unfolding grouped_at groups_of
     at-own = each-made keys ∙ each-own keys some
 
-    -- ---- what stands at a key
+    -- ---- the row at a key
 
     module _ (k : KeyTree) where
       abbrev is_of : Tree → Bool

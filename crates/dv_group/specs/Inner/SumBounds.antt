@@ -1,4 +1,4 @@
--- How far sums can be from 0, by how many rows there are: words of bodies.
+-- How far sums can be from 0, by how many rows there are: definitions that bodies use.
 use Rattle.std.specs.Prelude.{◌≡◌, ◌≤◌, ℕ, ◌-◌, ◌*◌, ◌^◌, pos, ◌+ℤ◌, ◌≤ℤ◌, List, [], ◌∷◌, map, Option, ⊤}
 use Rattle.std.specs.List.{AllByRecursion}
 use Rattle.dv_value.specs.Tree.{Tree}
@@ -14,17 +14,17 @@ use Rattle.dv_group.specs.declared.accumulator_state.RowChange.TheVariants.{Adde
 use Rattle.dv_group.specs.Inner.AccumulatorStates.{AccumulatorState, adds, array_state, extreme_state, state_over, sum_state, field_value, int64s_in, state_without_row}
 use Rattle.dv_group.specs.Inner.StateView.{state_seen}
 
--- what so many numbers of 64 bits can bring
+-- how far from 0 the sum of so many numbers of 64 bits can be
 abbrev pub reach : ℕ → ℕ
 reach count = count * 2 ^ 63
 
--- no farther than so many rows can bring it
+-- the sum is no farther from 0 than that of so many rows can be, and no more values are int64s
 abbrev pub IsWithinCount : ℕ → AccumulatorState → Type 0
 IsWithinCount count (sum_state n int64s) = ((pos 0 ≤ℤ (n +ℤ pos (reach count))) × (n ≤ℤ pos (reach count))) × (int64s ≤ count)
 IsWithinCount count (extreme_state rows) = ⊤
 IsWithinCount count (array_state vs) = ⊤
 
--- so many rows as there can be
+-- as many rows as there can be
 abbrev pub most_rows : ℕ
 most_rows = 2 ^ 64 - 1
 
@@ -48,7 +48,7 @@ HaveRoom change (a ∷ fields) p d (t ∷ ts) = HasRoomFor change a p d t × Hav
 abbrev pub IsSummableValue : Option Tree → Type 0
 IsSummableValue v = (pos 0 ≤ℤ (adds v +ℤ pos (2 ^ 63))) × (adds v ≤ℤ pos (2 ^ 63))
 
--- a row's number is one, where it is summed
+-- a row's number is one, if it is summed
 abbrev pub IsSummableFor : Accumulator → Accumulation → Row → Type 0
 IsSummableFor Sum a d = IsSummableValue (field_value a d)
 IsSummableFor Min a d = ⊤

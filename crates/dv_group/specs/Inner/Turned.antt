@@ -1,4 +1,4 @@
--- $group, kept by changes: what it has taken in.
+-- $group, updated by changes: what it has taken in.
 use Rattle.std.specs.Prelude.{[], map}
 use Rattle.dv_change.specs.Changes.{Positioned}
 use Rattle.dv_change.specs.Inner.Turning.{Turning}
@@ -16,10 +16,10 @@ grouping_of t = t.keeping.operator.group
 abbrev pub rows_left : GroupTurn → Positioned
 rows_left t = t.keeping.rows.entries
 
--- its rows stand at exact positions, in their order, and each group has those with its key, and the states over them
+-- its rows are at exact positions, in ascending order, and each group has those with its key, and the states over them
 abbrev pub IsSoundGroups : GroupTurn → Type 0
 IsSoundGroups t = AreLiveGroups (grouping_of t) t.keeping.operator.groups.entries × HoldsGroups t.keeping.operator (map (λ m. m.entries) t.keeping.lists.items) (rows_left t)
 
--- it is the stage of the groups, which looks into no list
+-- it is the stage of the groups, which reads no list
 abbrev pub group_turning : Turning GroupTurn
 group_turning = record { form = λ t. record { makes = λ named rows. grouped_at (grouping_of t) rows; named = [] }; left = rows_left; sound = IsSoundGroups }

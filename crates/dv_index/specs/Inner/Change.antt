@@ -1,4 +1,4 @@
--- What becomes of one document, and that the indexes of a collection have the keys of its documents.
+-- Changes of one document, and that the indexes of a collection have the keys of its documents.
 use Rattle.std.specs.Prelude.{◌≡◌, ℕ, zero, suc, true, List, [], ◌∷◌, Option, None, Some, IsSome, ⊤, if◌then◌else◌}
 use Rattle.std.specs.List.{AllByRecursion}
 use Rattle.std.specs.Ordering.{is_eq}
@@ -17,7 +17,7 @@ changed_id (Insert d) = id_key d
 changed_id (Replace d) = id_key d
 changed_id (Remove k) = k.now
 
--- the document that stands under it afterwards
+-- the document that is under this key afterwards
 abbrev pub document_after : Change → Option (List Field)
 document_after (Insert d) = Some d
 document_after (Replace d) = Some d
@@ -29,11 +29,11 @@ documents_after (Insert d) ds = inserted d ds
 documents_after (Replace d) ds = replaced d ds
 documents_after (Remove k) ds = removed k.now ds
 
--- under its `_id` there is what it leaves there, and under each other one what was there
+-- under the `_id` of the change there is what it leaves there, and under each other `_id` what was there
 abbrev pub ChangesOne : Change → List (List Field) → List (List Field) → Type 0
 ChangesOne c old new = (i : KeyTree) → found i new ≡ (if is_eq (key_order i (changed_id c)) then document_after c else found i old)
 
--- a document that comes begins with an `_id`
+-- a new document begins with an `_id`
 abbrev pub HasIdFirst : Change → Type 0
 HasIdFirst (Insert d) = HasId d
 HasIdFirst (Replace d) = HasId d
@@ -45,12 +45,12 @@ IsChangeOf (Insert d) ds = HasId d
 IsChangeOf (Replace d) ds = HasId d × IsSome (found (id_key d) ds)
 IsChangeOf (Remove k) ds = ⊤
 
--- what is inserted has an `_id` of its own
+-- the `_id` of an inserted document is not there yet
 abbrev pub IsFresh : Change → List (List Field) → Type 0
 IsFresh (Insert d) ds = found (id_key d) ds ≡ None
 IsFresh c ds = ⊤
 
--- its `_id` is there already
+-- the `_id` of an inserted document is there already
 abbrev pub IsTaken : Change → List (List Field) → Type 0
 IsTaken (Insert d) ds = IsSome (found (id_key d) ds)
 IsTaken c ds = ⊥
@@ -60,11 +60,11 @@ abbrev pub AreIndexesOf : List IndexTree → List (List Field) → Type 0
 AreIndexesOf [] ds = ⊤
 AreIndexesOf (x ∷ xs) ds = AllByRecursion (λ y. IsIndexOf y ds) xs
 
--- the same of one of them, by its place
+-- the same for one of them, by its place
 abbrev pub IsIndexAt : ℕ → IndexTree → List (List Field) → Type 0
 IsIndexAt zero x ds = x.path ≡ id_form.path
 IsIndexAt (suc n) x ds = IsIndexOf x ds
 
--- of some indexes those that are unique have the keys of the documents
+-- the unique ones of some indexes have the keys of the documents
 abbrev pub UniqueAreIndexesOf : List IndexTree → List (List Field) → Type 0
 UniqueAreIndexesOf xs ds = AllByRecursion (λ x. x.unique ≡ true → IsIndexOf x ds) xs

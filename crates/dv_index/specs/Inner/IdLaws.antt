@@ -1,4 +1,4 @@
--- The path `_id` leads to one value, whose key is in bounds where the document has a leaf in them; and what laws of keys say.
+-- The path `_id` leads to one value, whose key is in bounds exactly if the document has a leaf in them; and what laws of keys say.
 use Rattle.std.proofs.Common.{◌≡◌, ◌∙◌, ℕ, List, [], ◌∷◌, ap, sym, refl, true, cond, Some, codes}
 use Rattle.std.proofs.Math.Bool.{or-false}
 use Rattle.std.proofs.lemmas.Slice.Eq.{bytes_eq-Decides}
@@ -39,7 +39,7 @@ unfolding leaves whole
 leaves-id f fs h =
     ap (λ b. flat_map with_elements (flat_map (candidates []) (cond b (Some f.1) (value_under (codes "_id") (list_of_fields (fields_of fs))) ∷ []))) ((bytes_eq-Decides (codes "_id") f.0).1 (sym h.0)) ∙ no-elements f.1 h.1
 
--- a document has a leaf in bounds where its `_id`'s key is in them
+-- a document has a leaf in bounds exactly if its `_id`'s key is in them
 pub id-covered : KeysAreWithin → (c : Condition) (d : List Field) → HasId d → has_within c (codes "_id" ∷ []) d ≡ covers c (id_key d)
 unfolding has_within
 id-covered law c [] h = absurd h

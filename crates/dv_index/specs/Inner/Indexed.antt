@@ -30,7 +30,7 @@ index_on name path unique = record { name = name; path = path; unique = unique }
 abbrev pub AreUnbroken : List IndexForm → List (List Field) → Type 0
 AreUnbroken indexes documents = are_broken indexes documents ≡ false
 
--- documents to which one was added, or in which it was put in place of another, break no more indexes than before, unless it clashed
+-- if no index was broken before a document was inserted or replaced another, and it does not clash, none is broken afterwards
 abbrev pub BreaksNone : List IndexForm → List Field → List (List Field) → List (List Field) → Type 0
 BreaksNone indexes d before after = AreUnbroken indexes before → clashes indexes d before ≡ false → AreUnbroken indexes after
 

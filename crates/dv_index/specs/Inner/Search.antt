@@ -11,7 +11,7 @@ use Rattle.dv_keyed.specs.Within.{has_within}
 use Rattle.dv_keyed.specs.Inner.Pairs.{has_pair}
 use Rattle.dv_keyed.specs.Inner.Index.{IndexTree}
 
--- whether a document has a key, where there is one
+-- whether there is a document, and it has a key
 abbrev pub is_key_under : KeyTree → List (List ℕ) → Option (List Field) → Bool
 is_key_under k path None = false
 is_key_under k path (Some d) = is_leaf_key k path d
@@ -24,11 +24,11 @@ pub record IsIndexOf (index : IndexTree) (ds : List (List Field)) : Type 0 where
 abbrev pub documents_referred : List (Bor (List Field)) → List (List Field)
 documents_referred = map (λ d. d.now)
 
--- of both lists the same documents pass a test
+-- the same documents of both lists pass a test
 abbrev pub AgreeOn : (List Field → Bool) → List (List Field) → List (List Field) → Type 0
 AgreeOn test ds others = filter test ds ≡ filter test others
 
--- all documents are found that have a leaf of the path in the bounds, whatever else they have to meet
+-- all documents that have a leaf of the path in the bounds are found, whatever else they have to meet
 abbrev pub AllWithinAreFound : Condition → List (List ℕ) → List (List Field) → List (List Field) → Type 0
 AllWithinAreFound bounds path ds found = (test : List Field → Bool) → ((d : List Field) → test d ≡ true → has_within bounds path d ≡ true) → AgreeOn test found ds
 

@@ -9,7 +9,7 @@ abbrev pub leads_through : List ℕ → List (List ℕ) → Bool
 leads_through name [] = true
 leads_through name (first ∷ names) = bytes_eq first name
 
--- whether the path of one of the indexes does, but for the one on `_id`
+-- whether the path of one of the indexes does, except the one on `_id`
 abbrev pub any_leads_through : List ℕ → List IndexForm → Bool
 any_leads_through name [] = false
 any_leads_through name (x ∷ xs) = list_any (λ y. leads_through name y.path) xs

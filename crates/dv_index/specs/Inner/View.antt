@@ -7,6 +7,6 @@ use Rattle.dv_index.specs.declared.unique.Replacing.{Replacing}
 abbrev pub befores : List Replacing → List (List Field)
 befores each = map (λ r. r.before.now) each
 
--- and those that come in their places
+-- and those that replace them
 abbrev pub afters : List Replacing → List (List Field)
 afters each = map (λ r. r.after.now) each

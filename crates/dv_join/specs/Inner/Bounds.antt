@@ -9,7 +9,7 @@ use Rattle.dv_change.specs.Inner.Bounds.{result_changes}
 use Rattle.dv_change.specs.Inner.Changes.{IsExactChange, IsPositioned, position_changed, row_in}
 use Rattle.dv_join.specs.Inner.Turning.{if_any}
 
--- whether a row shares a value with either of two documents, where they are there
+-- whether a row shares a value with either of two documents, if there are any
 abbrev pub is_touched : Lookup → Option (List Field) → Option (List Field) → List Field → Bool
 is_touched l old new d = if_any (is_joined l.local l.foreign d) old || if_any (is_joined l.local l.foreign d) new
 
@@ -21,10 +21,10 @@ rows_touched l old new rows = length (filter (λ e. is_touched l old new e.1) ro
 abbrev pub rows_touched_by : Lookup → Positioned → Positioned → Change → ℕ
 rows_touched_by l rows foreign change = rows_touched l (at (position_changed change) foreign) (row_in change) rows
 
--- a change of the rows leads to at most so many changes of what is made of rows and documents
+-- a change of the rows leads to at most so many changes of the result for rows and documents
 abbrev pub RowChangesAtMost : ℕ → (Positioned → Positioned → Positioned) → Type 0
 RowChangesAtMost most makes = (rows foreign : Positioned) (change : Change) → IsPositioned rows → IsExactChange change → result_changes (λ some. makes some foreign) rows change ≤ most
 
--- a change of the documents leads to as many as a bound allows
+-- a change of the documents leads to at most as many as a bound allows
 abbrev pub DocumentChangesWithin : (Positioned → Positioned → Change → ℕ) → (Positioned → Positioned → Positioned) → Type 0
 DocumentChangesWithin bound makes = (rows foreign : Positioned) (change : Change) → IsPositioned rows → IsPositioned foreign → IsExactChange change → result_changes (λ some. makes rows some) foreign change ≤ bound rows foreign change

@@ -30,19 +30,20 @@ abbrev pub row_set : PosTree → Option (List Field) → Positioned → Position
 row_set pos None rows = gone pos rows
 row_set pos (Some row) rows = put pos row rows
 
--- the rows under a key, where another one came if that has the key, and else the one at its position went if that had it
+-- the rows under a key after a row at a position is exchanged: the new row is set if it has the key; otherwise the old row is
+-- removed if it had the key
 abbrev pub moved_in_index : PosTree → Bool → Option (List Field) → Bool → Positioned → Positioned
 moved_in_index pos had row has rows = cond has (row_set pos row rows) (cond had (gone pos rows) rows)
 
--- an index after a row at a position, under some keys, gave way to another one, under others
+-- an index after a row at a position, under some keys, was replaced by another one, under others
 abbrev pub ExchangedIn : PosTree → BTreeSet KeyTree → Option (List Field) → BTreeSet KeyTree → RowsByKey → RowsByKey → Type 0
 ExchangedIn pos old_keys row new_keys old new = (k : KeyTree) → under k new ≡ moved_in_index pos (contains key_order old_keys k) row (contains key_order new_keys k) (under k old)
 
--- an index after the row at a position went from under each of some keys that isn't one of the others
+-- an index after the row at a position was removed under each of some keys that isn't one of the others
 abbrev pub TakenOutOf : PosTree → BTreeSet KeyTree → BTreeSet KeyTree → RowsByKey → RowsByKey → Type 0
 TakenOutOf pos keys others old new = (k : KeyTree) → under k new ≡ cond (contains key_order keys k && not (contains key_order others k)) (gone pos (under k old)) (under k old)
 
--- whatever rows the index is of, these are the ones that have any of the keys, and these are they as values
+-- whatever rows are in the index, these are the ones that have any of the keys; and the same as values
 abbrev pub AreRowsUnder : RowsByKey → List KeyTree → Positioned → Type 0
 AreRowsUnder index keys all = (has : KeyTree → List Field → Bool) (rows : Positioned) → IsPositioned rows → IsJoinIndexOf has rows index → all ≡ filter (λ e. has_any has keys e.1) rows
 

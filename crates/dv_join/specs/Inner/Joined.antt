@@ -1,4 +1,4 @@
--- Rows joined with the documents of an index, whatever documents it is of.
+-- Rows joined with the documents of an index, whatever documents are in it.
 use Rattle.std.specs.Prelude.{◌≡◌, Option}
 use Rattle.std.specs.BTreeSet.{BTreeSet, contains}
 use Rattle.dv_order.specs.Key.{KeyTree, key_order}
@@ -19,7 +19,7 @@ abbrev pub copy_joined : Lookup → Positioned → Row → Row → Row
 copy_joined l documents row copied = set_field l.target (joined_documents l (forget documents) row) copied
 
 module _ (l : Lookup) (foreign : RowsByKey) where
-  -- these are the rows joined, where others were made of them that differ by the target
+  -- these are the joined rows, if the copied rows differ from the rows only by the target
   abbrev pub AreJoined : Positioned → Positioned → Positioned → Type 0
   AreJoined rows copied joined = (documents : Positioned) (made : Row → Row) → IsPositioned documents → IsJoinIndexOf (has_foreign l) documents foreign → IsPositioned rows → DiffersByTarget l made → copied ≡ made_of made rows → joined ≡ looked_up_at l rows documents
 
@@ -27,10 +27,10 @@ module _ (l : Lookup) (foreign : RowsByKey) where
   abbrev pub AddsJoined : PosTree → Row → Row → Positioned → Positioned → Type 0
   AddsJoined pos row copied joined more = (documents : Positioned) → IsPositioned documents → IsJoinIndexOf (has_foreign l) documents foreign → more ≡ put pos (copy_joined l documents row copied) joined
 
-  -- this is the copy of a row that is looked up by these keys, with what that row is joined with
+  -- this is the copied row with what a row that is looked up by these keys is joined with
   abbrev pub IsCopyJoined : BTreeSet KeyTree → Row → Row → Type 0
   IsCopyJoined keys copied joined = (documents : Positioned) (row : Row) → IsPositioned documents → IsJoinIndexOf (has_foreign l) documents foreign → ((k : KeyTree) → contains key_order keys k ≡ has_local l k row) → joined ≡ copy_joined l documents row copied
 
-  -- this is the row at a position joined, where there is one, which is looked up by these keys
+  -- this is the joined row at a position, if there is a row; it is looked up by these keys
   abbrev pub IsJoinedAlone : PosTree → Option Row → BTreeSet KeyTree → Positioned → Type 0
   IsJoinedAlone pos row keys joined = (documents : Positioned) → IsPositioned documents → IsJoinIndexOf (has_foreign l) documents foreign → AreLocalKeys l row keys → joined ≡ looked_up_at l (alone pos row) documents

@@ -19,7 +19,7 @@ module _ (l : Lookup) (foreign : Positioned) where
   same_places [] = refl
   same_places (e ∷ rows) = ap (λ ks. e.0 ∷ ks) (same_places rows)
 
-  -- what stands at a position
+  -- the row at a position
   pub at-looked_up : (q : PosTree) (rows : Positioned) → at q (looked_up_at l rows foreign) ≡ option_map (joined_row l (forget foreign)) (at q rows)
   at-looked_up q [] = refl
   at-looked_up q (e ∷ rows) = by (is_eq (pos_order q e.0)) (at-looked_up q rows)
@@ -29,7 +29,7 @@ module _ (l : Lookup) (foreign : Positioned) where
       by true rest = refl
       by false rest = rest
 
-  -- what was made of the row at a position stands there among what was made of all
+  -- the joined row for the row at a position is at this position among all joined rows
   pub looked_up_alone : (made : Positioned) (q : PosTree) (row : Option (List Field)) (rows : Positioned) → made ≡ looked_up_at l rows foreign → at q rows ≡ row → alone q (at q made) ≡ looked_up_at l (alone q row) foreign
   looked_up_alone made q row rows is there = ap (alone q) (ap (at q) is ∙ at-looked_up q rows ∙ ap (option_map (joined_row l (forget foreign))) there) ∙ by row
     where

@@ -25,16 +25,16 @@ has_local l k d = is_some_key k (joined_by l.local d)
 abbrev pub has_foreign : Lookup → KeyTree → List Field → Bool
 has_foreign l k d = is_some_key k (leaf_values l.foreign d)
 
--- a test of a document, where there may be none
+-- a test of a document, false if there is none
 abbrev pub if_any : (List Field → Bool) → Option (List Field) → Bool
 if_any test None = false
 if_any test (Some d) = test d
 
--- these are the keys of the values by which a row is looked up, where there is one
+-- these are the keys of the values by which a row is looked up, if there is one
 abbrev pub AreLocalKeys : Lookup → Option (List Field) → BTreeSet KeyTree → Type 0
 AreLocalKeys l row keys = (k : KeyTree) → contains key_order keys k ≡ if_any (has_local l k) row
 
--- what an operator may have taken in: one list, and rows; both stand at exact positions, in their order, and are indexed by their
+-- what an operator may have taken in: one list, and rows; both are at exact positions, in ascending order, and are indexed by their
 -- keys
 pub record HoldsJoin (o : LookupOperator) (others : List Positioned) (rows : Positioned) : Type 0 where
   pub left : IsPositioned rows
@@ -54,7 +54,7 @@ lookup_kept t = t.keeping.operator.lookup
 abbrev pub lookup_left : LookupTurn → Positioned
 lookup_left t = t.keeping.rows.entries
 
--- the rows of the list that it looks into
+-- the rows of the list that it reads
 abbrev pub lookup_others : LookupTurn → List Positioned
 lookup_others t = map (λ m. m.entries) t.keeping.lists.items
 
@@ -62,10 +62,10 @@ lookup_others t = map (λ m. m.entries) t.keeping.lists.items
 abbrev pub lookup_makes : LookupTurn → List Positioned → Positioned → Positioned
 lookup_makes t named rows = looked_up_at (lookup_kept t) rows (first_input named)
 
--- the rows of both sides stand at exact positions, in their order, and are indexed by their keys
+-- the rows of both sides are at exact positions, in ascending order, and are indexed by their keys
 abbrev pub IsSoundJoin : LookupTurn → Type 0
 IsSoundJoin t = HoldsJoin t.keeping.operator (lookup_others t) (lookup_left t)
 
--- it is the stage of the joined rows, which looks into the list
+-- it is the stage of the joined rows, which reads the list
 abbrev pub lookup_turning : Turning LookupTurn
 lookup_turning = record { form = λ t. record { makes = lookup_makes t; named = lookup_others t }; left = lookup_left; sound = IsSoundJoin }

@@ -1,4 +1,4 @@
--- Documents that a path sorts ahead of a bar, and the key under which an index has them.
+-- Documents that a path sorts before a bar, and the key under which an index has them.
 use Rattle.std.specs.Prelude.{◌≡◌, ◌&&◌, ◌||◌, Bool, true, false, List, Option, None, Some}
 use Rattle.std.specs.Ordering.{is_eq, is_lt}
 use denote.Ref.{Bor}
@@ -11,12 +11,12 @@ use Rattle.dv_keyed.specs.declared.before.Bar.{Bar}
 use Rattle.dv_keyed.specs.Inner.Keys.{refers_to}
 use Rattle.dv_keyed.specs.Inner.Pairs.{IsOnlyKey, LeadFrom, Pair, has_pair}
 
--- whether an `_id`'s key is less than an end, where there is one
+-- whether there is an end, and an `_id`'s key is less than it
 abbrev pub is_until : KeyTree → Option (Bor KeyTree) → Bool
 is_until id None = false
 is_until id (Some end) = is_lt (key_order id end.now)
 
--- whether a document is ahead of a bar, in a direction, that is sorted by a key and has this `_id`'s key
+-- whether a document that is sorted by a key and has this `_id`'s key is before a bar, in a direction
 abbrev pub stands_ahead : Direction → Bar → KeyTree → KeyTree → Bool
 stands_ahead direction bar k id = stands_first direction k bar.key.now || (is_eq (key_order k bar.key.now) && is_until id bar.until)
 
@@ -29,12 +29,12 @@ leaf_sorted_by (value v) = value v
 abbrev pub null_key : KeyTree
 null_key = value (canon null)
 
--- the references lead to each `_id` that has a leaf sorted ahead of the bar, if the leaf's key passes a test
+-- the references lead to each `_id` that has a leaf sorted before the bar, if the leaf's key passes a test
 abbrev pub HaveAllAhead : Direction → Bar → (KeyTree → Bool) → List Pair → List (Bor KeyTree) → Type 0
 HaveAllAhead direction bar test ps ids =
     (k i : KeyTree) → stands_ahead direction bar k i ≡ true → test (leaf_sorted_by k) ≡ true → LeadFrom (leaf_sorted_by k) i ps ids
 
--- the same of those whose only key passes the test, and of all that have several keys
+-- the same for the `_id`s whose only key passes the test, and for all that have several keys
 abbrev pub HaveTriedAhead : Direction → Bar → (KeyTree → Bool) → List Pair → List (Bor KeyTree) → Type 0
 HaveTriedAhead direction bar alone ps ids =
     (k i : KeyTree) → stands_ahead direction bar k i ≡ true → has_pair (leaf_sorted_by k) i ps ≡ true → (IsOnlyKey (leaf_sorted_by k) i ps → alone (leaf_sorted_by k) ≡ true) → refers_to ids i ≡ true

@@ -32,15 +32,15 @@ is_one_condition ms = false
 abbrev pub HasKeyWithin : Condition → KeyTree → List Pair → Type 0
 HasKeyWithin c id ps = (k : KeyTree) × (covers c k ≡ true) × (has_pair k id ps ≡ true)
 
--- exactly those keys stand between two ends that are in the bounds of both conditions
+-- the keys between two ends are exactly those in the bounds of both conditions
 abbrev pub HasKeysOfBoth : Interval → Condition → Condition → Type 0
 HasKeysOfBoth ends c e = (k : KeyTree) → is_between ends k ≡ (covers c k && covers e k)
 
--- two ranges have exactly those keys in common that stand between two ends
+-- the conditions are two ranges, and the keys between two ends are exactly those in both
 abbrev pub IsInBoth : Interval → Condition → Condition → Type 0
 IsInBoth ends c e = (is_bound c ≡ true) × (is_bound e ≡ true) × HasKeysOfBoth ends c e
 
--- conditions, a member of a filter or a filter under a path that are such ranges
+-- the conditions are two such ranges; the member of a filter, or the filter, has only these conditions, under the path
 abbrev pub AreClosed : Interval → Conditions → Type 0
 AreClosed ends (more_conditions c (more_conditions e no_conditions)) = IsInBoth ends c e
 AreClosed ends cs = ⊥
@@ -57,7 +57,7 @@ IsClosed ends path ms = ⊥
 abbrev pub HasOneKey : List (List ℕ) → List Field → Type 0
 HasOneKey path d = (k l : KeyTree) → is_leaf_key k path d ≡ true → is_leaf_key l path d ≡ true → is_eq (key_order k l) ≡ true
 
--- a document matches exactly if one of its keys under the path stands between two ends
+-- a document matches exactly if one of its keys under the path is between two ends
 abbrev pub MatchesBetween : Interval → List (List ℕ) → Members → List Field → Type 0
 MatchesBetween ends path filter d = (matches filter d ≡ true) ↔ ((k : KeyTree) × (is_between ends k ≡ true) × (is_leaf_key k path d ≡ true))
 
@@ -65,7 +65,7 @@ MatchesBetween ends path filter d = (matches filter d ≡ true) ↔ ((k : KeyTre
 abbrev pub HasKeyBetween : Interval → KeyTree → List Pair → Type 0
 HasKeyBetween ends id ps = (k : KeyTree) × (is_between ends k ≡ true) × (has_pair k id ps ≡ true)
 
--- the index at a place is there, and each document that matches has a leaf of its path in the bounds
+-- there is an index at a place, and each document that matches has a leaf of its path in the bounds
 abbrev pub IsAnswered : Members → List (List (List ℕ)) → ℕ → Condition → Type 0
 IsAnswered filter paths place bounds =
     (path : List (List ℕ)) × (slice_get paths place ≡ Some path) × ((d : List Field) → matches filter d ≡ true → has_within bounds path d ≡ true)

@@ -16,7 +16,7 @@ abbrev pub is_in_each : KeyTree → Conditions → Bool
 is_in_each k no_conditions = true
 is_in_each k (more_conditions c cs) = is_in_bounds k c && is_in_each k cs
 
--- the same of the conditions of the top conjunction that stand under a path
+-- the same for the conditions of the top conjunction under a path
 unfoldable mutual
   pub is_in_all : KeyTree → List (List ℕ) → Members → Bool
   is_in_all k path no_members = true
@@ -31,6 +31,6 @@ unfoldable mutual
   is_in_filters k path no_filters = true
   is_in_filters k path (more_filters f fs) = is_in_all k path f && is_in_filters k path fs
 
--- whether a key stands between two ends
+-- whether a key is between two ends
 abbrev pub is_between : Interval → KeyTree → Bool
 is_between ends k = range_contains key_order ends.low ends.high k

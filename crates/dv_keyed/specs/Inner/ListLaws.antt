@@ -1,4 +1,4 @@
--- Lists by tests of their items, lists of lent items, and paths.
+-- Tests of the items of lists, lists of references, and paths.
 use Rattle.std.proofs.Common.{Bor, filter, ◌≡◌, ℕ, zero, suc, ◌+◌, ◌<◌, List, [], ◌∷◌, length, map, take, get_or, refl, ap, sym, ◌∙◌, arith, Bool, true, false, cond, ◌&&◌, ◌||◌, add-one, Some}
 use Rattle.std.proofs.Math.Bool.{or-false, or_assoc}
 use Rattle.std.proofs.lemmas.Bool.{and_parts}
@@ -36,7 +36,7 @@ any-kept r q (x ∷ xs) = at (r x) (any-kept r q xs)
     at true e = ap (λ b. q x || b) e
     at false e = e
 
--- what is kept of lent items is kept of what they are
+-- filtering references keeps the same items as filtering what they refer to
 pub map-kept : {X : Type 0} (p : X → Bool) (xs : List (Bor X)) → map (λ (x : Bor X). x.now) (filter (λ (x : Bor X). p x.now) xs) ≡ filter p (map (λ (x : Bor X). x.now) xs)
 map-kept {X = X} p [] = refl
 map-kept {X = X} p (x ∷ xs) = at (p x.now) (map-kept p xs)

@@ -1,5 +1,5 @@
--- What a plan in memory stands for: the place of an index and the condition that bounds its keys, or none, for a scan. And what an index
--- is that isn't made yet.
+-- What a plan in memory stands for: the place of an index and the condition that bounds its keys, or none, for a scan. And the form
+-- of an index that isn't made yet.
 use Rattle.std.specs.Prelude.{ℕ, Bool, Option, Some, None}
 use Rattle.dv_value.specs.View.{tree}
 use Rattle.dv_match.specs.Filter.{Condition, equal, among, in_range}

@@ -9,7 +9,7 @@ use Rattle.dv_match.specs.declared.range.Range.{Range}
 use Rattle.dv_match.specs.declared.range.Range.TheVariants.{Above, AtLeast, Below, AtMost}
 use Rattle.dv_match.specs.Filter.{Condition, equal, among, in_range}
 
--- how a key has to stand to a bound
+-- how a key has to compare to a bound
 abbrev pub stands_so : Range → Ordering → Bool
 stands_so Above o = is_gt o
 stands_so AtLeast o = is_ge o

@@ -1,4 +1,4 @@
--- Where conditions are asked: of what a path leads to in a document, or of an element by itself.
+-- What conditions are checked on: what a path leads to in a document, or an element by itself.
 use Rattle.std.specs.Prelude.{List, [], ◌∷◌, Some}
 use Rattle.dv_value.specs.View.{tree}
 use Rattle.dv_candidates.specs.Candidates.{Candidate, whole, leaves, with_elements}
@@ -11,7 +11,7 @@ wholes (Path d p) = whole d.now p.now
 wholes (Sole c) = seen c ∷ []
 wholes (Element v) = Some (tree v.now) ∷ []
 
--- with the elements of arrays, but of an element that is one by itself
+-- with the elements of arrays, except of an array that is an element by itself
 abbrev pub parts : Subject → List Candidate
 parts (Path d p) = leaves d.now p.now
 parts (Sole c) = with_elements (seen c)

@@ -1,4 +1,4 @@
--- Values that candidates are compared with together: a block of them, and a mark for each to which one was equal.
+-- Values that candidates are compared with together: a block of values, and a mark for each to which a candidate was equal.
 use Rattle.std.specs.Prelude.{◌≡◌, ◌==◌, ◌||◌, ◌<◌, ◌≤◌, ℕ, Bool, List, length, slice_index_or}
 use Rattle.std.specs.Int.{bit_at}
 use Rattle.std.specs.List.{list_any}
@@ -9,7 +9,7 @@ use Rattle.dv_match.specs.Inner.Choices.{Ascend}
 use Rattle.dv_match.specs.Match.{is_equal}
 use Rattle.dv_match.specs.declared.marks.Marks.{Marks}
 
--- as many values as there can be marks for, in order
+-- values in order, at least one, and at most as many as there can be marks for
 pub record IsBlock (values : List Value) : Type 0 where
   pub ascending : Ascend values
   pub some : 0 < length values

@@ -1,4 +1,4 @@
--- The values of $in and $all in memory, and beside them each once, in order.
+-- The values of $in and $all in memory, and copies of them, each once, in order.
 use Rattle.std.specs.Prelude.{◌≡◌, ◌==◌, ◌<◌, ℕ, Bool, false, List, map, length, Option, Some, None, slice_index_or}
 use Rattle.std.specs.List.{list_any}
 use Rattle.std.specs.List.Sorted.{IsStrictlySortedBy}
@@ -18,11 +18,11 @@ value_order v w = order (tree v) (tree w)
 abbrev pub Ascend : List Value → Type 0
 Ascend values = IsStrictlySortedBy value_order values
 
--- a test answers alike of values that compare equal
+-- a test has the same result for values that compare equal
 abbrev pub RespectsEqual : (Tree → Bool) → Type 0
 RespectsEqual test = (v w : Tree) → order v w ≡ Equal → test v ≡ test w
 
--- the values ascend, and one of them passes such a test where one of the list does
+-- the values ascend, and one of them passes such a test exactly if one of the list does
 pub record AreChoicesInOrder (vs : List Tree) (values : List Value) : Type 0 where
   pub ascending : Ascend values
   pub same : (test : Tree → Bool) → RespectsEqual test → list_any test (map tree values) ≡ list_any test vs

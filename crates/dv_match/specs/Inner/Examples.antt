@@ -1,4 +1,4 @@
--- Worked examples: what a filter answers of a document, both as they are written.
+-- Worked examples: the result of a filter for a document, both as they are written.
 use Rattle.std.specs.Prelude.{ℕ, Bool, List, [], ◌∷◌, Result, Ok, codes}
 use Rattle.dv_value.specs.Short.{int, one, doc, list}
 use Rattle.dv_value.specs.Tree.{Tree, Field, fields_of}
@@ -8,7 +8,7 @@ use Rattle.dv_match.specs.Match.{matches}
 use Rattle.dv_match.specs.Parsing.{filter_in}
 use Rattle.dv_value.specs.Results.{◌>>=◌}
 
--- whether the document matches the filter, or the fault of what is no filter
+-- whether the document matches the filter, or the fault if it is no filter
 abbrev pub answer : List Field → List Field → Result Bool FilterFault
 answer filter d = filter_in (fields_of filter) >>= λ ms. Ok (matches ms d)
 

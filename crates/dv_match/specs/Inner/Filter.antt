@@ -1,8 +1,8 @@
--- Of `Filter`, what only bodies and proofs need.
+-- What only bodies and proofs need of `Filter`.
 use Rattle.std.specs.Prelude.{ℕ, suc, ◌+◌}
 use Rattle.dv_match.specs.Filter.{Member, Members, Filters, Condition, Conditions, Test, all_of, any_of, none_of, at_path, no_members, more_members, no_filters, more_filters, equal, unequal, in_range, among, not_among, unmet, contains, exists, sized, has_element, no_conditions, more_conditions, by_operators, by_filter}
 
--- how many parts a form has, itself among them: the measure of a recursion over it
+-- the number of parts of a form, itself included: the measure of recursions over it
 abbrev mutual
   pub member_weight : Member → ℕ
   member_weight (all_of fs) = suc (filters_weight fs)

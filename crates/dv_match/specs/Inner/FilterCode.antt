@@ -1,4 +1,4 @@
--- A filter's form as a ghost value, one to one: so a proof can tell two forms apart.
+-- A filter's form as a ghost value, one to one, so that a proof can distinguish two forms.
 use Rattle.std.specs.Prelude.{◌≡◌, ℕ, List, refl}
 use Rattle.std.proofs.Common.{ap, ap₂}
 use base.Stored.{Gv, gnum, gcons, gnil, Coded, coded_ℕ, coded_bool, coded_list}

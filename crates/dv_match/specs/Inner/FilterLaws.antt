@@ -1,4 +1,4 @@
--- Filters: what their parts weigh, and what the first field of a value says that is a document.
+-- Filters: the weights of their parts, and what the first field of a document says of it.
 use Rattle.std.proofs.Common.{◌≡◌, ap, sym, refl, List, [], ◌∷◌, ℕ, zero, suc, ◌≤◌, ◌<◌, false, map, Some, None, slice_get, length, get_or, arith}
 use Rattle.dv_value.specs.Tree.{Tree, Field, fields_of}
 use Rattle.dv_value.specs.Names.{begins_with_dollar}

@@ -1,4 +1,4 @@
--- Of `Parsing`, what only bodies and proofs need.
+-- What only bodies and proofs need of `Parsing`.
 use Rattle.std.specs.Prelude.{ℕ, List, Result}
 use Rattle.dv_value.specs.Tree.{Tree}
 use Rattle.dv_match.specs.declared.fault.FilterFault.{FilterFault}

@@ -6,7 +6,7 @@ use Rattle.dv_value.specs.Spelling.{counted, element_spelling, elements_spelling
 use Rattle.dv_value.specs.Tree.{Field, elements_of}
 use Rattle.dv_command.specs.Replies.{batch_reply, cursor_of, document_of}
 
--- a row in an array, behind the number of its place
+-- a row in an array, after the number of its place
 unfoldable pub row_spelling : ℕ → List Field → List ℕ
 row_spelling place row = element_spelling kinds.Doc (decimal place) (spelling row)
 
@@ -22,6 +22,6 @@ id_spelling id namespace = 18 ∷ 105 ∷ 100 ∷ 0 ∷ (to_le_bytes w64 id ++ 2
 unfoldable pub cursor_spelling : List ℕ → List ℕ → ℕ → List (List Field) → List ℕ
 cursor_spelling name namespace id rows = spelling (cursor_of name namespace id (map document_of rows))
 
--- the reply with it
+-- the reply with the cursor
 unfoldable pub batch_spelling : List ℕ → List ℕ → ℕ → List (List Field) → List ℕ
 batch_spelling name namespace id rows = spelling (batch_reply name namespace id (map document_of rows))

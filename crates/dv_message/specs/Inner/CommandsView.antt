@@ -15,7 +15,7 @@ abbrev pub ReadAs : {X Y : Type 0} → (X → Y) → Result X BsonFault → Resu
 ReadAs view (Ok x) read = read ≡ Ok (view x)
 ReadAs view (Err fault) read = (fault ≡ NoMemory) ⊎ (read ≡ Err fault)
 
--- the first of these documents, at most so many, where all can be read
+-- the first of these documents, at most `most`, if all can be read
 abbrev pub front_read : ℕ → List (List ℕ) → Result (List (List Field)) BsonFault
 front_read most documents = each_read fields_in documents >>= λ all. Ok (take most all)
 

@@ -7,15 +7,15 @@ use Rattle.dv_message.specs.Message.{Message, Conversation, reading, closed, spl
 
 -- ---- words for them
 
--- the bytes bring these messages, and then their session stands so
+-- the bytes contain these messages, and then their session is in this state
 abbrev pub BringsMessages : List ℕ → List Message → Conversation → Type 0
 BringsMessages bytes messages conversation = split bytes ≡ record { messages = messages; conversation = conversation }
 
--- they are less than a message, and are kept
+-- the bytes are less than a message, and are kept
 abbrev pub IsKeptUnread : List ℕ → Type 0
 IsKeptUnread bytes = BringsMessages bytes [] (reading bytes)
 
--- their session is closed
+-- the bytes close their session
 abbrev pub ClosesSession : List ℕ → CloseFault → Type 0
 ClosesSession bytes fault = BringsMessages bytes [] (closed fault)
 
@@ -27,7 +27,7 @@ header size code = size ∷ 0 ∷ 0 ∷ 0 ∷ 7 ∷ 0 ∷ 0 ∷ 0 ∷ 0 ∷ 0 �
 abbrev pub op_msg_header : ℕ → List ℕ
 op_msg_header size = header size (0xdd ∷ 0x07 ∷ [])
 
--- a message of 26 bytes with these flags, and without any
+-- a message of 26 bytes with these flags, and an empty document
 abbrev pub flagged : List ℕ → List ℕ
 flagged flags = op_msg_header 26 ++ flags ++ 0 ∷ 5 ∷ 0 ∷ 0 ∷ 0 ∷ 0 ∷ []
 
@@ -42,7 +42,7 @@ empty_document = 5 ∷ 0 ∷ 0 ∷ 0 ∷ 0 ∷ []
 abbrev pub asks : Bool → List ℕ → Message
 asks more_to_come document = record { request_id = 7; more_to_come = more_to_come; sections = body document ∷ [] }
 
--- the bytes are these sections, or none
+-- the bytes consist of these sections; or, below, of no valid ones
 abbrev pub Are : List ℕ → List Section → Type 0
 Are bytes sections = sections_in bytes ≡ Some sections
 
@@ -62,7 +62,7 @@ pub record HeaderExamples : Type 0 where
   pub shortest : IsKeptUnread (26 ∷ 0 ∷ 0 ∷ 0 ∷ [])
   pub longest : IsKeptUnread (0x00 ∷ 0x6c ∷ 0xdc ∷ 0x02 ∷ [])
   pub too_long : ClosesSession (0x01 ∷ 0x6c ∷ 0xdc ∷ 0x02 ∷ []) BadLength
-  -- the length first
+  -- the length is checked first
   pub length_first : ClosesSession (header 25 (0xdc ∷ 0x07 ∷ [])) BadLength
   -- the code by the sixteenth
   pub code_later : IsKeptUnread (26 ∷ 0 ∷ 0 ∷ 0 ∷ 7 ∷ 0 ∷ 0 ∷ 0 ∷ 0 ∷ 0 ∷ 0 ∷ 0 ∷ 0xdc ∷ 0x07 ∷ 0 ∷ [])
@@ -84,7 +84,7 @@ pub record SectionExamples : Type 0 where
   pub shown_later : IsKeptUnread (sectioned 26 (2 ∷ 5 ∷ 0 ∷ 0 ∷ 0 ∷ []))
   pub kind_2 : ClosesSession (sectioned 26 (2 ∷ 5 ∷ 0 ∷ 0 ∷ 0 ∷ 0 ∷ [])) BadSection
   pub kind_0 : BringsMessages (sectioned 26 (0 ∷ empty_document)) (asks false empty_document ∷ []) (reading [])
-  -- documents under a name, in front of the body and behind it
+  -- documents under a name, before the body and after it
   pub in_front : Are (nothing_under 100 ++ 0 ∷ empty_document) (named (100 ∷ []) [] ∷ body empty_document ∷ [])
   pub behind : Are (0 ∷ (empty_document ++ nothing_under 100)) (body empty_document ∷ named (100 ∷ []) [] ∷ [])
   pub two_documents : Are (0 ∷ (empty_document ++ 1 ∷ 16 ∷ 0 ∷ 0 ∷ 0 ∷ 100 ∷ 0 ∷ (empty_document ++ empty_document)))
@@ -92,19 +92,19 @@ pub record SectionExamples : Type 0 where
   pub two_names : Are (nothing_under 100 ++ nothing_under 101 ++ 0 ∷ empty_document) (named (100 ∷ []) [] ∷ named (101 ∷ []) [] ∷ body empty_document ∷ [])
   pub one_name_twice : AreNone (nothing_under 100 ++ nothing_under 100 ++ 0 ∷ empty_document)
   pub no_body : AreNone (nothing_under 100)
-  -- a size counts itself, and leads to the message's end at most; a name ends within it, and so does each document
+  -- a size includes itself, and leads to the message's end at most; a name ends within it, and so does each document
   pub size_too_small : AreNone (0 ∷ (empty_document ++ 1 ∷ 4 ∷ 0 ∷ 0 ∷ 0 ∷ 100 ∷ 0 ∷ []))
   pub size_too_large : AreNone (0 ∷ (empty_document ++ 1 ∷ 7 ∷ 0 ∷ 0 ∷ 0 ∷ 100 ∷ 0 ∷ []))
   pub name_without_end : AreNone (0 ∷ (empty_document ++ 1 ∷ 6 ∷ 0 ∷ 0 ∷ 0 ∷ 100 ∷ 100 ∷ []))
   pub document_too_long : AreNone (0 ∷ (empty_document ++ 1 ∷ 11 ∷ 0 ∷ 0 ∷ 0 ∷ 100 ∷ 0 ∷ 6 ∷ 0 ∷ 0 ∷ 0 ∷ 0 ∷ []))
   pub two_bodies : ClosesSession (sectioned 32 (0 ∷ 5 ∷ 0 ∷ 0 ∷ 0 ∷ 0 ∷ 0 ∷ empty_document)) BadSection
-  -- a document's length is that of the body, and 5 at least
+  -- the length in a document is the number of its bytes, and at least 5
   pub too_short : ClosesSession (sectioned 26 (0 ∷ 4 ∷ 0 ∷ 0 ∷ 0 ∷ 0 ∷ [])) BadSection
   pub too_long : ClosesSession (sectioned 26 (0 ∷ 6 ∷ 0 ∷ 0 ∷ 0 ∷ 0 ∷ [])) BadSection
   pub least_document : Are (0 ∷ empty_document) (body empty_document ∷ [])
   pub no_document : AreNone (0 ∷ 4 ∷ 0 ∷ 0 ∷ 0 ∷ [])
-  -- what is in it is for the command to say
+  -- what is in a document is checked only for the command
   pub unreadable : BringsMessages (sectioned 26 (0 ∷ 5 ∷ 0 ∷ 0 ∷ 0 ∷ 9 ∷ [])) (asks false (5 ∷ 0 ∷ 0 ∷ 0 ∷ 9 ∷ []) ∷ []) (reading [])
-  -- behind a message comes the next, or a fault that closes the session behind it
+  -- after a message comes the next, or a fault, which closes the session after the message
   pub two : BringsMessages (sectioned 26 (0 ∷ empty_document) ++ flagged (2 ∷ 0 ∷ 0 ∷ 0 ∷ []) ++ 26 ∷ []) (asks false empty_document ∷ asks true empty_document ∷ []) (reading (26 ∷ []))
   pub fault_behind : BringsMessages (sectioned 26 (0 ∷ empty_document) ++ 25 ∷ 0 ∷ 0 ∷ 0 ∷ []) (asks false empty_document ∷ []) (closed BadLength)

@@ -9,7 +9,8 @@ use Rattle.dv_message.specs.declared.sections.Sections.{Sections}
 use Rattle.dv_message.specs.declared.sections.Sections.TheVariants.{One, Several}
 use Rattle.dv_message.specs.Sections.{Section, body, named, section_frame}
 
--- the documents that bytes frame, one behind the other, up to where they frame none; as many steps as there are bytes are enough
+-- the documents that lengths frame in the bytes, one after the other, up to where there is none; as many steps as there are bytes
+-- are enough
 abbrev pub frames_from : Option (List ℕ × List ℕ) → (List ℕ → List (List ℕ)) → List (List ℕ)
 frames_from None others = []
 frames_from (Some frame) others = frame.0 ∷ others frame.1
@@ -32,7 +33,7 @@ abbrev pub sections_seen : Sections → List Section
 sections_seen (One section) = section_seen section ∷ []
 sections_seen (Several sections) = map section_seen sections.items
 
--- there is no such thing, or memory ran out to look for it
+-- there is no such thing, or memory ran out in looking for it
 abbrev pub MissedBy : {Y : Type 0} → CloseFault → Option Y → Type 0
 MissedBy BadSection found = found ≡ None
 MissedBy NoMemory found = ⊤

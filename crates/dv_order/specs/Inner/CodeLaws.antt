@@ -1,4 +1,4 @@
--- Keys stand as their codes do, where these differ.
+-- Keys are ordered as their codes are, if these differ.
 use Rattle.std.specs.Prelude.{◌≡◌, ◌⊎◌, ℕ, zero, suc, ◌+◌, ◌*◌, ◌<◌, nat_lt, ℤ, pos, negsuc, Bool, true, false, cond, List, [], ◌∷◌, refl}
 use Rattle.std.proofs.Common.{inl, inr, ap, sym, ◌∙◌, arith}
 use Rattle.std.proofs.lemmas.Bool.{cases_lt}
@@ -120,7 +120,7 @@ value_ahead min_key min_key e h = never h _
 value_ahead max_key max_key e h = never h _
 value_ahead v w e h = cc
 
--- a key of a lower class stands before another one
+-- a key of a lower class is before another one
 pub class_ahead : (k l : KeyTree) → key_class k < key_class l → key_order k l ≡ Less
 class_ahead no_element no_element h = absurd (omega arith)
 class_ahead no_element (value w) h = sym (nat_cmp_is 1 (class w) Less h)

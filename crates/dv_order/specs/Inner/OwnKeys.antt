@@ -6,7 +6,7 @@ use Rattle.dv_order.specs.Key.{KeyTree, key_at, key_order}
 use Rattle.dv_order.specs.Inner.SameOrder.{same_key}
 use Rattle.dv_order.specs.OwnKeys.{IsOwn}
 
--- such keys that stand beside each other are one
+-- two such keys that compare as equal are the same key
 pub own_keys_are_one : (k l : KeyTree) → IsOwn k → IsOwn l → key_order k l ≡ Equal → k ≡ l
 own_keys_are_one k l own-k own-l e =
     let beside : key_order (key_at own-k.of) (key_at own-l.of) ≡ Equal = (λ i. key_order (sym own-k.is i) (sym own-l.is i)) ∙ e in

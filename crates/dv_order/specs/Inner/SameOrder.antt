@@ -1,4 +1,4 @@
--- The order does not see the width of integers, and tells apart what differs in anything else.
+-- The order ignores the width of integers, and distinguishes values that differ in anything else.
 use Rattle.std.specs.Prelude.{◌≡◌, ◌↔◌, Bool, true, false, Option, None, Some, length, ◌<◌, refl}
 use Rattle.std.proofs.Common.{sym, ap, ◌∙◌}
 use Rattle.std.specs.declared.cmp.Ordering.{Ordering}

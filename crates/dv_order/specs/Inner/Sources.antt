@@ -1,4 +1,4 @@
--- What holds of a key's memory, and what a key that is looked at stands for.
+-- What is true of how a key is stored, and which key a `Shown` stands for.
 use Rattle.std.specs.Prelude.{◌≤◌, ℕ, List, length, take, ⊤}
 use Rattle.std.specs.Str.{IsUtf8}
 use Rattle.dv_value.specs.Tree.{Tree, string, document, array, binary, fields_of, elements_of}
@@ -20,7 +20,7 @@ IsSound (Middle len bytes) = IsTextIn len bytes.value
 IsSound (Long len bytes) = IsTextIn len bytes.value
 IsSound s = ⊤
 
--- no few bytes tell it
+-- the value does not fit into a few bytes
 abbrev pub IsLarge : Tree → Type 0
 IsLarge (string s) = ⊤
 IsLarge (document fs) = ⊤

@@ -46,7 +46,7 @@ items v = []
 abbrev pair_cmp : (Tree → Tree → Ordering) → Field → Field → Ordering
 pair_cmp R = then_cmp (on (λ f. class f.1) nat_cmp) (then_cmp (on (λ f. f.0) (slice_cmp nat_cmp)) (on (λ f. f.1) R))
 
--- the order of values by what stands above the depth n
+-- the order of values by their first n levels
 abbrev order_to : ℕ → Tree → Tree → Ordering
 order_to zero = on (λ v. 0) nat_cmp
 order_to (suc n) =

@@ -20,7 +20,7 @@ abbrev pub field_alone : List (List ℕ) → Option (List ℕ)
 field_alone (name ∷ []) = Some name
 field_alone path = None
 
--- whether a value stands where a path leads
+-- whether a path leads to a value
 abbrev pub is_taken : Slot → Bool
 is_taken (taken v) = true
 is_taken s = false

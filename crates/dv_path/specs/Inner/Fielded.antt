@@ -12,7 +12,7 @@ at-case : (here : Bool) (name : List ℕ) (v : Tree) (f : Field) (fs : List Fiel
 at-case true name v f fs is later = rw is refl
 at-case false name v f fs is later = rw is later
 
--- the value that was put under a name stands there
+-- a name leads to the value that was put under it
 pub field-at : (name : List ℕ) (v : Tree) (fs : List Field) → value_under name (with_field name (Some v) fs) ≡ Some v
 field-at name v [] = rw ((bytes_eq-Decides name name).1 refl) refl
 field-at name v (f ∷ fs) = at-case (bytes_eq name f.0) name v f fs refl (field-at name v fs)
@@ -35,7 +35,7 @@ other-alone : (name other : List ℕ) (c : Candidate) → (other ≡ name → �
 other-alone name other None ne = refl
 other-alone name other (Some v) ne = rw (differ other name ne) refl
 
--- what stands under another name stays
+-- the value under another name stays
 pub field-other : (name other : List ℕ) (c : Candidate) (fs : List Field) → (other ≡ name → ⊥) → value_under other (with_field name c fs) ≡ value_under other fs
 field-other name other c [] ne = other-alone name other c ne
 field-other name other c (f ∷ fs) ne = other-case (bytes_eq name f.0) (bytes_eq other f.0) name other c f fs refl refl ne (field-other name other c fs ne)

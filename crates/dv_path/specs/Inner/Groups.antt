@@ -41,12 +41,12 @@ with_component [] = []
 with_component ([] ∷ paths) = with_component paths
 with_component ((name ∷ path) ∷ paths) = (name ∷ path) ∷ with_component paths
 
--- the paths stand in these groups
+-- the paths are in these groups
 pub record IsGrouping (groups : List Group) (paths : List (List (List ℕ))) : Type 0 where
   pub whole : ungrouped groups ≡ with_component paths
   pub filled : AreFilled groups
 
--- a group of this name, which may have stood last, and those before it
+-- a group of this name, which may have been the last one, and those before it
 pub record HasGroup (groups before : List Group) (name : List ℕ) (g : Group) : Type 0 where
   pub named : g.0 ≡ name
   pub whole : ungrouped before ++ begun name g.1 ≡ ungrouped groups
@@ -57,7 +57,7 @@ abbrev pub begins_with_none : List (List (List ℕ)) → Bool
 begins_with_none ([] ∷ paths) = true
 begins_with_none paths = false
 
--- a value without what the paths lead to in it, one after the other, and null where it goes itself
+-- a value without what the paths lead to in it, one after the other, and null if the value itself is removed
 abbrev pub left_of_each : List (List (List ℕ)) → Tree → Tree
 left_of_each [] v = v
 left_of_each (path ∷ paths) v = left_of_each paths (unwrap_or (left_behind path v) null)

@@ -8,6 +8,6 @@ use Rattle.dv_match.specs.Filter.{Members, no_members, more_members, at_path, no
 abbrev pub having_one_of : List (List ℕ) → List Tree → Members
 having_one_of path values = more_members (at_path path (more_conditions (among values) no_conditions)) no_members
 
--- whatever the test, a value of all of them passes exactly if an old one does, or one of these
+-- for any test, one of `all` passes exactly if one of `old` or one of `more` passes
 abbrev pub AddsToTests : List Tree → List Tree → List Tree → Type 0
 AddsToTests more old all = (test : Tree → Bool) → list_any test all ≡ (list_any test old || list_any test more)

@@ -1,4 +1,4 @@
--- Words that bodies need.
+-- Definitions that bodies need.
 use Rattle.std.specs.Prelude.{◌≡◌, ℕ, List, [], ◌∷◌, Option, Some, None, if◌then◌else◌}
 use Rattle.std.specs.List.{flat_map}
 use Rattle.dv_match.specs.Match.{matches}
@@ -20,12 +20,12 @@ use Rattle.dv_pipe.specs.declared.step.Work.TheVariants as work
 use Rattle.dv_pipe.specs.Sources.{Row, Source, lists_of}
 use Rattle.dv_pipe.specs.Stages.{through}
 
--- how many of the first rows stages see, where there are more
+-- how many of the first rows the stages see, if they don't see all
 abbrev pub wanted : List Stage → Option ℕ
 wanted (Limit count ∷ ss) = Some count
 wanted ss = None
 
--- what work makes of a row
+-- what work returns for a row
 abbrev pub rows_of_work : works.Work → Row → List Row
 rows_of_work (work.Match form) d = if matches form.now d then d ∷ [] else []
 rows_of_work (work.Project p) d = projected p.now d ∷ []
@@ -35,26 +35,26 @@ rows_of_work (work.Lookup j) d = joined_row j.0 j.1 d ∷ []
 abbrev pub rows_of_step : Step → Row → List Row
 rows_of_step s = rows_of_work s.work
 
--- what steps make of a row, one after the other
+-- what steps return for a row, one after the other
 abbrev pub passed : List Step → Row → List Row
 passed [] d = d ∷ []
 passed (s ∷ ss) d = flat_map (passed ss) (rows_of_step s d)
 
--- what becomes of rows behind steps
+-- what the end of a run returns for rows
 abbrev pub ended : End → List Row → List Row
 ended (ends.Front most) ds = front most ds
 ended (ends.Sort parts most) ds = front most (stable parts.now ds)
 ended (ends.Group g) ds = grouped g.now ds
 
--- what a stage makes of rows
+-- what a stage returns for rows
 abbrev pub rows_of_part : parts.RunPart → List Row → List Row
 rows_of_part (by.Step s) ds = flat_map (rows_of_step s) ds
 rows_of_part (by.End e) ds = ended e ds
 
--- what a run makes of rows
+-- what a run returns for rows
 abbrev pub rows_of_run : Run → List Row → List Row
 rows_of_run r ds = ended r.end (flat_map (passed r.steps.items) ds)
 
--- whatever the rows, the later stages return for what is made of them first what all the stages return for them
+-- for any rows, the later stages return for the result of `first` what all the stages return for the rows
 abbrev pub ComesToSame : List ℕ → List Source → List Stage → (List Row → List Row) → List Stage → Type 0
 ComesToSame source sources later first stages = (rows : List Row) → through later source (lists_of sources) (first rows) ≡ through stages source (lists_of sources) rows

@@ -1,4 +1,4 @@
--- Parts that are parsed one after the other: what loops go by.
+-- Parts that are parsed one after the other: lemmas for loops.
 use Rattle.std.proofs.Common.{◌≡◌, ◌∙◌, ap, sym, refl, List, [], ◌∷◌, ◌++◌, ℕ, zero, suc, ◌+◌, ◌<◌, ◌≤◌, drop, map, length, get_or, arith, append_assoc, append-nil, Result, Ok, Err, ◌⊎◌, inl, inr}
 use Rattle.dv_row.specs.declared.fault.PipelineFault.{PipelineFault}
 use Rattle.dv_row.specs.declared.fault.PipelineFault.TheVariants.{NoMemory}
@@ -23,7 +23,7 @@ pub none-yet : {Y : Type 0} (r : Result (List Y) PipelineFault) → r ≡ after_
 none-yet (Ok ys) = refl
 none-yet (Err e) = refl
 
--- ys, and behind them what the rest gives
+-- ys, followed by what the rest gives
 module _ {X Y : Type 0} (f : X → Result Y PipelineFault) (ys : List Y) (rest : List X) where
   module _ (x : X) (others : List X) (here : rest ≡ x ∷ others) where
     pub each-next : (y : Y) → f x ≡ Ok y → after_each ys (each f rest) ≡ after_each (ys ++ y ∷ []) (each f others)
@@ -55,12 +55,12 @@ module _ {X Y : Type 0} (f : X → Result Y PipelineFault) (xs : List X) (i : �
   pub parsed-all : length xs ≤ i → each f xs ≡ Ok ys
   parsed-all past = parsed.so_far ∙ each-over f ys (drop i xs) (drop-past xs i past)
 
--- each over what is seen of a list
+-- `each` over the views of a list
 pub each-map : {W X Y : Type 0} (f : X → Result Y PipelineFault) (view : W → X) (ws : List W) → each f (map view ws) ≡ each (λ w. f (view w)) ws
 each-map f view [] = refl
 each-map f view (w ∷ ws) = ap (λ r. f (view w) >>= λ y. r >>= λ ys. Ok (y ∷ ys)) (each-map f view ws)
 
--- a fault of a part is that of the whole
+-- a fault of a part is the fault of the whole
 pub gives-fault : {X Y Y' : Type 0} (view : X → Y) (r : Result X PipelineFault) (e : PipelineFault) (parsed : Result Y' PipelineFault) (whole : Result Y PipelineFault) → r ≡ Err e → (e ≡ NoMemory) ⊎ (parsed ≡ Err e) → (parsed ≡ Err e → whole ≡ Err e) → Gives NoMemory view r whole
 gives-fault view r e parsed whole is (inl m) f = rw is (inl m)
 gives-fault view r e parsed whole is (inr p) f = rw is (inr (f p))

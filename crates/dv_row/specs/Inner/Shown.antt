@@ -13,11 +13,11 @@ use Rattle.dv_row.specs.Row.{Row}
 abbrev pub Paths : Type 0
 Paths = List (List (List ℕ))
 
--- what a $project that includes these paths makes of a row
+-- what a $project that includes these paths returns for a row
 abbrev pub included : Paths → Row → Row
 included paths row = projected (Include paths nothing) row
 
--- what one that excludes them makes of it
+-- what a $project that excludes these paths returns for a row
 abbrev pub excluded : Paths → Row → Row
 excluded paths row = projected (Exclude paths) row
 
@@ -25,7 +25,7 @@ excluded paths row = projected (Exclude paths) row
 abbrev pub document_under : List ℕ → Row → Field
 document_under name d = (name, document (fields_of d))
 
--- a document under a name is shown as a row by itself is, by what is left of the paths behind the name
+-- a document under a name is shown as a row by itself is, with what follows the name in the paths
 abbrev pub IsShownInside : (Paths → Row → Row) → Paths → List ℕ → Row → Type 0
 IsShownInside show paths name d = show paths (document_under name d ∷ []) ≡ document_under name (show (paths_behind name paths) d) ∷ []
 
@@ -79,7 +79,7 @@ AreUnmet paths es = AllByRecursion (λ e. begins_at paths e.0 ≡ false) es
 
 -- ---- documents inside others
 
--- what stands around a document inside another one: its name, and the fields in front of it and behind it
+-- what is around a document inside another one: its name, and the fields before it and after it
 pub record Level : Type 0 where
   pub front : Row
   pub name : List ℕ
@@ -90,7 +90,7 @@ abbrev pub within : List Level → Row → Row
 within [] d = d
 within (l ∷ ls) d = l.front ++ (l.name, document (fields_of (within ls d))) ∷ l.back
 
--- the names that lead to it
+-- the names that lead to a document at such levels
 abbrev pub way_through : List Level → List (List ℕ)
 way_through ls = map (λ l. l.name) ls
 
@@ -105,8 +105,8 @@ bare_level l = record { front = []; name = l.name; back = [] }
 abbrev pub bare_levels : List Level → List Level
 bare_levels levels = map bare_level levels
 
--- where a path leads through levels to a name and on, the document inside them is shown as a row by itself is, by the rest of the
--- path; around it stand these levels
+-- if a path leads through levels to a name and on, the document inside them is shown as a row by itself is, with the rest of the
+-- path; around it these levels are left
 abbrev pub IsShownWithin : (Paths → Row → Row) → List Level → List Level → List ℕ → List (List ℕ) → Row → Type 0
 IsShownWithin show levels left name rest d = show (way_to levels name rest ∷ []) (within levels d) ≡ within left (show ((name ∷ rest) ∷ []) d)
 

@@ -1,4 +1,4 @@
--- Rows that can be spelled: what stages make of one is valid too, where the stage was read from valid values.
+-- Rows that have an encoding: the result of a stage for such a row is valid too, if the stage was read from valid values.
 use Rattle.std.proofs.Common.{◌≡◌, ◌∙◌, sym, refl, subst, ℕ, ◌||◌, Bool, true, false, List, [], ◌∷◌, ◌++◌, Some, None, Option, Result, Ok, Err, codes, if◌then◌else◌}
 use Rattle.std.specs.Bool.{⊤}
 use Rattle.std.specs.List.{AllByRecursion, filter_map}

@@ -1,4 +1,4 @@
--- What $project and $unwind make of valid rows is valid.
+-- What $project and $unwind return for valid rows is valid.
 use Rattle.std.proofs.Common.{◌≡◌, refl, ℕ, ◌||◌, ◌&&◌, not, Bool, true, false, List, [], ◌∷◌, ◌++◌, map, Some, None, Option, Ok}
 use Rattle.std.specs.List.{AllByRecursion, list_any}
 use Rattle.std.specs.Option.{IfSome}
@@ -133,7 +133,7 @@ unfolding projected
 projected-valid (Include paths es) d sound valid = with_computed-valid es d (row_left true paths d) sound valid (row_left-valid true paths d valid)
 projected-valid (Exclude paths) d sound valid = row_left-valid false paths d valid
 
--- ---- what $unwind makes of a row
+-- ---- what $unwind returns for a row
 
 in_document-valid : (look : List Field → Candidate) → ((fs : List Field) → IsValid fs → IfSome (look fs) IsValue) → (c : Candidate) → IfSome c IsValue → IfSome (in_document look c) IsValue
 in_document-valid look sound (Some (document fs)) value = sound (list_of_fields fs) (listed-fields fs value)

@@ -8,8 +8,8 @@ use Rattle.dv_scripts.specs.Stops.{EndsAt}
 use Rattle.dv_words.specs.declared.fault.ScriptFault.{ScriptFault}
 use Rattle.dv_scripts.specs.declared.script.Progress.{Progress}
 
--- Behind a line's first bytes come these. The lines that end in them are done, whatever comes after, and what stands behind the last
--- LF is kept.
+-- These bytes follow a line's first ones. The lines that end in them are done, whatever follows, and the bytes after the last LF
+-- are kept.
 pub record TakesPiece (old : OpenSessions) (line bytes text : List ℕ) (new : OpenSessions) (kept : List ℕ) : Type 0 where
   pub lines : List (List ℕ)
   pub split : (after : List ℕ) → slice_split is_lf (line ++ (bytes ++ after)) ≡ lines ++ slice_split is_lf (kept ++ after)

@@ -1,4 +1,4 @@
--- Of `Front`, what only bodies and proofs need.
+-- What only bodies and proofs need of `Front`.
 use Rattle.std.specs.Prelude.{◌≡◌, ℕ, Bool, true, false, List, Option, refl}
 use Rattle.std.specs.Coded.{Coded, code_by, coded×, coded_list, coded_ℕ, coded_bool, coded_option}
 use Rattle.dv_value.specs.Tree.{Field}

@@ -1,4 +1,4 @@
--- Of `Keys`, what only bodies and proofs need.
+-- What only bodies and proofs need of `Keys`.
 use Rattle.std.specs.Prelude.{◌≡◌, Bool, List, ◌∷◌, length, map, All}
 use Rattle.std.specs.Ordering.{nat_cmp, is_lt, ordering_then}
 use Rattle.std.specs.declared.cmp.Ordering.{Ordering}
@@ -10,16 +10,16 @@ use Rattle.dv_path.specs.SortKey.{sort_key}
 use Rattle.dv_path.specs.SortSpec.{Part}
 use Rattle.dv_sort.specs.declared.row.Row.{Row}
 
--- the keys by which the parts of a sort have a document
+-- the keys by which the parts of a sort order a document
 abbrev pub row_keys : List Part → List Field → List KeyTree
 row_keys parts d = map (λ p. sort_key d p.0 p.1) parts
 
--- how two keys stand in a direction
+-- the order of two keys in a direction
 abbrev pub directed : Direction → KeyTree → KeyTree → Ordering
 directed Ascending k l = key_order k l
 directed Descending k l = key_order l k
 
--- how two lists of keys stand: by the first part whose keys differ; lists of different lengths are of no one sort
+-- the order of two lists of keys: the first part whose keys differ decides; lists of different lengths are not of one sort
 abbrev pub keys_order : List Part → List KeyTree → List KeyTree → Ordering
 keys_order (p ∷ parts) (k ∷ ks) (l ∷ ls) = ordering_then (directed p.1 k l) (keys_order parts ks ls)
 keys_order parts ks ls = nat_cmp (length ks) (length ls)

@@ -1,4 +1,4 @@
-//! Documents as text: plain numbers are int32, L marks int64, texts stand in single quotes, bytes behind an x.
+//! Documents as text: plain numbers are int32, L marks int64, texts are in single quotes, bytes follow an x.
 
 use dv_value::{Document, List, Value};
 use std::alloc::AllocError;

@@ -1,4 +1,4 @@
--- Worked examples: what an update makes of a document, both as they are written.
+-- Worked examples: the result of an update for a document, both as they are written.
 use Rattle.std.specs.Prelude.{ℕ, List, [], ◌∷◌, Result, codes}
 use Rattle.dv_value.specs.Tree.{Tree, Field}
 use Rattle.dv_update.specs.declared.fault.UpdateFault.{UpdateFault}
@@ -55,6 +55,6 @@ with_a vs = id_and ((codes "a", list vs) ∷ [])
 abbrev pub start : List Field
 start = with_a (int 1 ∷ int 2 ∷ long 2 ∷ int 3 ∷ [])
 
--- what the update makes of the document, or the fault of either
+-- the result of the update for the document, or the fault of parsing or applying it
 abbrev pub outcome : List Field → List Field → Result (List Field) UpdateFault
 outcome update d = update_of update >>= λ u. applied u d

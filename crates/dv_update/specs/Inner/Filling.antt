@@ -1,4 +1,4 @@
--- Arrays that edits fill with nulls, how long they are at least, and what is made without filling them.
+-- Arrays that edits fill with nulls, how long they are at least, and the result without filling them.
 use Rattle.std.specs.Prelude.{◌≡◌, ℕ, ◌+◌, ◌*◌, ◌-◌, ◌<◌, ◌&&◌, ◌||◌, min, not, nat_le, Bool, false, List, [], ◌∷◌, take, length, Option, Some, None, is_some, slice_get, Result, Ok, Err, codes, ◌⊎◌, if◌then◌else◌}
 use Rattle.std.specs.Option.{option_map}
 use Rattle.std.specs.Str.{bytes_eq}
@@ -16,13 +16,13 @@ use Rattle.dv_update.specs.Update.{Edit}
 use Rattle.dv_update.specs.declared.fault.UpdateFault.{UpdateFault}
 use Rattle.dv_update.specs.declared.fault.UpdateFault.TheVariants.{NoMemory}
 
--- what edits make, or the first refusal
+-- the result of edits, or the first refusal
 abbrev pub Made : Type 0
 Made = Result (List Field) UpdateFault
 
 -- ---- where arrays are filled
 
--- the same further on from an element, or here where there is none and nulls may fill up to the place
+-- `beyond` from an element on; if there is no element and nulls may fill the array up to its place, the path itself
 abbrev pub beyond_element : (Option Tree → Option Path) → Path → ℕ → Option Tree → Option Path
 beyond_element further path place None = if nat_le place 100000 then Some path else None
 beyond_element further path place (Some v) = further (Some v)
@@ -31,14 +31,14 @@ abbrev pub beyond_array : (Option Tree → Option Path) → Path → Option ℕ 
 beyond_array further path None vs = None
 beyond_array further path (Some place) vs = beyond_element further path place (slice_get vs place)
 
--- what is left of a path from an array on, beyond whose end it leads from a value on
+-- the rest of a path from an array on, if the path leads from the value to this array and beyond its end
 abbrev pub beyond : Path → Option Tree → Option Path
 beyond [] c = None
 beyond (name ∷ names) (Some (document fs)) = beyond names (value_under name (list_of_fields fs))
 beyond (name ∷ names) (Some (array vs)) = beyond_array (beyond names) (name ∷ names) (index_of name) (list_of_elements vs)
 beyond (name ∷ names) c = None
 
--- the path of an edit that fills an array, and what is left of it from the array on
+-- the path of an edit that fills an array, and the rest of it from the array on
 abbrev pub Fill : Type 0
 Fill = Path × Path
 
@@ -66,7 +66,7 @@ fills_id d e = is_some (leading_id d) && leads_into_id e.0 && is_some (fill_of d
 
 -- ---- how long filled arrays are at least
 
--- the way to the array
+-- the path to the array
 abbrev pub array_of : Fill → Path
 array_of f = take (length f.0 - length f.1) f.0
 
@@ -74,18 +74,18 @@ abbrev pub first_number : Path → ℕ
 first_number [] = 0
 first_number (name ∷ names) = number_of name
 
--- the place beyond its end
+-- the place beyond the array's end
 abbrev pub place_of : Fill → ℕ
 place_of f = first_number f.1
 
--- the bytes of so many elements: of each its type, the digits of its place and a zero
+-- the bytes of this many elements at least: each has its type, the digits of its place and a zero
 abbrev pub elements_least : ℕ → ℕ
 elements_least count = 3 * count + (count - 10) + (count - 100) + (count - 1000) + (count - 10000)
 
 abbrev pub least : ℕ → ℕ
 least place = elements_least (min place 100000 + 1)
 
--- whether the next one leads into the same array
+-- whether the next fill leads into the same array
 abbrev pub leads_into_same : Fill → List Fill → Bool
 leads_into_same f [] = false
 leads_into_same f (g ∷ fs) = begins (array_of f) g.0
@@ -97,17 +97,17 @@ abbrev pub least_size : List Fill → ℕ
 least_size [] = 0
 least_size (f ∷ fs) = first_least f fs + least_size fs
 
--- what is made is longer than what is stored, where nothing is refused
+-- if nothing is refused, the result is longer than a stored document may be
 abbrev pub IsTooLarge : Made → Type 0
 IsTooLarge made = (after : List Field) → made ≡ Ok after → document_limit < length (spelling after)
 
--- ---- what is made without filling them
+-- ---- the result without filling them
 
--- what is refused of the result, too
+-- the result after the final checks
 abbrev pub judged : List Field → Made → Made
 judged old made = made >>= checked old
 
--- whether an edit isn't made, as it fills an array: one in `_id` only where such edits are left out, too
+-- whether an edit is left out because it fills an array; one that fills an array in `_id` is left out only if `with_id` is true
 abbrev pub left_out : Bool → List Field → Edit → Bool
 left_out with_id d e = is_some (fill_of d e) && (with_id || not (leads_into_id e.0))
 
@@ -115,21 +115,21 @@ left_out with_id d e = is_some (fill_of d e) && (with_id || not (leads_into_id e
 abbrev pub SameId : Bool → List Field → List Field → Type 0
 SameId with_id left after = with_id ≡ false → leading_id left ≡ leading_id after
 
--- further edits are refused as all of them are, and else the `_id` is the same
+-- further edits are refused as all of them are; if they aren't refused, the `_id` is the same
 pub record IsUnfilled (with_id : Bool) (document : List Field) (further : List Edit) (whole : Made) : Type 0 where
   pub refused : (f : UpdateFault) → edited (other_edits further) document ≡ Err f → whole ≡ Err f
   pub made : (left : List Field) → edited (other_edits further) document ≡ Ok left → (after : List Field) × (whole ≡ Ok after) × SameId with_id left after
 
--- it is so of what was made, or the first refusal is told
+-- this holds for what was made, or the fault is the first refusal
 abbrev pub Unfills : Bool → Made → List Edit → Made → Type 0
 Unfills with_id (Ok made) further whole = IsUnfilled with_id made further whole
 Unfills with_id (Err f) further whole = (f ≡ NoMemory) ⊎ (whole ≡ Err f)
 
--- the same where no edit is left
+-- the same if no edit is left
 abbrev pub Unfilled : Bool → Made → Made → Type 0
 Unfilled with_id (Ok made) whole = (after : List Field) × (whole ≡ Ok after) × SameId with_id made after
 Unfilled with_id (Err f) whole = (f ≡ NoMemory) ⊎ (whole ≡ Err f)
 
--- whatever edits stand behind one, it is so of what this one makes, if it was so before
+-- whatever edits follow this one, it holds after this edit if it held before
 abbrev pub UnfillsOne : Bool → List Field → Edit → Made → Type 0
 UnfillsOne with_id d e made = (further : List Edit) → (whole : Made) → Steps (e ∷ further) → IsUnfilled with_id d (e ∷ further) whole → Unfills with_id made further whole

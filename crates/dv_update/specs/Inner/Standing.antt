@@ -18,19 +18,19 @@ pub record Stands (made document : List Field) (last : Option Last) : Type 0 whe
   pub alike : Alike made document
   pub known : IsKnown made last
 
--- an edit makes of the one what stands in for what it makes of the other; or that can't be told
+-- the result of an edit for the document in memory stands in for its result for the other; `None` says nothing
 abbrev pub Becomes : Result (Option StandIn) UpdateFault → Result (List Field) UpdateFault → Type 0
 Becomes (Ok None) made = ⊤
 Becomes (Ok (Some next)) made = (after : List Field) × (made ≡ Ok after) × Stands after next.document next.last
 Becomes (Err f) made = (f ≡ NoMemory) ⊎ (made ≡ Err f)
 
--- the same of all edits
+-- the same for all edits
 abbrev pub StandsFor : Result (Option (List Field)) UpdateFault → Result (List Field) UpdateFault → Type 0
 StandsFor (Ok None) made = ⊤
 StandsFor (Ok (Some document)) made = (after : List Field) × (made ≡ Ok after) × Alike after document
 StandsFor (Err f) made = (f ≡ NoMemory) ⊎ (made ≡ Err f)
 
--- what is made in memory is refused afterwards as what is defined, and else is it
+-- the result in memory is refused afterwards as the defined result is; if neither is refused, they are equal
 abbrev pub Likewise : List Field → Result (List Field) UpdateFault → Result (List Field) UpdateFault → Type 0
 Likewise old (Ok e) made = (made >>= checked old) ≡ checked old e
 Likewise old (Err f) made = (f ≡ NoMemory) ⊎ (made ≡ Err f)

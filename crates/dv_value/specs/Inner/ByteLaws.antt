@@ -20,7 +20,7 @@ IsBytes-take n bytes h i =
 pub IsBytes-drop : (n : ℕ) (bytes : List ℕ) → IsBytes bytes → IsBytes (drop n bytes)
 IsBytes-drop n bytes h i = rw get_or-drop (h (n + i))
 
--- names are equal either way round
+-- to compare two names the other way round has the same result
 pub bytes_eq-symmetric : (a b : List ℕ) → bytes_eq a b ≡ bytes_eq b a
 bytes_eq-symmetric a b = same_from_decides _ _ (bytes_eq-Decides a b) ((λ e. sym ((bytes_eq-Decides b a).0 e)), λ e. (bytes_eq-Decides b a).1 (sym e))
 

@@ -1,4 +1,4 @@
--- What is shown, and a field's own value, is no larger than the fields as they show themselves.
+-- The values that are shown, and the fields' own values, are no larger than the fields with what they show.
 use Rattle.std.specs.Prelude.{◌*◌, ◌+◌, ◌≤◌, List, [], ◌∷◌, Option, Some, None, map}
 use Rattle.std.proofs.Common.{arith, ap}
 use denote.Param.Weighed.{most}

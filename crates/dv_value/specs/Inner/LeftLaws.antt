@@ -1,11 +1,11 @@
--- Two lists gone through side by side from the front, where what is left of both decides.
+-- Two lists read side by side from the front, where what is left of both decides.
 use Rattle.std.specs.Prelude.{◌≡◌, ℕ, ◌+◌, List, [], ◌∷◌, length, true, false, refl, ◌⊎◌}
 use Rattle.std.specs.Ordering.{ordering_then, is_ne}
 use Rattle.std.specs.declared.cmp.Ordering.{Ordering}
 use Rattle.std.specs.declared.cmp.Ordering.TheVariants.{Less, Equal, Greater}
 use Rattle.std.proofs.Common.{ap, sym, ◌∙◌, arith}
 
--- us and vs are what is left of xs and ys after as many items of each, and f answers of them what it answers of these
+-- us and vs are what is left of xs and ys after as many items of each, and f returns the same for them as for xs and ys
 pub record IsLeft {A R : Type 0} (f : List A → List A → R) (xs ys us vs : List A) : Type 0 where
   pub passed : length us + length ys ≡ length vs + length xs
   pub decides : f us vs ≡ f xs ys
@@ -24,7 +24,7 @@ module _ {A R : Type 0} {f : List A → List A → R} {xs ys us vs : List A} (le
 
 module _ {A R : Type 0} {f : List A → List A → R} {xs ys us vs : List A} (left : IsLeft f xs ys us vs) (by : ℕ → ℕ → R)
     (both : (n m : ℕ) → n ≡ m → by n m ≡ f [] []) (first : (w : A) (ws : List A) (n m : ℕ) → n + length (w ∷ ws) ≡ m → by n m ≡ f [] (w ∷ ws)) (second : (w : A) (ws : List A) (n m : ℕ) → n ≡ m + length (w ∷ ws) → by n m ≡ f (w ∷ ws) []) where
-  -- where nothing is left of one list, the lengths decide
+  -- if nothing is left of one list, the lengths decide
   pub ended : (length us ≡ 0) ⊎ (length vs ≡ 0) → by (length xs) (length ys) ≡ f xs ys
   ended h = by_lengths us vs (length xs) (length ys) left.passed h ∙ left.decides
     where
@@ -34,7 +34,7 @@ module _ {A R : Type 0} {f : List A → List A → R} {xs ys us vs : List A} (le
       by_lengths (u ∷ us) [] n m e h = second u us n m (omega arith)
       by_lengths (u ∷ us) (v ∷ vs) n m e h = absurd (omega arith)
 
--- ---- a pair in order, and what comes behind it
+-- ---- a pair in order, and what follows it
 
 pub rest_is : (r o : Ordering) → false ≡ is_ne r → ordering_then r o ≡ o
 rest_is Less o h = cc

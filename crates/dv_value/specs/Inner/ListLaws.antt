@@ -6,7 +6,7 @@ use Rattle.std.proofs.lemmas.List.{length-map, take_more}
 use Rattle.std.proofs.lemmas.List.Folds.{list_any-append}
 use Rattle.std.proofs.lemmas.Option.{slice_get_read, slice_get-map}
 
--- the item at a place, as what is seen of it
+-- the view of the item at a place
 pub slice_get_seen : {X Y : Type 0} (view : X → Y) (xs : List X) (ys : List Y) (place : ℕ) (x : X) → map view xs ≡ ys → place < length xs → x ≡ get_or xs place x → slice_get ys place ≡ Some (view x)
 slice_get_seen view xs ys place x seen within is =
     let here : slice_get xs place ≡ Some x = slice_get_read xs (length xs) place x refl within is in
@@ -31,7 +31,7 @@ drop-read xs place x within is = drop_item xs place x (slice_get_read xs (length
 pub drop_seen : {X Y : Type 0} (view : X → Y) (xs : List X) (ys : List Y) (place : ℕ) → map view xs ≡ ys → length xs ≤ place → drop place ys ≡ []
 drop_seen view xs ys place seen past = drop_of_length-le ys (rw (← seen, length-map) past)
 
--- past it there is none, and all is taken
+-- past the last item there is none, and all are taken
 pub none-past : {X : Type 0} (xs : List X) (i : ℕ) → length xs ≤ i → slice_get xs i ≡ None
 none-past [] i h = refl
 none-past (x ∷ xs) zero h = absurd (omega arith)
@@ -51,7 +51,7 @@ pub positive : {X : Type 0} (xs : List X) → (xs ≡ [] → ⊥) → 0 < length
 positive [] some = absurd (some refl)
 positive (x ∷ xs) some = omega arith
 
--- what is made of nothing is nothing
+-- the image of nothing is nothing
 pub none-of : {X Y : Type 0} (f : X → Y) (r : Option X) (o : Option Y) → option_map f r ≡ o → ((x : X) → r ≡ Some x → ⊥) → o ≡ None
 none-of f None o e h = sym e
 none-of f (Some x) o e h = absurd (h x refl)
@@ -88,7 +88,7 @@ cond-or true false = refl
 cond-or false true = refl
 cond-or false false = refl
 
--- two answers that are true in the same cases are the same
+-- two truth values that are true in the same cases are the same
 pub same-truth : (a b : Bool) → (a ≡ true → b ≡ true) → (b ≡ true → a ≡ true) → a ≡ b
 same-truth true b to from = sym (to refl)
 same-truth false true to from = from refl

@@ -1,4 +1,4 @@
--- The names of lists of fields, of two lists one behind the other, and of one that a field is left out of.
+-- The names of lists of fields, of two such lists joined, and of a list without one of its fields.
 use Rattle.std.proofs.Common.{◌≡◌, ℕ, false, ◌||◌, List, [], ◌∷◌, ◌++◌, arith, refl}
 use Rattle.dv_value.specs.Tree.{Field}
 use Rattle.dv_value.specs.Names.{has_name, has_zero, AreNamed, without}

@@ -1,4 +1,4 @@
--- Where names stand, as a finite map.
+-- The places of names, as a finite map.
 use Rattle.std.specs.Prelude.{◌≡◌, ℕ, List, map}
 use Rattle.std.specs.BTreeMap.{BTreeMap}
 use Rattle.std.specs.Cmp.Lexicographic.{slice_cmp}
@@ -13,7 +13,7 @@ use Rattle.dv_value.specs.Names.{place_under}
 abbrev pub Places : Type 0
 Places = finite.FinMap (slice_cmp nat_cmp) ℕ
 
--- what a map under texts has, by the texts' bytes
+-- the entries of a map under texts, under the texts' bytes
 abbrev pub by_text : {X Y : Type 0} → BTreeMap (String Y) X → finite.FinMap (slice_cmp nat_cmp) X
 by_text m = finite.from_entries (map (λ e. (string_bytes e.0, e.1)) m.entries)
 

@@ -8,7 +8,7 @@ with_value_at place v [] = []
 with_value_at zero v (f ∷ fs) = (f.0, v) ∷ fs
 with_value_at (suc place) v (f ∷ fs) = f ∷ with_value_at place v fs
 
--- a value with the other one behind its elements, if it is an array
+-- a value with the other one after its elements, if it is an array
 abbrev pub with_value_behind : Tree → Tree → Tree
 with_value_behind v (array vs) = array (elements_of (list_of_elements vs ++ v ∷ []))
 with_value_behind v t = t

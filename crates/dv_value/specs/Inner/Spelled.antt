@@ -1,4 +1,4 @@
--- The spelling of a document field by field, and how long its parts are.
+-- The encoding of a document field by field, and how long its parts are.
 use Rattle.std.specs.Prelude.{◌≡◌, ℕ, ℤ, suc, ◌+◌, List, [], ◌∷◌, ◌++◌, length, decimal}
 use Rattle.std.specs.Int.{w32, w64, to_le_bytes, cast_unsigned}
 use Rattle.std.proofs.Common.{refl, length-append, arith}
@@ -6,7 +6,7 @@ use Rattle.dv_value.specs.declared.kind.Kind.{Kind}
 use Rattle.dv_value.specs.Spelling.{kind_of, framed, counted, tagged, element_spelling, payload, fields_spelling, elements_spelling}
 use Rattle.dv_value.specs.Tree.{Tree, int32, int64, string, binary, null, document, array, Fields, no_fields, Elements, no_elements, element, Field, fields_of, elements_of}
 
--- ---- what a field or an element adds in front of the others
+-- ---- what a field or an element adds before the others
 
 pub fields_spelling-field : (f : Field) (fs : List Field) → fields_spelling (fields_of (f ∷ fs)) ≡ element_spelling (kind_of f.1) f.0 (payload f.1) ++ fields_spelling (fields_of fs)
 unfolding fields_spelling
@@ -34,7 +34,7 @@ elements_spelling-nil place vs none = rw none refl
 length-count : (n : ℕ) → length (to_le_bytes w32 n) ≡ 4
 length-count n = refl
 
--- a count in front of a text, and a zero behind it
+-- a count before a text, and a zero after it
 length-enclosed : (n : ℕ) (text : List ℕ) → length (to_le_bytes w32 n ++ (text ++ 0 ∷ [])) ≡ length text + 5
 length-enclosed n text = omega (arith, length-append (to_le_bytes w32 n) (text ++ 0 ∷ []), length-append text (0 ∷ []), length-count n)
 
@@ -85,7 +85,7 @@ pub length-null : length (payload null) ≡ 0
 unfolding payload
 length-null = refl
 
--- ---- no field or element, and one in front of others
+-- ---- no field or element, and one before others
 
 pub length-no_fields : length (fields_spelling no_fields) ≡ 0
 unfolding fields_spelling

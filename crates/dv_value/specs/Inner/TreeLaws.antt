@@ -1,4 +1,4 @@
--- Fields and elements of trees as lists, and back; and what stands in valid fields.
+-- Fields and elements of trees as lists, and back; and the values in valid fields.
 use Rattle.std.proofs.Common.{◌≡◌, ℕ, Bool, true, false, List, [], ◌∷◌, Option, Some, if◌then◌else◌, refl, ap, subst}
 use Rattle.std.specs.Str.{bytes_eq}
 use Rattle.dv_value.specs.Names.{value_under}

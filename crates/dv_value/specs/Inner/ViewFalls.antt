@@ -1,4 +1,4 @@
--- A value inside is smaller than what it is in.
+-- A value is smaller than the document or list that it is in.
 use Rattle.std.specs.Prelude.{ℕ, ◌*◌, ◌≤◌, List, [], ◌∷◌, length, map}
 use Rattle.std.specs.List.{zip}
 use Rattle.std.proofs.Common.{arith}

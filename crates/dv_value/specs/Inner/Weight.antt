@@ -1,5 +1,5 @@
--- What stands in a document or a list weighs no more than its fields or elements, and so less than the document or the
--- list: the measure of a recursion over documents is `weight` of a value's tree, `fields_weight` or `elements_weight`.
+-- A value in a document or a list weighs no more than its fields or elements, and so less than the document or the list: the
+-- measure of a recursion over documents is `weight` of a value's tree, `fields_weight` or `elements_weight`.
 use Rattle.std.specs.Prelude.{◌≡◌, ℕ, zero, suc, ◌≤◌, ◌<◌, List, [], ◌∷◌, length, map, Some, slice_get, slice_index_or}
 use Rattle.std.proofs.Common.{ap, refl, arith}
 use Rattle.std.proofs.lemmas.Option.{slice_get_read, slice_get-map}
@@ -8,7 +8,7 @@ use Rattle.dv_value.specs.Tree.{Tree, Field, fields_of, elements_of}
 use Rattle.dv_value.specs.Inner.Tree.{weight, fields_weight, elements_weight}
 use Rattle.dv_value.specs.View.{tree}
 
--- a field's value, as `entry` gives it
+-- a field's value, as `entry` returns it
 pub field_weighs_less : (fs : List Field) (place : ℕ) (name : List ℕ) (value : Tree) → Some (name, value) ≡ slice_get fs place → weight value ≤ fields_weight (fields_of fs)
 field_weighs_less [] place name value e = absurd cc
 field_weighs_less (f ∷ fs) zero name value e =

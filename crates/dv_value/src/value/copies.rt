@@ -73,7 +73,7 @@ pub(super) fn copies_with(
     Ok(copies)
 }
 
-/// Puts copies of the values behind those that are there. Fails when memory runs out.
+/// Adds copies of the values at the end. Fails when memory runs out.
 fn put_copies(copies: &mut Vec<Value>, values: &[Value]) -> Result<(), NoMemory>
     ensures { OnOk result (map tree copies.new.items ≡ map tree copies.old.items ++ map tree values.now) }
 {

@@ -1,4 +1,4 @@
-//! Documents: how they are made, looked at and changed.
+//! Documents: how they are made, read and changed.
 
 ghost use Rattle.std.specs.Prelude.{◌≡◌, ◌<◌, ◌≤◌, ◌↔◌, ◌⊎◌, if◌then◌else◌, Some, None, [], ◌∷◌, ◌++◌, true, false, length, map, IsTrue, OnOk, OnErr, IfOk, IfErr, IfSome, IsErrOf, slice_get};
 ghost use Rattle.std.specs.Option.{option_map};
@@ -38,8 +38,8 @@ impl Document {
         Ok(Document { alloc, content })
     }
 
-    /// The document of these values under the names of the other's first fields, which they share. Fails with `NoMemory` when memory
-    /// runs out.
+    /// The document with these values under the names of the other's first fields. It shares these names. Fails with `NoMemory`
+    /// when memory runs out.
     pub fn like(document: &Document, values: Vec<Value>) -> Result<Self, NoMemory>
         requires { length values.items ≤ length document.now }
         ensures { IfOk result (λ like. like ≡ with_values document.now (map tree values.items)) }
@@ -50,7 +50,7 @@ impl Document {
         Ok(Document { alloc, content })
     }
 
-    /// The document with these fields, whose encoding is so long. The fields' unused room is freed. Fails with `NoMemory` when
+    /// The document with these fields, whose encoding has this size. The fields' unused room is freed. Fails with `NoMemory` when
     /// memory runs out.
     pub fn of(alloc: Global, mut fields: Fields, size: u32) -> Result<Self, NoMemory>
         requires { IsMeasure size fields }
@@ -67,7 +67,7 @@ impl Document {
     /// How many fields there are.
     pub fn len(&self) -> usize
         ensures len { result ≡ length self.now }
-        // No name holds a zero byte, and no two fields have one name.
+        // No name holds a zero byte, and no two fields have the same name.
         ensures named { AreNamed self.now }
     {
         match &self.content {
@@ -77,7 +77,7 @@ impl Document {
         }
     }
 
-    /// That no name holds a zero byte, and no two fields have one name. Does nothing.
+    /// States that no name holds a zero byte, and no two fields have the same name. Does nothing.
     pub fn law_named(&self)
         ensures { AreNamed self.now }
     {
@@ -154,9 +154,8 @@ impl Document {
         }
     }
 
-    /// Adds a field at the end. The name must hold no zero byte, and no field may have it: `push` looks whether it is so. Fields
-    /// that a copy shares are copied first. Fails with `NoMemory` when memory runs out; then nothing is changed, and the value is
-    /// dropped.
+    /// Adds a field at the end. The name must hold no zero byte, and no field may have it: `push` checks this. Fields that a copy
+    /// shares are copied first. Fails with `NoMemory` when memory runs out; then nothing is changed, and the value is dropped.
     pub fn add(&mut self, name: &str, value: Value) -> Result<(), NoMemory>
         requires whole { has_zero name.now ≡ false }
         requires fresh { has_name name.now self.old ≡ false }
@@ -173,8 +172,8 @@ impl Document {
         }
     }
 
-    /// Makes room for one more value where there is none, and for no further one: a document that is stored gets few more. Fields
-    /// that a copy shares are copied first. Fails when memory runs out.
+    /// Makes room for one more value if there is none, and for no further ones, since a stored document gets few more. Fields that
+    /// a copy shares are copied first. Fails when memory runs out.
     pub(crate) fn reserve_one(&mut self) -> Result<(), NoMemory>
         ensures { self.new ≡ self.old }
     {
@@ -184,9 +183,10 @@ impl Document {
         }
     }
 
-    /// Puts the value in place of the one under the name, and returns that one. If no field has the name, it returns none, changes
-    /// nothing and drops the value. If memory runs out, it changes nothing too. Memory is taken only if a copy shares the fields,
-    /// which are copied first. Otherwise it takes time logarithmic in the number of fields.
+    /// Puts the value in place of the one under the name, and returns the old one. If no field has the name, it returns none,
+    /// changes nothing and drops the value. If memory runs out, it changes nothing too. Memory is taken only if a copy shares the
+    /// fields, or the document shows values that other documents may share: then the fields are copied first. Otherwise it takes
+    /// time logarithmic in the number of fields.
     pub fn replace(&mut self, name: &str, value: Value) -> Result<Option<Value>, NoMemory>
         ensures before { IfOk result (λ before. option_map tree before ≡ value_under name.now self.old) }
         ensures ok { OnOk result (self.new ≡ with_value_under name.now (tree value) self.old) }
@@ -206,7 +206,7 @@ impl Document {
     }
 
     /// Puts the value in place of the one under the name, which is dropped. If no field has the name, nothing is changed and the
-    /// value is given back. If memory runs out, nothing is changed and the value is dropped. Memory is taken only if a copy shares
+    /// value is returned. If memory runs out, nothing is changed and the value is dropped. Memory is taken only if a copy shares
     /// the fields: then the other values are copied. Otherwise it takes time logarithmic in the number of fields; if the length of
     /// the encoding is kept, both values are also measured.
     pub fn put(&mut self, name: &str, value: Value) -> Result<Option<Value>, NoMemory>
@@ -221,8 +221,8 @@ impl Document {
         }
     }
 
-    /// Puts the value behind the elements of the array under the name; where there is no array, nothing is changed, and the value
-    /// is dropped. Fields that a copy shares are copied first. Fails when memory runs out.
+    /// Appends the value to the array under the name. If there is no array, nothing is changed, and the value is dropped. Fields
+    /// that a copy shares are copied first. Fails when memory runs out.
     pub(crate) fn push_element(&mut self, name: &str, value: Value) -> Result<(), NoMemory>
         ensures ok { OnOk result (self.new ≡ with_value_pushed name.now (tree value) self.old) }
         ensures err { OnErr result (self.new ≡ self.old) }
@@ -239,8 +239,8 @@ impl Document {
         Ok(())
     }
 
-    /// Takes away the field with the name, and returns its value. If no field has the name, it returns none and changes nothing. If
-    /// memory runs out, it changes nothing either. In time linear in the number of fields.
+    /// Removes the field with the name, and returns its value. If no field has the name, it returns none and changes nothing. If
+    /// memory runs out, it changes nothing either. Takes time linear in the number of fields.
     pub fn remove(&mut self, name: &str) -> Result<Option<Value>, NoMemory>
         ensures before { IfOk result (λ before. option_map tree before ≡ value_under name.now self.old) }
         ensures ok { OnOk result (self.new ≡ without name.now self.old) }
@@ -258,10 +258,10 @@ impl Document {
         Ok(before)
     }
 
-    /// Keeps the length of the encoding with the fields, if there is one, no copy shares them and they have at most 100 levels.
-    /// Then `size`, `fits` and writing need not compute it again. It is updated when a value is added, or put in place of one that
-    /// is dropped; other changes drop it. Nothing that a caller sees changes. Takes no memory. Takes constant time if it is kept
-    /// already, and otherwise time linear in what the document holds.
+    /// Keeps the length of the encoding with the fields, if there is one, no copy shares them, they show no values that other
+    /// documents may share, and they have at most 100 levels. Then `size`, `fits` and writing need not compute it again. It is
+    /// updated when a value is added, or put in place of one that is dropped; other changes drop it. Nothing that a caller sees
+    /// changes. Takes no memory. Takes constant time if it is kept already, and otherwise time linear in what the document holds.
     pub fn keep_size(&mut self)
         ensures { self.new ≡ self.old }
     {
@@ -290,7 +290,7 @@ impl Document {
         }
     }
 
-    /// The length of the spelling, where it is kept.
+    /// The length of the encoding, if it is kept.
     pub(crate) fn kept_size(&self) -> Option<u32>
         ensures { IfSome result (λ size. IsMeasure size self.now) }
     {
@@ -300,7 +300,7 @@ impl Document {
         }
     }
 
-    /// The name and the value of the field at `place`, which is there.
+    /// The name and the value of the field at `place`. There must be one.
     pub fn field(&self, place: usize) -> (&str, &Value)
         requires { place < length self.now }
         ensures { slice_get self.now place ≡ Some (result.0.now, tree result.1.now) }
@@ -340,8 +340,8 @@ impl Document {
     }
 }
 
-/// Puts the value in place of the one under the name; where no field has the name, the value is given back. Fields that a
-/// copy shares are copied without the one that goes.
+/// Puts the value in place of the one under the name; if no field has the name, the value is returned. Fields that a copy shares
+/// are copied without the value that is replaced.
 fn put_value(
     alloc: Global,
     shared: &mut Rc<Measured>,
@@ -364,7 +364,8 @@ fn put_value(
     Ok(None)
 }
 
-/// The same of fields, some of which show values that other documents share: those that stay are shared, too.
+/// The same for fields, some of which show values that other documents share. A copy of the fields shares the values that stay,
+/// too.
 fn put_over(
     alloc: Global,
     shared: &mut Rc<Overlay>,

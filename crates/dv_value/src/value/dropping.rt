@@ -1,5 +1,4 @@
-//! How the fields of documents are dropped: in a loop, since rows of views may have documents in one another some thousand
-//! times.
+//! How the fields of documents are dropped: in a loop, since in rows of views documents may be nested some thousand levels deep.
 
 ghost use Rattle.std.specs.Prelude.{◌≡◌, ◌+◌, ◌<◌, ◌≤◌, IfSome, map};
 ghost use Rattle.dv_value.specs.Tree.{fields_of, elements_of};
@@ -10,7 +9,7 @@ ghost use Rattle.dv_value.specs.View.{tree};
 use crate::value::{Content, Document, Fields, List, Measured, SharedText, Value};
 use std::rc::Rc;
 
-/// Drops the values and all that is in them. Takes no memory, and no more stack where they are deep.
+/// Drops the values and all that is in them. Takes no memory, and no more stack if they are deep.
 pub(super) fn drop_values(values: Vec<Value>) {
     let mut left = values;
     'values: while let Some(value) = left.pop() {
@@ -19,7 +18,7 @@ pub(super) fn drop_values(values: Vec<Value>) {
     left.destroy_empty();
 }
 
-/// Lets go of a text or a binary, and drops it if nothing else shares it. No other value is in it.
+/// Releases a text or a binary, and drops it if nothing else shares it. No other value is in it.
 pub(super) fn drop_shared(text: SharedText) {
     let Some(value) = text.into_value() else {
         return;
@@ -37,7 +36,7 @@ pub(super) fn drop_shared(text: SharedText) {
     }
 }
 
-/// Drops a value but for those in it. Gives these and the others, which are left.
+/// Drops a value except those in it. Returns these and the others: what is left to drop.
 fn opened(first: Value, others: Vec<Value>) -> Vec<Value>
     ensures { elements_weight (elements_of (map tree result.items)) < weight (tree first) + elements_weight (elements_of (map tree others.items)) }
 {
@@ -51,7 +50,8 @@ fn opened(first: Value, others: Vec<Value>) -> Vec<Value>
             inside.destroy_empty();
             return left;
         };
-        // There may be no room for more than one. So the others stand in place of the last one inside, which is next.
+        // There may be no room for more than one value. So the others, as one array, take the place of the last value inside, which
+        // is next.
         inside.push_reserved(Value::Array(List::of(left)));
         left = inside;
         value = last;
@@ -59,7 +59,7 @@ fn opened(first: Value, others: Vec<Value>) -> Vec<Value>
 }
 
 impl Value {
-    /// The values inside, and nothing where there can be none, or where a copy shares them.
+    /// The values inside, or `None` if there can be none or a copy shares them.
     fn into_values(self) -> Option<Vec<Value>>
         ensures { IfSome result (λ values. elements_weight (elements_of (map tree values.items)) < weight (tree self)) }
     {

@@ -1,4 +1,4 @@
-//! The fields of documents: values beside names that they may share.
+//! The fields of documents: values, and names that documents may share.
 
 ghost use Rattle.std.specs.Prelude.{◌≡◌, ◌+◌, ◌<◌, ◌≤◌, [], ◌∷◌, ◌++◌, false, length, take, map, OnOk, OnErr, IfOk, IfSome, slice_get};
 ghost use Rattle.std.specs.Option.{option_map};
@@ -16,7 +16,7 @@ use std::mem::replace;
 use std::rc::Rc;
 
 impl Fields {
-    /// No fields, with room for so many. Fails with `NoMemory` when memory runs out.
+    /// No fields, with room for this many. Fails with `NoMemory` when memory runs out.
     pub fn with_room(alloc: Global, fields: usize) -> Result<Self, NoMemory>
         ensures { IfOk result (λ fields. fields ≡ []) }
     {
@@ -47,8 +47,8 @@ impl Fields {
         })
     }
 
-    /// Fields of these values under the names of the document's first ones, which they share. Fails with `NoMemory` when memory runs
-    /// out.
+    /// Fields with these values under the names of the document's first fields. They share these names. Fails with `NoMemory` when
+    /// memory runs out.
     pub fn like(document: &Document, values: Vec<Value>) -> Result<Self, NoMemory>
         requires { length values.items ≤ length document.now }
         ensures { IfOk result (λ fields. fields ≡ with_values document.now (map tree values.items)) }
@@ -94,7 +94,7 @@ impl Fields {
         Some((name, value))
     }
 
-    /// The value under the name, where there is one.
+    /// The value under the name, if there is one.
     pub(super) fn get(&self, name: &str) -> Option<&Value>
         ensures { option_map (λ value. tree value.now) result ≡ value_under name.now self.now }
     {
@@ -102,7 +102,7 @@ impl Fields {
         Some(&self.values[place])
     }
 
-    /// The place of the field with the name, where there is one.
+    /// The place of the field with the name, if there is one.
     pub(super) fn place_of(&self, name: &str) -> Option<usize>
         ensures place { result ≡ place_under name.now self.now }
         ensures named { AreNamed self.now }
@@ -115,7 +115,7 @@ impl Fields {
         }
     }
 
-    /// Whether a field has the name. Takes constant time if others of the names that it shares have it next.
+    /// Whether a field has the name. Takes constant time if the name comes next in the list of names that the fields share.
     pub fn has(&self, name: &str) -> bool
         ensures has { result ≡ has_name name.now self.now }
         ensures named { AreNamed self.now }
@@ -142,14 +142,14 @@ impl Fields {
         Ok(())
     }
 
-    /// Makes room for one more value where there is none, and for no further one. Fails when memory runs out.
+    /// Makes room for one more value if there is none, and for no further ones. Fails when memory runs out.
     pub(super) fn reserve_one(&mut self) -> Result<(), NoMemory>
         ensures { self.new ≡ self.old }
     {
         self.values.reserve_exact(1)
     }
 
-    /// Puts the value in place of the one under the name, and gives that one, where there is one.
+    /// Puts the value in place of the one under the name, and returns the old one, if there is one.
     pub(super) fn replace(&mut self, name: &str, value: Value) -> Option<Value>
         ensures before { option_map tree result ≡ value_under name.now self.old }
         ensures after { self.new ≡ with_value_under name.now (tree value) self.old }
@@ -166,7 +166,7 @@ impl Fields {
         self.values[place] = value;
     }
 
-    /// Puts the value behind the elements of the array under the name, where there is one. Fails when memory runs out.
+    /// Appends the value to the array under the name, if there is one. Fails when memory runs out.
     pub(super) fn push_element(&mut self, name: &str, value: Value) -> Result<(), NoMemory>
         ensures ok { OnOk result (self.new ≡ with_value_pushed name.now (tree value) self.old) }
         ensures err { OnErr result (self.new ≡ self.old) }
@@ -188,7 +188,7 @@ impl Fields {
         })
     }
 
-    /// Takes away the field with the name, and gives its value, where there is one. The names are copied without it.
+    /// Removes the field with the name, and returns its value, if there is one. The names are copied without it.
     pub(super) fn remove(&mut self, name: &str) -> Result<Option<Value>, NoMemory>
         ensures before { IfOk result (λ before. option_map tree before ≡ value_under name.now self.old) }
         ensures ok { OnOk result (self.new ≡ without name.now self.old) }
@@ -202,7 +202,7 @@ impl Fields {
         Ok(Some(self.values.remove(place)))
     }
 
-    /// Gives back what room is left, where that can be done.
+    /// Frees unused room, if possible.
     pub(super) fn trim(&mut self)
         ensures { self.new ≡ self.old }
     {
@@ -216,7 +216,7 @@ impl Fields {
         }
     }
 
-    /// Keeps names of its own, so that those of a longer document can go with it; if memory runs out, all stays.
+    /// Copies the names, so that those of a longer document can be dropped with it; if memory runs out, nothing changes.
     fn leave_names(&mut self)
         ensures { self.new ≡ self.old }
     {
@@ -245,7 +245,7 @@ fn own_names(alloc: Global, names: &Names, count: usize) -> Result<Rc<Names>, No
     Ok(Rc::new(alloc, names.front(count)?)?)
 }
 
-/// Puts the name behind the first `count`, if it doesn't stand there. Names that are shared are copied first.
+/// Puts the name after the first `count`, if it isn't there. Names that are shared are copied first.
 fn put_name(alloc: Global, names: &mut Rc<Names>, count: usize, name: &str) -> Result<(), NoMemory>
     requires within { count ≤ length names.old.value }
     requires whole { has_zero name.now ≡ false }

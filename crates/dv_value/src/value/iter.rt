@@ -13,7 +13,7 @@ use std::ops::Range;
 #[derive(Debug, Drop)]
 pub struct DocumentIter<'a> {
     document: &'a Document,
-    /// Where these fields stand.
+    /// The places of these fields.
     places: Range<usize>,
 }
 

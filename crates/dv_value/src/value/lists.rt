@@ -32,7 +32,7 @@ impl List {
         self.values.as_slice()
     }
 
-    /// Puts the value behind the others. Fails when memory runs out.
+    /// Adds the value at the end. Fails when memory runs out.
     fn push(&mut self, value: Value) -> Result<(), NoMemory>
         ensures ok { OnOk result (self.new ≡ self.old ++ tree value ∷ []) }
         ensures err { OnErr result (self.new ≡ self.old) }
@@ -51,7 +51,7 @@ impl List {
 }
 
 impl Value {
-    /// Puts the value behind the elements, if this is an array. Fails when memory runs out.
+    /// Adds the value at the end, if this is an array. Fails when memory runs out.
     pub(super) fn push_element(&mut self, value: Value) -> Result<(), NoMemory>
         ensures ok { OnOk result (tree self.new ≡ with_value_behind (tree value) (tree self.old)) }
         ensures err { OnErr result (tree self.new ≡ tree self.old) }

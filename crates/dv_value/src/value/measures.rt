@@ -1,5 +1,5 @@
-//! Fields with the length of their spelling: it follows a value that is added, or put in place of one that is dropped, in time of
-//! these values; other changes forget it.
+//! Fields with the length of their encoding. It is updated when a value is added, or put in place of one that is dropped, which
+//! takes the time of measuring these values; other changes drop it.
 
 ghost use Rattle.std.specs.Prelude.{◌≡◌, ◌<◌, [], ◌∷◌, ◌++◌, false, length, OnOk, OnErr, IfOk, IfSome};
 ghost use Rattle.std.specs.Option.{option_map};
@@ -14,7 +14,7 @@ use crate::limits::{digits, with_other, with_shallow_element};
 use crate::value::{Fields, Measured, Value};
 
 impl Measured {
-    /// These fields, and the length of their spelling, if it is known.
+    /// These fields, and the length of their encoding, if it is known.
     pub(super) fn of(fields: Fields, size: Option<u32>) -> Self
         requires { IfSome size (λ size. IsMeasure size fields) }
         ensures { result ≡ fields }
@@ -28,14 +28,14 @@ impl Measured {
         &self.fields
     }
 
-    /// The length of the spelling, if it is known.
+    /// The length of the encoding, if it is known.
     pub(super) fn size(&self) -> Option<u32>
         ensures { IfSome result (λ size. IsMeasure size self.now) }
     {
         self.size
     }
 
-    /// Keeps the length of the spelling.
+    /// Keeps the length of the encoding.
     pub(super) fn keep(&mut self, size: u32)
         requires { IsMeasure size self.old }
         ensures { self.new ≡ self.old }
@@ -57,7 +57,7 @@ impl Measured {
         Ok(())
     }
 
-    /// The length of the spelling with this field behind the others, if it is known. In time of the value.
+    /// The length of the encoding with this field after the others, if it is known. Takes the time of measuring the value.
     fn size_added(&self, name: &str, value: &Value) -> Option<u32>
         requires whole { has_zero name.now ≡ false }
         requires fresh { has_name name.now self.now ≡ false }
@@ -68,15 +68,15 @@ impl Measured {
         Some(size as u32)
     }
 
-    /// As `reserve_one` of `Fields`. The spelling stays as it is.
+    /// As `reserve_one` of `Fields`. The encoding stays as it is.
     pub(super) fn reserve_one(&mut self) -> Result<(), NoMemory>
         ensures { self.new ≡ self.old }
     {
         self.fields.reserve_one()
     }
 
-    /// As `replace` of `Fields`. The length is forgotten: the value that was there isn't dropped, and may be far longer than
-    /// what is done with it.
+    /// As `replace` of `Fields`. The length is dropped: the old value is returned, and measuring it may take far longer than what
+    /// the caller does with it.
     pub(super) fn replace(&mut self, name: &str, value: Value) -> Option<Value>
         ensures before { option_map tree result ≡ value_under name.now self.old }
         ensures after { self.new ≡ with_value_under name.now (tree value) self.old }
@@ -96,7 +96,8 @@ impl Measured {
         self.size = size;
     }
 
-    /// The length of the spelling with this value in place of the one at `place`, if it is known. In time of the two values.
+    /// The length of the encoding with this value in place of the one at `place`, if it is known. Takes the time of measuring both
+    /// values.
     fn size_with(&self, place: usize, value: &Value) -> Option<u32>
         ensures { IfSome result (λ size. IsMeasure size (with_value_at place (tree value.now) self.now)) }
     {
@@ -117,8 +118,8 @@ impl Measured {
         Ok(())
     }
 
-    /// The length of the spelling with this value behind the elements of the array under the name, if it is known. In time
-    /// of the value.
+    /// The length of the encoding with this value appended to the array under the name, if it is known. Takes the time of measuring
+    /// the value.
     fn size_pushed(&self, name: &str, value: &Value) -> Option<u32>
         ensures { IfSome result (λ size. IsMeasure size (with_value_pushed name.now (tree value.now) self.now)) }
     {
@@ -133,7 +134,7 @@ impl Measured {
         Some(size as u32)
     }
 
-    /// As `copy_with` of `Fields`, without a length, as under `replace`.
+    /// As `copy_with` of `Fields`. The copy has no length, for the same reason as after `replace`.
     pub(super) fn copy_with(&self, place: usize, value: Value) -> Result<Self, NoMemory>
         requires { place < length self.now }
         ensures { IfOk result (λ copy. copy ≡ with_value_at place (tree value) self.now) }

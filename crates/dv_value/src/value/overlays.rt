@@ -56,7 +56,7 @@ impl Overlay {
         }
     }
 
-    /// What covers the field at `place`, to be shared, if anything does. Fails when memory runs out.
+    /// The shared value that covers the field at `place`, if any, shared once more. Fails when memory runs out.
     pub(super) fn cover(&self, place: usize) -> Result<Option<SharedText>, NoMemory>
         ensures { IfOk result (λ cover. IfSome cover (λ text. text ≡ value_at place self.now)) }
     {
@@ -66,14 +66,14 @@ impl Overlay {
         }
     }
 
-    /// The place of the field with the name, where there is one.
+    /// The place of the field with the name, if there is one.
     pub(super) fn place_named(&self, name: &str) -> Option<usize>
         ensures { result ≡ place_under name.now self.now }
     {
         self.fields.place_of(name)
     }
 
-    /// The value under the name, where there is one.
+    /// The value under the name, if there is one.
     pub(super) fn value_named(&self, name: &str) -> Option<&Value>
         ensures { option_map (λ value. tree value.now) result ≡ value_under name.now self.now }
     {
@@ -125,8 +125,8 @@ impl Overlay {
         self.covers[place] = Cover::Absent;
     }
 
-    /// A copy with this value in place of the one at `place`. It shares the names, and what covers the others. Fails when memory
-    /// runs out.
+    /// A copy with this value in place of the one at `place`. It shares the names, and what covers the other fields. Fails when
+    /// memory runs out.
     pub(super) fn copy_with(&self, place: usize, value: Value) -> Result<Self, NoMemory>
         requires { place < length self.now }
         ensures { IfOk result (λ copy. copy ≡ with_value_at place (tree value) self.now) }
@@ -137,7 +137,7 @@ impl Overlay {
         Ok(Overlay { fields, covers })
     }
 
-    /// Values of the fields that weigh no more than what is shown.
+    /// The fields' own values. They weigh no more than the values that are shown.
     pub(super) fn into_values(self) -> Vec<Value>
         ensures { elements_weight (elements_of (map tree result.items)) ≤ fields_weight (fields_of self) }
     {

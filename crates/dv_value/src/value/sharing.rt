@@ -8,16 +8,16 @@ use crate::value::{Content, Document, Fields, Measured, Value};
 use std::rc::Rc;
 
 impl Document {
-    /// Shares the names of the fields with the other document, if its names are the same, or if no more than as many names follow
-    /// there. If a copy shares the fields, nothing is done. Nothing that a caller sees changes, except how much memory is taken.
-    /// Takes none.
+    /// Shares the names of the n fields with the other document, if its list of names begins with these, and at most n + 1 names
+    /// follow. If a copy shares the fields, nothing is done. A caller sees no change except in how much memory is taken. Takes no
+    /// memory.
     pub fn share_names(&mut self, with: &Document)
         ensures { self.new ≡ self.old }
     {
         self.share_names_within(with, MAX_LEVELS);
     }
 
-    /// As `share_names`, with so many levels left inside the document.
+    /// As `share_names`, down to this many levels inside the document.
     #[cycle(sharing)]
     fn share_names_within(&mut self, with: &Document, levels: u32)
         ensures { self.new ≡ self.old }
@@ -35,7 +35,7 @@ impl Document {
 }
 
 impl Measured {
-    /// As `share_names` of `Fields`. The spelling stays as it is.
+    /// As `share_names` of `Fields`. The encoding stays as it is.
     #[cycle(sharing)]
     fn share_names(&mut self, other: &Fields, levels: u32)
         ensures { self.new ≡ self.old }
@@ -45,8 +45,8 @@ impl Measured {
 }
 
 impl Fields {
-    /// Takes the other's names in place of the same ones of its own, and so do documents in documents, with so many levels
-    /// left inside.
+    /// Shares the other's names instead of its own equal ones. The same is done for documents in documents, down to this many
+    /// levels.
     #[cycle(sharing)]
     fn share_names(&mut self, other: &Fields, levels: u32)
         ensures { self.new ≡ self.old }
@@ -62,7 +62,7 @@ impl Fields {
     }
 }
 
-/// Lets the names of the documents among these values lie where those of the documents at their places do.
+/// Makes each document among these values share the names of the document at the same place among the others.
 #[cycle(sharing)]
 fn share_inner_names(values: &mut [Value], others: &[Value], levels: u32)
     ensures { map tree values.new ≡ map tree values.old }

@@ -10,14 +10,14 @@ use crate::fault::BsonFault;
 use crate::value::{Content, Document, Fields, Overlay, SharedText, Value};
 use std::rc::Rc;
 
-/// So many bytes, or more, are rather shared than copied.
+/// A text or binary of this many bytes, or more, is shared and not copied.
 const LONG: usize = 256;
 
 impl Document {
     /// A copy whose long texts and binaries, of 256 bytes or more, are shared from now on: by copies of it, even when they are
-    /// changed, and by documents to which a field of it is pushed by `push_shown`. It takes time linear in the number of fields
-    /// if none is long or all are shared, and else in what is copied once more: the values but for documents inside. Fails with
-    /// `NoMemory` when memory runs out.
+    /// changed, and by documents to which a field of it is pushed by `push_shown`. It takes time linear in the number of fields if
+    /// no value is long or all long ones are shared, and otherwise linear in what is copied once more: the values, except for
+    /// documents inside. Fails with `NoMemory` when memory runs out.
     pub fn try_share(&self) -> Result<Self, NoMemory>
         ensures { IfOk result (λ copy. copy ≡ self.now) }
     {
@@ -51,7 +51,7 @@ impl Document {
         Ok(overlay)
     }
 
-    /// Puts a copy of the field at `place` behind those of the fields before it. Fails when memory runs out.
+    /// Adds a copy of the field at `place` after those of the fields before it. Fails when memory runs out.
     fn overlay_next(&self, place: usize, overlay: &mut Overlay) -> Result<(), NoMemory>
         requires named { AreNamed self.now }
         requires there { place < length self.now }
@@ -103,7 +103,7 @@ impl Document {
     }
 
     /// Adds a field at the end that shows the value of the field at `place` of the other document: a copy, unless that document
-    /// shares it, as one that `try_share` made does its long texts and binaries. Refused as `push`.
+    /// shares it, as a document from `try_share` shares its long texts and binaries. Refused as `push`.
     pub fn push_shown(&mut self, name: &str, from: &Document, place: usize) -> Result<(), BsonFault>
         requires { place < length from.now }
         ensures ok { OnOk result (self.new ≡ self.old ++ (name.now, value_at place from.now) ∷ []) }
@@ -162,7 +162,7 @@ impl Fields {
 }
 
 impl Value {
-    /// Whether it is a text or binary that is rather shared than copied. In constant time.
+    /// Whether it is a text or binary that is shared and not copied. In constant time.
     fn is_long(&self) -> bool
         ensures { IsTrue result → IsText (tree self.now) }
     {

@@ -1,4 +1,5 @@
--- What holds of views behind changes of a collection's documents, which were told one after the other, each with what stood there.
+-- What holds of views after changes of a collection's documents, which were passed on one after the other, each with the document
+-- that was there before.
 use Rattle.std.specs.Prelude.{ℕ, List, map}
 use Rattle.dv_change.specs.declared.change.Change.{Change}
 use Rattle.dv_change.specs.declared.taking.Taken as taking
@@ -10,12 +11,12 @@ use Rattle.dv_views.specs.Inner.Changed.{AreMade, AreToldOf}
 use Rattle.dv_views.specs.Inner.Counted.{AreCounted}
 use Rattle.dv_views.specs.Inner.Views.{AreRight, Views, view_form}
 
--- over whatever lists they were right, they are right over these with the changes
+-- if the views were right over some lists, they are right over these lists with the changes
 abbrev pub StaysRight : List ℕ → List Change → List taking.Taken → Views → Views → Type 0
 StaysRight namespace changes all before after =
     (lists : Lists) → AreMade changes (lists namespace) → AreToldOf (positioned (lists namespace)) all → AreRight lists before → AreRight (with_changed namespace changes lists) after
 
--- over whatever lists they were right, each has counted its share of the work for these changes
+-- if the views were right over some lists, each has counted its share of the work for these changes
 abbrev pub CountsWork : List ℕ → List Change → List taking.Taken → Views → Views → Type 0
 CountsWork namespace changes all before after =
     (lists : Lists) → AreMade changes (lists namespace) → AreToldOf (positioned (lists namespace)) all → AreRight lists before → AreCounted (shares namespace changes lists (map view_form before)) before after

@@ -4,7 +4,7 @@ use Rattle.dv_change.specs.declared.taking.Taken as taking
 use Rattle.dv_pipe.specs.declared.stage.Stage.{Stage}
 use Rattle.dv_views.specs.Views.{ViewMark}
 
--- a view but for its name, with its height and what it tells of the change that is handed on
+-- a view without its name, with its height and the changes that it passes on
 pub record Body : Type 0 where
   pub source : List ℕ
   pub stages : List Stage

@@ -1,4 +1,4 @@
--- Of `Changed`, what only bodies and proofs need.
+-- What only bodies and proofs need of `Changed`.
 use Rattle.std.specs.Prelude.{◌≡◌, List, [], ◌∷◌, map, None, Some, IsSome, ⊤}
 use Rattle.std.specs.List.{AllByRecursion}
 use Rattle.dv_coll.specs.Collection.{HasId, IsAscending, found}
@@ -12,7 +12,7 @@ use Rattle.dv_pipe.specs.Sources.{Row}
 use Rattle.dv_views.specs.Placed.{own_position}
 use Rattle.dv_views.specs.Changed.{documents_changed}
 
--- a change that a collection makes: a document is put at its own position, or one that is there goes
+-- a change that a collection makes: a document is put at its own position, or one that is there is removed
 abbrev pub IsMade : Change → List Row → Type 0
 IsMade (Put pos row) documents = HasId row × (pos ≡ own_position row)
 IsMade (Gone (Up k ∷ [])) documents = IsSome (found k documents)
@@ -28,15 +28,15 @@ pub record AreMade (changes : List Change) (documents : List Row) : Type 0 where
   pub identified : AllByRecursion HasId documents
   pub in_turn : AreMadeInTurn changes documents
 
--- changes of rows, one after the other, each told with the row that stood at its position
+-- changes of rows, one after the other, each with the row that was at its position before
 abbrev pub AreToldOf : Positioned → List taking.Taken → Type 0
 AreToldOf rows [] = ⊤
 AreToldOf rows (t ∷ ts) = (t.old ≡ at t.pos rows) × AreToldOf (with_change rows (change_told t)) ts
 
--- these documents go, one after the other
+-- the removals of these documents, one after the other
 abbrev pub gone_each : List Row → List Change
 gone_each documents = map (λ d. Gone (own_position d)) documents
 
--- the same as it is told
+-- the same, each with the document that was there
 abbrev pub gones_of : List Row → List taking.Taken
 gones_of documents = map (λ d. record { pos = own_position d; old = Some d; new = None }) documents

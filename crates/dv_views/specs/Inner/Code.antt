@@ -1,4 +1,4 @@
--- Views as ghost values, one to one: so a proof can tell two of them apart.
+-- Views as ghost values, one to one, so that a proof can distinguish two of them.
 use Rattle.std.specs.Prelude.{◌≡◌, ℕ, List, Option, Some, None, refl}
 use Rattle.std.specs.Coded.{Coded, coded_ℕ, coded_list, coded_option, coded×, code_by}
 use Rattle.dv_value.specs.Inner.TreeCode.{coded_tree}

@@ -1,4 +1,4 @@
--- Documents of namespaces that are kept beside the views that read them.
+-- Documents of namespaces that are kept with the views that read them.
 use Rattle.std.specs.Prelude.{◌≡◌, ℕ, false, List, [], ◌∷◌, map, Option, Some, None, if◌then◌else◌, ⊤}
 use Rattle.std.specs.BTreeMap.{BTreeMap}
 use Rattle.std.specs.Map.{lookup}
@@ -37,11 +37,11 @@ copies_seen es = map (λ e. (string_bytes e.0, e.1.entries)) es
 abbrev pub ArePositionedCopies : NamedCopies → Type 0
 ArePositionedCopies copies = (name : List ℕ) (rows : Positioned) → copy_under name copies ≡ Some rows → IsPositioned rows
 
--- this is kept under a name, and under the others what was
+-- this is kept under a name, and under the others what was kept before
 abbrev pub HaveCopy : List ℕ → Option Positioned → NamedCopies → NamedCopies → Type 0
 HaveCopy name copy before after = (other : List ℕ) → copy_under other after ≡ (if bytes_eq name other then copy else copy_under other before)
 
--- of what was kept, what some view reads
+-- of what was kept, only what some view reads is kept
 abbrev pub HaveCopiesRead : Views → NamedCopies → NamedCopies → Type 0
 HaveCopiesRead views before after = (name : List ℕ) → copy_under name after ≡ (if reads_name views name then copy_under name before else None)
 
@@ -54,7 +54,7 @@ IsCopy (Some rows) documents = rows ≡ positioned documents
 abbrev pub AreCopies : Lists → NamedCopies → Type 0
 AreCopies lists copies = (name : List ℕ) → IsCopy (copy_under name copies) (lists name)
 
--- nothing is kept but what some view reads
+-- only what some view reads is kept
 abbrev pub AreCopiesRead : Views → NamedCopies → Type 0
 AreCopiesRead views copies = (name : List ℕ) → reads_name views name ≡ false → copy_under name copies ≡ None
 
@@ -72,30 +72,30 @@ pub record AreKeptRight (lists : Lists) (kept : KeptViews) : Type 0 where
 
 -- ---- changes of a namespace
 
--- over whatever lists they were right, they are right over these with the changes
+-- if the views were right over some lists, they are right over these lists with the changes
 abbrev pub StayKeptRight : List ℕ → List Change → KeptViews → KeptViews → Type 0
 StayKeptRight namespace changes before after = (lists : Lists) → AreMade changes (lists namespace) → AreKeptRight lists before → AreKeptRight (with_changed namespace changes lists) after
 
--- over whatever lists they were right, each view has counted its share of the work for these changes
+-- if the views were right over some lists, each has counted its share of the work for these changes
 abbrev pub CountKeptWork : List ℕ → List Change → KeptViews → KeptViews → Type 0
 CountKeptWork namespace changes before after =
     (lists : Lists) → AreMade changes (lists namespace) → AreKeptRight lists before → AreCounted (shares namespace changes lists (map view_form before.views)) before.views after.views
 
 -- ---- one change
 
--- of a namespace of which so much is kept, a change is told with what stood there
+-- a change of a namespace whose documents are kept is passed on with the document that was there before
 pub record IsToldOf (namespace : List ℕ) (change : Change) (before after : NamedCopies) (taken : taking.Taken) : Type 0 where
   pub rows : Positioned
   pub there : copy_under namespace before ≡ Some rows
   pub told : taken ≡ with_old rows change
   pub copies : HaveCopy namespace (Some (with_change rows change)) before after
 
--- or else it can't be told, and nothing is kept of its namespace
+-- the change is passed on like that, or it can't be, and nothing of its namespace is kept
 abbrev pub HaveTold : List ℕ → Change → NamedCopies → NamedCopies → Option taking.Taken → Type 0
 HaveTold namespace change before after None = HaveCopy namespace None before after
 HaveTold namespace change before after (Some taken) = IsToldOf namespace change before after taken
 
--- views behind a change that is told, or that can't be
+-- views after a change that is passed on with the document that was there before, or that can't be
 abbrev pub HaveHeard : List ℕ → Option taking.Taken → Views → Views → Type 0
 HaveHeard namespace None before after = HaveLost namespace before after
 HaveHeard namespace (Some taken) before after = HaveTaken (known_at namespace (taken ∷ [])) before after

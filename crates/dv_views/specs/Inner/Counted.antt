@@ -1,12 +1,12 @@
--- How views stand behind changes of what stands under a namespace: each counts its work, or is stale.
+-- Views after changes of the documents under a namespace: each has counted its work, or is stale.
 use Rattle.std.specs.Prelude.{◌≡◌, true, false, List, [], ◌∷◌, ⊤}
 use Rattle.dv_change.specs.Raised.{raised}
 use Rattle.dv_views.specs.Flow.{Share}
 use Rattle.dv_views.specs.Views.{View}
 use Rattle.dv_views.specs.Inner.Views.{Views, view_form, is_stale, mark_ticks}
 
--- a view that isn't stale behind changes has counted its share of work and no other; a stale one stays so, and one that they don't reach
--- is as it was
+-- a view that isn't stale after changes has counted its share of work and no more; a stale view stays stale, and a view that the
+-- changes don't reach is unchanged
 pub record HasCountedShare (share : Share) (before after : View) : Type 0 where
   pub form : view_form after ≡ view_form before
   pub unread : share.reached ≡ false → after ≡ before

@@ -1,4 +1,4 @@
--- Rows that come where none were: words of bodies.
+-- Rows that are inserted where there were none: definitions for bodies.
 use Rattle.std.specs.Prelude.{◌≡◌, ◌++◌, ℕ, List, [], ◌∷◌, length, map, None, Some}
 use Rattle.std.specs.List.{AllByRecursion}
 use Rattle.dv_change.specs.declared.change.Change.{Change}
@@ -17,23 +17,23 @@ use Rattle.dv_views.specs.Views.{Kept}
 abbrev pub puts_of : Positioned → List Change
 puts_of rows = map (λ e. Put e.0 e.1) rows
 
--- the same as it is told, where nothing stood there
+-- the same, where no row was there before
 abbrev pub firsts_of : Positioned → List taking.Taken
 firsts_of rows = map (λ e. record { pos = e.0; old = None; new = Some e.1 }) rows
 
--- what is kept has taken in these first rows of the source, where none of it was taken in
+-- what is kept has taken in these rows of the source, of which none was taken in before
 abbrev pub FillsLeft : List taking.Taken → Kept → Kept → Type 0
 FillsLeft all before after =
     (stages : List Stage) (named : List Positioned) (puts : List Change) → HasMade stages before (record { left = []; named = named }) → AllByRecursion IsExactChange puts → all ≡ told_along [] puts
     → HasMade stages after (record { left = with_changes [] puts; named = named })
 
--- what is kept has taken in these first rows of a list, behind so many others, of which none was taken in
+-- what is kept has taken in these rows of the list with this number, of which none was taken in before
 abbrev pub FillsList : ℕ → List taking.Taken → Kept → Kept → Type 0
 FillsList place firsts before after =
     (stages : List Stage) (front back : List Positioned) (list : Positioned) → place ≡ length front → IsPositioned list → firsts ≡ firsts_of list → HasMade stages before (record { left = []; named = front ++ [] ∷ back })
     → HasMade stages after (record { left = []; named = front ++ list ∷ back })
 
--- what is kept has taken in what stands under each of these names, where nothing was taken in
+-- what is kept has taken in the rows under each of these names; nothing was taken in before
 abbrev pub FillsLists : ListPlaces → List (List ℕ) → Kept → Kept → Type 0
 FillsLists places names before after =
     (stages : List Stage) → HasMade stages before (record { left = []; named = empty_lists (length names) }) → HasMade stages after (record { left = []; named = map places names })

@@ -1,4 +1,4 @@
--- The forms of views that are made anew.
+-- The forms of views that are recomputed.
 use Rattle.std.proofs.Common.{◌≡◌, ℕ, List, [], ◌∷◌, map, refl, ap, inl, inr}
 use Rattle.dv_views.specs.Inner.Views.{ArePartlyRefreshed, IsPartlyRefreshed, Views, view_form}
 use Rattle.dv_views.specs.Views.{View}

@@ -1,4 +1,4 @@
--- What stands under names in memory, for a view that is made: older views' rows, and what collections hold.
+-- The rows under names in memory, for a view that is created or recomputed: those of older views, and the documents of collections.
 use Rattle.std.specs.Prelude.{◌≡◌, ℕ, List, [], Option, Some, None, ⊤}
 use Rattle.std.specs.List.{AllByRecursion}
 use Rattle.dv_change.specs.Changes.{Positioned}
@@ -14,7 +14,7 @@ use Rattle.dv_views.specs.Views.{ViewMark, View, live, stale, inputs_from}
 use Rattle.dv_views.specs.Inner.Views.{Views, view_under}
 use Rattle.dv_views.specs.declared.making.Ground.{Ground}
 
--- the views that are older than the one that is made
+-- the views that are older than the one that is created or recomputed
 abbrev pub views_below : Ground → Views
 views_below g = views_before g.place g.views.now.entries
 
@@ -42,11 +42,12 @@ abbrev pub IsLiveView : Option View → Type 0
 IsLiveView None = ⊤
 IsLiveView (Some v) = IsLive v.mark
 
--- what stands under a name is that of no view, or of a live one, at exact positions
+-- the name is that of no view, or of a live one, and its rows are at exact positions, in their order
 abbrev pub IsPlacedUnder : Views → Lists → List ℕ → Type 0
 IsPlacedUnder older lists name = IsLiveView (view_under name older) × IsPositioned (outs_below older lists name)
 
--- what is kept over older views and lists: a live mark has taken in what stands there at positions, and all views that it reads are live
+-- what is kept over older views and lists: a live mark has taken in their rows at positions, has counted nothing, and all views
+-- that it reads are live
 abbrev pub IsBuilt : List Stage → List ℕ → Views → Lists → ViewMark → Type 0
 IsBuilt stages source older lists (live kept) =
     HasMade stages kept (inputs_from stages source (outs_below older lists)) × (kept.ticks ≡ 0) × AllByRecursion (λ name. IsLiveView (view_under name older)) (names_read stages source)

@@ -1,4 +1,4 @@
--- What a change that is handed on makes of all views in memory: words of bodies.
+-- All views in memory after a change that is passed on: definitions for bodies.
 use Rattle.std.specs.Prelude.{◌≡◌, ℕ, suc, ◌==◌, Bool, false, List, [], ◌∷◌, None, ⊤}
 use Rattle.std.specs.List.{list_any}
 use Rattle.std.specs.declared.string.String.{String}
@@ -12,7 +12,7 @@ use Rattle.dv_views.specs.Inner.Views.{AreNamedApart}
 abbrev pub is_place_among : ℕ → List ℕ → Bool
 is_place_among place places = list_any (λ other. other == place) places
 
--- the entries, counted from a place on, tell nothing but at these places
+-- of the entries, counted from a given place, only those at these places have changes to pass on
 abbrev pub AreSilentBut : {Y : Type 0} → List ℕ → ℕ → Entries Y → Type 0
 AreSilentBut places place [] = ⊤
 AreSilentBut places place (e ∷ es) = (is_place_among place places ≡ false → e.1.told ≡ None) × AreSilentBut places (suc place) es
@@ -20,7 +20,7 @@ AreSilentBut places place (e ∷ es) = (is_place_among place places ≡ false �
 abbrev pub silenced : {Y : Type 0} → String Y × Body → String Y × Body
 silenced e = (e.0, record e.1 { told = None })
 
--- entries behind a change
+-- entries after a change
 pub record IsHandedOn {Y : Type 0} (namespace : List ℕ) (all : List taking.Taken) (before after : Entries Y) : Type 0 where
   pub taken : HaveTaken (known_at namespace all) (views before) (views after)
   pub apart : AreNamedApart (views after)

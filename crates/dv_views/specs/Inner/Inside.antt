@@ -9,7 +9,7 @@ use Rattle.dv_views.specs.Placed.{lookups_of}
 abbrev pub body_seen : Inside → Body
 body_seen v = record { source = v.source; stages = v.pipeline; height = v.height; mark = mark_seen v.mark; told = option_map (λ all. all.items) v.told }
 
--- its lists are those that its stages look into, and what it keeps can be kept on
+-- its lists are those that its stages read by `$lookup`, and its mark is sound
 pub record AreListsRead (v : Inside) : Type 0 where
   pub lookups : v.lookups.items ≡ lookups_of v.pipeline v.source
   pub mark : IsSoundMark v.mark

@@ -1,4 +1,4 @@
--- Views that come, and lists over which they are made.
+-- Views that are added, and the lists over which they are computed.
 use Rattle.std.specs.Prelude.{◌≡◌, ℕ, zero, suc, true, false, List, [], ◌∷◌, ◌++◌, map, Option, Some, None, ⊤}
 use Rattle.dv_change.specs.Changes.{forget}
 use Rattle.dv_pipe.specs.declared.stage.Stage.{Stage}
@@ -12,8 +12,8 @@ use Rattle.dv_views.specs.Inner.Views.{AreRefreshed, IsJustMade, IsPartlyRefresh
 abbrev pub AreAlike : List (List ℕ) → Lists → Lists → Type 0
 AreAlike names lists others = (name : List ℕ) → is_name_among name names ≡ true → lists name ≡ others name
 
--- what stages make at positions are, without these, the rows of the pipeline from scratch, if each name that they read has the same rows
--- with positions and without them
+-- the rows that stages return at positions are, without the positions, the rows of the pipeline from scratch, if each name that the
+-- stages read has the same rows with positions and without them
 abbrev pub AreFromScratch : List Stage → List ℕ → ListPlaces → Lists → Type 0
 AreFromScratch stages source places lists = AreAlike (names_read stages source) (λ name. forget (places name)) lists → forget (outs_of stages source places) ≡ evaluated stages source lists
 
@@ -21,18 +21,18 @@ AreFromScratch stages source places lists = AreAlike (names_read stages source) 
 abbrev pub needed_for : Views → List Stage → List ℕ → List (List ℕ)
 needed_for views stages source = needed (map view_form views) (names_read stages source)
 
--- this still holds over whatever lists it held that are the same under some names as the sources
+-- if this held over some lists that are the same under some names as the sources, it still holds over them
 abbrev pub StillHolds : {V : Type 0} → (Lists → V → Type 0) → List (List ℕ) → Lists → V → V → Type 0
 StillHolds Holds names sources before after = (lists : Lists) → AreAlike names sources lists → Holds lists before → Holds lists after
 
--- a view more, which was just made
+-- one more view, which was just made
 pub record IsAdded (name source : List ℕ) (stages : List Stage) (before after : Views) : Type 0 where
   pub view : View
   pub form : view_form view ≡ record { name = name; source = source; stages = stages }
   pub fresh : IsJustMade view.mark
   pub last : after ≡ before ++ view ∷ []
 
--- behind the stale ones that it needs were made anew
+-- the same, after the stale views that it needs were recomputed
 pub record IsCreated (name source : List ℕ) (stages : List Stage) (before after : Views) : Type 0 where
   pub refreshed : Views
   pub read : AreRefreshed (needed_for before stages source) before refreshed
@@ -43,7 +43,7 @@ abbrev pub IsNoStale : Option View → Type 0
 IsNoStale None = ⊤
 IsNoStale (Some v) = is_stale v.mark ≡ false
 
--- the view at a place is made anew where it is stale and of one of these names, and the others are as they were
+-- the view at a place is recomputed if it is stale and has one of these names, and the others are unchanged
 abbrev pub IsRefreshedAt : ℕ → List (List ℕ) → Views → Views → Type 0
 IsRefreshedAt place names [] after = after ≡ []
 IsRefreshedAt place names (v ∷ before) [] = ⊥

@@ -1,4 +1,4 @@
--- Entries of views, of which some stand before a place: words of bodies.
+-- Entries of views, some of which are before a place: definitions for bodies.
 use Rattle.std.specs.Prelude.{ℕ, suc, Bool, List, [], ◌∷◌, take, map, Option, None, Some, if◌then◌else◌}
 use Rattle.std.specs.Option.{option_map}
 use Rattle.std.specs.declared.string.String.{String}
@@ -13,7 +13,7 @@ use Rattle.dv_views.specs.Inner.Views.{Views}
 abbrev pub Entries : Type 0 → Type 0
 Entries Y = List (String Y × Body)
 
--- what a look-up by a name asks of a key
+-- the test of a key in a look-up by a name
 abbrev pub is_called : {Y : Type 0} → List ℕ → String Y → Bool
 is_called name k = bytes_eq name (string_bytes k)
 
@@ -29,16 +29,16 @@ place_of_name name (e ∷ es) = if is_called name e.0 then Some 0 else option_ma
 abbrev pub views_before : {Y : Type 0} → ℕ → Entries Y → Views
 views_before place es = views (take place es)
 
--- what views tell of a change, beside what is told already
+-- the changes of each name, with those that views pass on
 abbrev pub told_over : {Y : Type 0} → Known → Entries Y → Known
 told_over known [] = known
 told_over known (e ∷ es) = told_over (with_known (string_bytes e.0) e.1.told known) es
 
--- what is told under each name to the view at a place
+-- the changes of each name that the view at a place receives
 abbrev pub told_before : {Y : Type 0} → List ℕ → List taking.Taken → ℕ → Entries Y → Known
 told_before namespace all place es = told_over (known_at namespace all) (take place es)
 
--- what the first view of a name tells
+-- the changes that the first view of a name passes on
 abbrev pub told_named : {Y : Type 0} → List ℕ → Entries Y → Option (Option (List taking.Taken))
 told_named name [] = None
 told_named name (e ∷ es) = if is_called name e.0 then Some e.1.told else told_named name es
@@ -47,6 +47,6 @@ abbrev pub told_else : Option (Option (List taking.Taken)) → Option (List taki
 told_else None other = other
 told_else (Some all) other = all
 
--- what is told under a name to the view at a place, as it is looked up
+-- the changes of a name that the view at a place receives, as they are looked up
 abbrev pub told_found : {Y : Type 0} → List ℕ → List taking.Taken → ℕ → Entries Y → Known
 told_found namespace all place es name = told_else (told_named name (take place es)) (known_at namespace all name)

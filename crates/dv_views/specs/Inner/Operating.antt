@@ -1,4 +1,4 @@
--- A stage that is told of changes: what it makes, what it may have taken in, and what holds of that.
+-- A stage that receives changes: what it returns, what it may have taken in, and what holds of that.
 use Rattle.std.specs.Prelude.{◌≡◌, ℕ, zero, suc, List, [], ◌∷◌, refl, ⊤}
 use Rattle.std.specs.List.{AllByRecursion, AllZip}
 use Rattle.dv_change.specs.Changes.{Positioned}
@@ -24,7 +24,7 @@ use Rattle.dv_views.specs.Placed.{lists_in, stage_at}
 use Rattle.dv_views.specs.declared.stage_operator.StageOperator.{StageOperator}
 use Rattle.dv_views.specs.declared.stage_operator.StageOperator.TheVariants.{Match, Project, Unwind, Sort, Limit, Group, Lookup}
 
--- what it makes of the lists that it looks into and of rows
+-- what it returns for the lists that it reads by `$lookup` and for rows
 abbrev pub stage_makes : StageOperator → List Positioned → Positioned → Positioned
 stage_makes (Match o) others rows = matched_at o.stage rows
 stage_makes (Project o) others rows = shown_at o.stage rows
@@ -92,7 +92,7 @@ stage_empty (Lookup o) others = refl
 
 -- ---- stages that have taken in nothing
 
--- the lists that a stage looks into, where each is empty
+-- this many empty lists, for the lists that a stage reads by `$lookup`
 abbrev pub empty_lists : ℕ → List Positioned
 empty_lists zero = []
 empty_lists (suc n) = [] ∷ empty_lists n
@@ -105,6 +105,6 @@ pub record IsFreshStage (s : Stage) (o : StageOperator) : Type 0 where
   pub sound : IsSoundStage o
   pub holds : HoldsStage o (lists_at_first s) []
 
--- each of the operators is its stage, and has taken in nothing
+-- each operator is that of its stage, and has taken in nothing
 abbrev pub AreFresh : List Stage → List StageOperator → Type 0
 AreFresh stages operators = AllZip IsFreshStage stages operators

@@ -1,4 +1,4 @@
--- What a change that is handed on makes of the view at a place in memory.
+-- The view at a place in memory after a change that is passed on.
 use Rattle.std.specs.Prelude.{◌≡◌, ℕ, List, Some, slice_get}
 use Rattle.std.specs.Map.{values_of}
 use Rattle.indexmap.specs.IndexMap.{set_value_at}
@@ -10,11 +10,11 @@ use Rattle.dv_views.specs.Inner.Turned.{IsTakenBy, Known}
 use Rattle.dv_views.specs.Inner.Views.{Views, distances_of}
 use Rattle.dv_views.specs.declared.passing.Passing.{Passing}
 
--- the views that are older than the one to which a change comes
+-- the views that are older than the one to which a change is passed
 abbrev pub older_views : Passing → Views
 older_views p = views_before p.place p.views.now.entries
 
--- what is told under each name to the view to which a change comes
+-- the changes of each name that this view receives
 abbrev pub told_to : Passing → Known
 told_to p = told_found p.namespace.now p.all.now p.place p.views.now.entries
 
@@ -26,6 +26,6 @@ pub record IsTakenAt {Y : Type 0} (namespace : List ℕ) (all : List taking.Take
   pub taken : (name : List ℕ) → IsTakenBy (told_before namespace all place before) (distances_of (views_before place before)) (view_seen name old) (record { view = view_seen name new; told = new.told })
   pub height : new.height ≡ old.height
 
--- the same of a change of which the namespace alone is known
+-- the same for a change of which only the namespace is known
 abbrev pub IsLostAt : {Y : Type 0} → List ℕ → ℕ → Entries Y → Entries Y → Type 0
 IsLostAt namespace place before after = (all : List taking.Taken) → IsTakenAt namespace all place before after

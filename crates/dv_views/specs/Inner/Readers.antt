@@ -1,4 +1,4 @@
--- Which views a change of a namespace comes to, as lists in memory: words of bodies.
+-- Which views a change of a namespace reaches, as lists in memory: definitions for bodies.
 use Rattle.std.specs.Prelude.{◌≡◌, ℕ, suc, ◌-◌, ◌==◌, ◌||◌, Bool, true, false, not, List, [], ◌∷◌, ◌++◌, Option, None, Some, Vec, length, map, filter, nat_lt, slice_get, if◌then◌else◌}
 use Rattle.std.specs.List.{AllByRecursion, list_any}
 use Rattle.std.specs.Str.{bytes_eq}
@@ -13,12 +13,12 @@ use Rattle.dv_views.specs.Inner.Body.{Body}
 abbrev pub reads_any : List (List ℕ) → ViewForm → Bool
 reads_any names v = list_any (λ name. is_read v.stages v.source name) names
 
--- the places, counted from one on, of the views that read one of the names, or a view among these
+-- the places, counted from a given place, of the views that read one of the names, directly or through other views
 abbrev pub readers_from : List (List ℕ) → ℕ → List ViewForm → List ℕ
 readers_from names place [] = []
 readers_from names place (v ∷ views) = if reads_any names v then place ∷ readers_from (v.name ∷ names) (suc place) views else readers_from names (suc place) views
 
--- the places of the views to which a change of the namespace comes
+-- the places of the views that a change of the namespace reaches
 abbrev pub readers_of : List ℕ → List ViewForm → List ℕ
 readers_of namespace views = readers_from (namespace ∷ []) 0 views
 
@@ -39,14 +39,14 @@ abbrev pub places_under : List ℕ → Listing → List ℕ
 places_under name [] = []
 places_under name (l ∷ ls) = if bytes_eq name l.0 then l.1 else places_under name ls
 
--- each list has the places of the views to which a change of its namespace comes, and there is one for each namespace that is read
+-- each list has the places of the views that a change of its namespace reaches, and each namespace that is read has a list
 pub record AreReaders (views : List ViewForm) (listing : Listing) : Type 0 where
   pub right : AllByRecursion (λ l. l.1 ≡ readers_of l.0 views) listing
   pub whole : (name : List ℕ) → is_read_by views name ≡ true → has_list name listing ≡ true
 
--- ---- a view more
+-- ---- one more view
 
--- lists with one view more, which stands behind the others: there is one for each namespace that these read, and for each of the names
+-- lists with one more view, which is after the others: each namespace that the others read has a list, and so has each of the names
 pub record AreListed (views : List ViewForm) (more : ViewForm) (names : List (List ℕ)) (listing : Listing) : Type 0 where
   pub right : AllByRecursion (λ l. l.1 ≡ readers_of l.0 (views ++ more ∷ [])) listing
   pub whole : (name : List ℕ) → is_read_by views name || is_name_among name names ≡ true → has_list name listing ≡ true
@@ -60,24 +60,24 @@ is_entry_read stages source (Some e) = is_read stages source (string_bytes e.0)
 abbrev pub reads_one : {Y : Type 0} → List Stage → List ℕ → List (String Y × Body) → List ℕ → Bool
 reads_one stages source es places = list_any (λ place. is_entry_read stages source (slice_get es place)) places
 
--- places to which a change of the namespace comes, with that of one view more if it comes there
+-- places that a change of the namespace reaches, with that of one more view if it reaches this view
 abbrev pub places_with : {Y : Type 0} → List ℕ → List Stage → List ℕ → List (String Y × Body) → List ℕ → List ℕ
 places_with namespace stages source es places = if is_read stages source namespace || reads_one stages source es places then places ++ length es ∷ [] else places
 
--- a list of one place, where the name has none
+-- with a list of one place for a name, if the name has no list
 abbrev pub with_list : List ℕ → ℕ → Listing → Listing
 with_list name place listing = if has_list name listing then listing else listing ++ (name, place ∷ []) ∷ []
 
--- ---- a view that goes
+-- ---- a view that is removed
 
--- where a view stands once another one is gone
+-- the place of a view after another one was removed
 abbrev pub lowered : ℕ → ℕ → ℕ
 lowered place other = if nat_lt place other then other - 1 else other
 
 abbrev pub without : ℕ → List ℕ → List ℕ
 without place places = map (lowered place) (filter (λ other. not (other == place)) places)
 
--- with a list in front, unless it is empty
+-- with a list before the others, unless it is empty
 abbrev pub listed_before : List ℕ → List ℕ → Listing → Listing
 listed_before name [] listing = listing
 listed_before name (p ∷ ps) listing = (name, p ∷ ps) ∷ listing

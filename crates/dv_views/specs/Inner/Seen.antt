@@ -17,7 +17,7 @@ view_seen name b = record { name = name; source = b.source; stages = b.stages; m
 abbrev pub entry_view : {Y : Type 0} → String Y × Body → View
 entry_view e = view_seen (string_bytes e.0) e.1
 
--- an entry but for what it keeps, and all entries so
+-- an entry without what it keeps, and all entries like that
 abbrev pub form_seen : List ℕ → Body → ViewForm
 form_seen name b = view_form (view_seen name b)
 
@@ -27,21 +27,21 @@ forms_seen es = map view_form (map entry_view es)
 abbrev pub telling : {Y : Type 0} → String Y × Body → Telling
 telling e = record { view = entry_view e; told = e.1.told }
 
--- views, each under a name of its own; what each reads is older, and no farther from being live
+-- views, each under a name of its own; each reads only older views, and a live view reads no stale one
 pub record IsSoundRegistry (views : Views) : Type 0 where
   pub apart : AreNamedApart views
   pub live : AreOverLive no_distance views
   pub founded : AreFounded (map view_form views)
 
--- each entry keeps the height of what stands under its name
+-- each entry keeps the height of its name
 abbrev pub HaveHeights : {Y : Type 0} → (List ℕ → ℕ) → List (String Y × Body) → Type 0
 HaveHeights high es = AllByRecursion (λ e. e.1.height ≡ high (string_bytes e.0)) es
 
--- no entry tells of a change
+-- no entry has changes to pass on
 abbrev pub AreSilent : {Y : Type 0} → List (String Y × Body) → Type 0
 AreSilent es = AllByRecursion (λ e. e.1.told ≡ None) es
 
--- entries of such views, each with its height, none of which tells of a change; and the lists of their readers
+-- entries of such views, each with its height and without changes to pass on; and the lists of their readers
 pub record AreSoundEntries {Y : Type 0} (es : List (String Y × Body)) (listing : Listing) : Type 0 where
   pub views : IsSoundRegistry (map entry_view es)
   pub heights : HaveHeights (heights (forms_seen es)) es

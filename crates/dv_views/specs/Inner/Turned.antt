@@ -1,4 +1,4 @@
--- What a view in memory makes of a change that views hand on: words of bodies.
+-- A view in memory after a change that views pass on: definitions for bodies.
 use Rattle.std.specs.Prelude.{◌≡◌, ◌⊎◌, ℕ, suc, Bool, true, false, List, [], ◌∷◌, ◌++◌, fold, map, Option, Some, None, is_some, if◌then◌else◌, ⊤}
 use Rattle.std.specs.List.{AllByRecursion, list_any}
 use Rattle.std.specs.Str.{bytes_eq}
@@ -17,25 +17,25 @@ use Rattle.dv_views.specs.Inner.Views.{Views, view_form, is_stale, no_distance, 
 use Rattle.dv_views.specs.Placed.{lookups_of}
 use Rattle.dv_views.specs.Views.{Kept, ViewMark, Inputs, View, live, stale}
 
--- ---- what is told in memory
+-- ---- changes in memory
 
--- the changes of each namespace, each with the row that stood at its position; none if the change doesn't reach it
+-- the changes of each namespace, each with the row that was at its position before; none if the change doesn't reach it
 abbrev pub Known : Type 0
 Known = List ℕ → Option (List taking.Taken)
 
--- those of one namespace alone
+-- the changes of one namespace alone
 abbrev pub known_at : List ℕ → List taking.Taken → Known
 known_at namespace all name = if bytes_eq namespace name then Some all else None
 
--- with those of one more name
+-- with the changes of one more name
 abbrev pub with_known : List ℕ → Option (List taking.Taken) → Known → Known
 with_known name all known other = if bytes_eq other name then all else known other
 
--- whether the change comes to what a pipeline reads
+-- whether the change reaches what a pipeline reads
 abbrev pub comes_to : List Stage → List ℕ → Known → Bool
 comes_to stages source known = list_any (λ name. is_some (known name)) (names_read stages source)
 
--- a change that comes to one input of a view
+-- a change of one input of a view
 pub record Come : Type 0 where
   pub input : Input
   pub taken : taking.Taken
@@ -44,43 +44,43 @@ abbrev pub coming : Input → Option (List taking.Taken) → List Come
 coming input None = []
 coming input (Some all) = map (λ taken. record { input = input; taken = taken }) all
 
--- to the lists that are looked into, which are numbered from i
+-- the changes of the lists that are read by `$lookup`, which are numbered from i
 abbrev pub coming_to_lists : ℕ → List (List ℕ) → Known → List Come
 coming_to_lists i [] known = []
 coming_to_lists i (name ∷ names) known = coming (Named i) (known name) ++ coming_to_lists (suc i) names known
 
--- to a source, and to lists that are looked into
+-- the changes of a source, and of the lists that are read by `$lookup`
 abbrev pub coming_under : List ℕ → List (List ℕ) → Known → List Come
 coming_under source lookups known = coming Left (known source) ++ coming_to_lists 0 lookups known
 
--- to all that a pipeline reads
+-- the changes of all that a pipeline reads
 abbrev pub coming_to : List Stage → List ℕ → Known → List Come
 coming_to stages source known = coming_under source (lookups_of stages source) known
 
--- ---- what a view makes of it
+-- ---- a view after changes
 
--- the inputs behind changes, one after the other
+-- the inputs after changes, one after the other
 abbrev pub taken_by : Inputs → List Arrival → Inputs
 taken_by t all = fold (λ t a. inputs_after a.input a.change t) t all
 
--- the changes, each told with what stood there
+-- the changes, each with the row that was there before
 abbrev pub come_along : List Arrival → Inputs → List Come
 come_along [] t = []
 come_along (a ∷ all) t = record { input = a.input; taken = with_old (input_rows a.input t.named t.left) a.change } ∷ come_along all (inputs_after a.input a.change t)
 
--- what is kept behind changes of these inputs, and what was told of its rows behind what was told before
+-- what is kept after changes of these inputs, and the changes of its rows, appended to those that were passed on before
 pub record HasTurned (stages : List Stage) (t : Inputs) (all : List Arrival) (before : Kept) (first : List taking.Taken) (after : Kept) (now : List taking.Taken) : Type 0 where
   pub made : HasMade stages after (taken_by t all)
   pub tells : now ≡ first ++ told_along before.rows (handed_by stages all t)
   pub ticks : after.ticks ≡ raised before.ticks (work_by stages all t)
   pub leads : after.rows ≡ with_changes before.rows (handed_by stages all t)
 
--- whatever was taken in, changes that come told with what stood there are taken in, one after the other
+-- whatever was taken in before, changes that come with the rows that were there before are taken in, one after the other
 abbrev pub Turns : List Come → Kept → List taking.Taken → Kept → List taking.Taken → Type 0
 Turns come before first after now =
     (stages : List Stage) (t : Inputs) (all : List Arrival) → HasMade stages before t → AllByRecursion (λ a. HasInput a.input t.named) all → come ≡ come_along all t → HasTurned stages t all before first after now
 
--- a view that keeps its rows by what came, and tells what changes of them
+-- a live view that takes in its changes, stays live, and passes on the changes of its rows
 pub record KeepsOn (come : List Come) (before after : ViewMark) (now : Option (List taking.Taken)) : Type 0 where
   pub old : Kept
   pub new : Kept
@@ -90,16 +90,16 @@ pub record KeepsOn (come : List Come) (before after : ViewMark) (now : Option (L
   pub tells : now ≡ Some all
   pub turns : Turns come old [] new all
 
--- a view that a change comes to does so, or is stale
+-- a view that a change reaches does this, or is stale afterwards
 abbrev pub IsTurned : List Come → ViewMark → ViewMark → Option (List taking.Taken) → Type 0
 IsTurned come before after now = (after ≡ stale) ⊎ KeepsOn come before after now
 
--- a view, and what it tells
+-- a view, and the changes that it passes on
 pub record Telling : Type 0 where
   pub view : View
   pub told : Option (List taking.Taken)
 
--- a view behind a change, where so much is told under names and what stands there is so far from being live
+-- a view after a change, by the changes of each name, and by how far each name is from being live
 pub record IsTakenBy (come : Known) (distances : List ℕ → ℕ) (before : View) (after : Telling) : Type 0 where
   pub form : view_form after.view ≡ view_form before
   pub tells : is_some after.told ≡ comes_to before.stages before.source come
@@ -114,12 +114,12 @@ AreTakenBy known distances [] (w ∷ after) = ⊥
 AreTakenBy known distances (v ∷ before) [] = ⊥
 AreTakenBy known distances (v ∷ before) (w ∷ after) = IsTakenBy known distances v w × AreTakenBy (with_known v.name w.told known) (with_distance w.view distances) before after
 
--- views behind a change, whatever each told
+-- views after a change, whatever changes each passed on
 pub record HaveTaken (known : Known) (before after : Views) : Type 0 where
   pub tellings : List Telling
   pub views : map (λ t. t.view) tellings ≡ after
   pub taken : AreTakenBy known no_distance before tellings
 
--- views behind a change of which the namespace alone is known
+-- views after a change of which only the namespace is known
 abbrev pub HaveLost : List ℕ → Views → Views → Type 0
 HaveLost namespace before after = (all : List taking.Taken) → HaveTaken (known_at namespace all) before after

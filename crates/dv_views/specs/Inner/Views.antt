@@ -1,4 +1,4 @@
--- Of `Views`, what only bodies and proofs need.
+-- What only bodies and proofs need of `Views`.
 use Rattle.std.specs.Prelude.{◌≡◌, ◌≤◌, ◌⊎◌, ℕ, Bool, true, false, not, List, [], ◌∷◌, map, filter, fold, length, Option, Some, None, Err, if◌then◌else◌, IfErr, ⊤}
 use Rattle.std.specs.List.{AllByRecursion, AllZip, IsDistinct, find, list_any}
 use Rattle.std.specs.Option.{option_and_then}
@@ -21,20 +21,20 @@ use Rattle.dv_views.specs.Views.{Inputs, ViewMark, live, stale, View, inputs_fro
 abbrev pub Views : Type 0
 Views = List View
 
--- a view but for what it keeps
+-- a view without what it keeps
 abbrev pub view_form : View → ViewForm
 view_form v = record { name = v.name; source = v.source; stages = v.stages }
 
--- what is kept, if anything is, are these rows, which the stages make of what they have taken in
+-- what is kept, if anything is, are these rows, which the stages return for what they have taken in
 abbrev pub AreKept : List Stage → ViewMark → Inputs → List Row → Type 0
 AreKept stages (live kept) taken rows = HasMade stages kept taken × (forget kept.rows ≡ rows)
 AreKept stages stale taken rows = ⊤
 
--- a live view has the rows of its pipeline from scratch, and has taken in what it reads as it stands
+-- a live view has the rows of its pipeline from scratch, and has taken in what it reads as it is now
 abbrev pub IsRight : ListPlaces → Lists → View → Type 0
 IsRight places lists v = AreKept v.stages v.mark (inputs_from v.stages v.source places) (evaluated v.stages v.source lists)
 
--- each over what the older ones make of the lists
+-- each view is right over the lists and the rows of the older views
 abbrev pub AreRightOver : ListPlaces → Lists → Views → Type 0
 AreRightOver places lists [] = ⊤
 AreRightOver places lists (v ∷ views) = IsRight places lists v × AreRightOver (with_places (view_form v) places) (with_rows (view_form v) lists) views
@@ -68,7 +68,7 @@ kept_rows stale = None
 abbrev pub rows_shown : List ℕ → Views → Option (List Row)
 rows_shown name views = option_and_then (λ v. kept_rows v.mark) (view_under name views)
 
--- how many rows a mark shows; none where it is stale
+-- how many rows a mark shows; 0 if it is stale
 abbrev pub mark_rows : ViewMark → ℕ
 mark_rows (live kept) = length (forget kept.rows)
 mark_rows stale = 0
@@ -82,7 +82,7 @@ abbrev pub is_stale : ViewMark → Bool
 is_stale (live kept) = false
 is_stale stale = true
 
--- the count of the work that the changes of a view took since it was made; 0 where it is stale
+-- the count of the work that the changes of a view took since it was made; 0 if it is stale
 abbrev pub mark_ticks : ViewMark → ℕ
 mark_ticks (live kept) = kept.ticks
 mark_ticks stale = 0
@@ -100,7 +100,7 @@ reads_name views namespace = list_any (λ v. reads v namespace) views
 abbrev pub AreSameWhereRead : Views → Lists → Lists → Type 0
 AreSameWhereRead views lists others = (name : List ℕ) → reads_name views name ≡ true → lists name ≡ others name
 
--- how far a view is from being live: a stale one is 1
+-- how far a view is from being live: 0 if it is live, 1 if it is stale
 abbrev pub distance : ViewMark → ℕ
 distance (live kept) = 0
 distance stale = 1
@@ -108,7 +108,8 @@ distance stale = 1
 abbrev pub with_distance : View → (List ℕ → ℕ) → List ℕ → ℕ
 with_distance v distances name = if bytes_eq name v.name then distance v.mark else distances name
 
--- what each view reads is no farther from being live than itself: so a live view reads live ones alone; what is no view is at 0
+-- what each view reads is no farther from being live than the view itself, so a live view reads no stale one; a name that is no
+-- view's is at 0
 abbrev pub AreOverLive : (List ℕ → ℕ) → Views → Type 0
 AreOverLive distances [] = ⊤
 AreOverLive distances (v ∷ views) = ((name : List ℕ) → reads v name ≡ true → distances name ≤ distance v.mark) × AreOverLive (with_distance v distances) views
@@ -116,16 +117,16 @@ AreOverLive distances (v ∷ views) = ((name : List ℕ) → reads v name ≡ tr
 abbrev pub no_distance : List ℕ → ℕ
 no_distance name = 0
 
--- how far what stands under each name is
+-- how far each name is from being live
 abbrev pub distances_of : Views → List ℕ → ℕ
 distances_of views = fold (λ below v. with_distance v below) no_distance views
 
--- refused with the fault, where there is one, and else at most since memory runs out
+-- refused with the fault, if there is one, and otherwise only because memory runs out
 abbrev pub IsRefusedFor : {T : Type 0} → Option ViewFault → Result T ViewFault → Type 0
 IsRefusedFor (Some fault) result = result ≡ Err fault
 IsRefusedFor None result = IfErr result (λ fault. fault ≡ NoMemory)
 
--- ---- views made anew
+-- ---- recomputed views
 
 -- documents that begin with an `_id` of their own, in the order of these
 abbrev pub AreInOrder : List Row → Type 0
@@ -142,13 +143,13 @@ pub record IsMadeAnew (before after : View) : Type 0 where
   pub form : view_form after ≡ view_form before
   pub fresh : IsJustMade after.mark
 
--- of views, stale ones of some names are made and the others are as they were
+-- a view is unchanged; or it was stale, has one of these names, and is recomputed
 abbrev pub IsPartlyRefreshed : List (List ℕ) → View → View → Type 0
 IsPartlyRefreshed names before after = (after ≡ before) ⊎ ((is_name_among before.name names ≡ true) × IsMadeAnew before after)
 
 abbrev pub ArePartlyRefreshed : List (List ℕ) → Views → Views → Type 0
 ArePartlyRefreshed names before after = AllZip (IsPartlyRefreshed names) before after
 
--- all stale ones of these names are
+-- the same, and no view of these names is stale afterwards
 abbrev pub AreRefreshed : List (List ℕ) → Views → Views → Type 0
 AreRefreshed names before after = ArePartlyRefreshed names before after × AllByRecursion (λ v. is_name_among v.name names ≡ true → is_stale v.mark ≡ false) after

@@ -15,9 +15,9 @@ use crate::told_registry::ToldRegistry;
 
 impl ToldRegistry {
     /// The rows that the view of this name keeps, with the namespace whose documents decide whether these rows are in the order of
-    /// their `_id`s: if its stages leave them so, as `$match`, `$limit`, a `$project` that shows `_id`, and a `$lookup` that isn't
-    /// put in its place do, and after a `$group`. None if there is no such view, if it is stale, or if its rows may be in another
-    /// order. Takes no memory.
+    /// their `_id`s. The stages must keep this order, as `$match`, `$limit`, a `$project` that shows `_id`, and a `$lookup` that
+    /// doesn't replace `_id` do; a `$group` returns rows in this order. None if there is no such view, if it is stale, or if its
+    /// rows may be in another order. Takes no memory.
     pub fn standing(&self, name: &str) -> Option<Standing<'_>>
         ensures rows { IfSome result (λ standing. rows_shown name.now self.now ≡ Some (forget standing.1)) }
         ensures ids { IfSome result (λ standing. (lists : Lists) → AreRight lists self.now → AllByRecursion HasId (lists standing.0) → AreAtIds standing.1) }

@@ -1,4 +1,4 @@
-//! Documents that go, told to the views one after the other.
+//! Documents that are removed, passed to the views one after the other.
 
 ghost use Rattle.std.specs.Prelude.{◌≡◌, ◌∷◌, [], map, None, Some, IfOk};
 ghost use Rattle.std.specs.List.{AllByRecursion};
@@ -21,8 +21,8 @@ use std::alloc::Global;
 use std::slice::from_ref;
 
 impl ToldRegistry {
-    /// Tells the views, as `apply` does, that these documents of the namespace are removed, one after the other. Their changes are
-    /// never in memory together. If memory runs out for one of them, each view that it comes to is stale.
+    /// Passes to the views, as `apply` does, the removals of these documents of the namespace, one after the other. These changes
+    /// are never in memory together. If memory runs out for one of them, each view that it reaches becomes stale.
     pub fn apply_gone(&mut self, namespace: &str, documents: Iter<'_>)
         requires { AllByRecursion HasId documents }
         ensures forms { map view_form self.new ≡ map view_form self.old }
@@ -41,7 +41,8 @@ impl ToldRegistry {
         }
     }
 
-    /// Hands on, in creation order, that a document goes; when memory runs out for that, each view that it comes to is stale.
+    /// Passes the removal of a document to the views, in creation order. If memory runs out for this change, each view that it
+    /// reaches becomes stale.
     fn take_gone(&mut self, namespace: &str, document: &Document)
         requires { HasId document.now }
         ensures taken { HaveTaken (known_at namespace.now (gones_of (document.now ∷ []))) self.old self.new }
@@ -53,7 +54,7 @@ impl ToldRegistry {
         }
     }
 
-    /// Hands a change for which memory ran out on: each view that it comes to is stale.
+    /// Passes a change for which memory ran out to the views: each view that it reaches becomes stale.
     pub(crate) fn lose(&mut self, namespace: &str)
         ensures taken { HaveLost namespace.now self.old self.new }
         ensures sound { IsSoundRegistry self.new }
@@ -63,7 +64,7 @@ impl ToldRegistry {
     }
 }
 
-/// The document, which begins with its `_id`, gone. Fails when memory runs out.
+/// The removal of the document, which begins with its `_id`. Fails when memory runs out.
 fn gone_of(alloc: Global, document: &Document) -> Result<Taken, NoMemory>
     requires { HasId document.now }
     ensures { IfOk result (λ taken. taken ≡ record { pos = own_position document.now; old = Some document.now; new = None }) }

@@ -12,7 +12,7 @@ one_more many old mid new before now = omega (arith, before, now)
 
 -- ---- how often a reader was asked
 
--- one time more of those that there may be
+-- one more read is allowed
 pub asks_few : (reads old mid new : ℕ) → reads < 2 ^ 32 → MoreBy reads old mid → MoreBy 1 mid new → AsksFew old new
 asks_few reads old mid new few before now = (reads + 1, omega (arith, few), one_more reads old mid new before now)
 

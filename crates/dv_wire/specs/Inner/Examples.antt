@@ -37,7 +37,7 @@ id number = record { number = number }
 
 pub record SessionExamples : Type 0 where
   pub first : (state : State) → Opens (world state 0 []) (Ok (id 0)) (world state 1 ((0, reading []) ∷ []))
-  -- a thousand may be opened and not ended, closed ones among them, and another one only once one of them has ended
+  -- 1,000 sessions may be opened and not ended, closed ones included; another one is opened only once one of them has ended
   pub another : (state : State) (next : ℕ) (sessions : List (ℕ × Conversation)) → length sessions ≡ 999 → next < 4294967296
       → Opens (world state next sessions) (Ok (id next)) (world state (suc next) (sessions ++ (next, reading []) ∷ []))
   pub too_many : (state : State) (next : ℕ) (sessions : List (ℕ × Conversation)) (session : SessionId) (new : World) → length sessions ≡ 1000
@@ -50,15 +50,15 @@ pub record SessionExamples : Type 0 where
   pub no_number : (state : State) (session : SessionId) (new : World) → Opens (world state 4294967296 []) (Ok session) new → ⊥
   pub unfinished : unfinished_in (Some (reading (26 ∷ 0 ∷ []))) ≡ 2
   pub none_unfinished : unfinished_in (Some (closed BadLength)) ≡ 0
-  -- a ping is answered, and not where moreToCome leaves its reply out; the last one is not whole
+  -- a ping is answered, but not if moreToCome leaves its reply out; the last message is not whole
   pub pings : (state : State) (session : ℕ)
       → plain_run session state (split (ping_message 0 ++ ping_message 2 ++ ping_message 0 ++ 47 ∷ [])) ≡ record { answers = pong ∷ [] ∷ pong ∷ []; state = state; conversation = reading (47 ∷ []) }
 
 pub record WantOverBytes : Type 0 where
-  -- moreToCome leaves a reply out, but not one that tells of want of memory: its session can't go on
+  -- moreToCome leaves a reply out, but not one that reports that memory ran out: its session can't go on
   pub plain : (reply : List Field) → bytes_to (asks true empty_document) (Reply reply) ≡ Some []
   pub untold : (reply : List Field) → bytes_to (asks true empty_document) (Wanting reply) ≡ None
   pub told : (reply : List Field) → bytes_to (asks false empty_document) (Wanting reply) ≡ Some (reply_bytes (asks false empty_document) reply)
   pub no_reply : (more_to_come : Bool) → bytes_to (asks more_to_come empty_document) NoReply ≡ None
-  -- a command that finds no memory, and waits for no reply
+  -- a command that runs out of memory, and waits for no reply
   pub refused : (state : State) (session : ℕ) → CarriesOutMessages session state (asks true empty_document ∷ []) (reading []) (unanswered state (closed NoMemory))

@@ -15,7 +15,7 @@ pub record IsPlain (text : List ℕ) : Type 0 where
   pub no_sign : slice_index text 0 ≢ 43
   pub no_zero : slice_index text 0 ≡ 48 → length text ≡ 1
 
--- the text is one or more pairs of digits, the first of them without spaces in front
+-- the text is one or more pairs of digits, without spaces before the first
 pub record IsPairs (text : List ℕ) : Type 0 where
   pub high : ℕ
   pub low : ℕ
@@ -23,7 +23,7 @@ pub record IsPairs (text : List ℕ) : Type 0 where
   pub whole : text ≡ high ∷ low ∷ written others
   pub all : AllPass is_hex_digit (high ∷ low ∷ hex_digits others)
 
--- the text begins with a pair of digits, and this stands behind it
+-- the text begins with a pair of digits, and `behind` follows it
 pub record BeginsWithPair (text behind : List ℕ) : Type 0 where
   pub high : ℕ
   pub low : ℕ
@@ -31,13 +31,13 @@ pub record BeginsWithPair (text behind : List ℕ) : Type 0 where
   pub first : is_hex_digit high ≡ true
   pub second : is_hex_digit low ≡ true
 
--- the text begins with spaces, and this stands behind all of them
+-- the text begins with spaces, and `behind` follows all of them
 pub record BeginsWithSpaces (text behind : List ℕ) : Type 0 where
   pub spaces : ℕ
   pub whole : text ≡ replicate spaces 32 ++ behind
   pub all : slice_index behind 0 ≢ 32
 
--- what reading pairs gives: the bytes of the text; or a fault where it is no pairs; or memory runs out where it is
+-- the result of reading pairs: the bytes of the text; or a fault if the text isn't pairs; or, if it is, that memory ran out
 abbrev pub Decodes : List ℕ → Result (List ℕ) LineFault → Type 0
 Decodes text (Ok bytes) = IsHexOf bytes text
 Decodes text (Err BadLine) = (bytes : List ℕ) → IsHexOf bytes text → ⊥

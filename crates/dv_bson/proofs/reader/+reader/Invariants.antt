@@ -30,7 +30,7 @@ decreases-begin_like l = 6 * l.levels + 3
 abbrev pub decreases-begin : goal.decreases-begin
 decreases-begin l = 6 * l.levels + 4
 
--- What is still to be read, behind what was read, gives what the whole gives.
+-- Reading the rest, after what was read, gives the same as reading the whole.
 abbrev pub invariant-document_of-elements : goal.invariant-document_of-elements
 invariant-document_of-elements l = record {
   read : fields_at (body_at (l.levels - 1)) (length l.rest) false l.at l.fields l.rest l.last ≡ body_at l.levels false l.fn.at l.elements l.last;

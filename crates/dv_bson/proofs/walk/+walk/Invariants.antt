@@ -3,7 +3,7 @@ use Rattle.dv_value.specs.Tree.{Field}
 use Rattle.dv_bson.specs.Reading.{fields_at, body_at}
 use Rattle.dv_bson.proofs.walk.+walk.Given as goal
 
--- A document's or an array's elements are gone over with a level less, by way of an element and its value.
+-- A document's or an array's elements are checked with a level less, by way of an element and its value.
 abbrev pub decreases-walk_document : goal.decreases-walk_document
 decreases-walk_document l = 3 * l.levels
 
@@ -19,7 +19,7 @@ decreases-behind_field l = 3 * l.levels + 2
 abbrev pub decreases-behind_element : goal.decreases-behind_element
 decreases-behind_element l = 3 * l.levels + 2
 
--- What is still to be read, behind fields with these names, gives what the whole gives.
+-- Reading the rest, after fields with these names, gives the same as reading the whole.
 abbrev pub invariant-walk_document-elements : goal.invariant-walk_document-elements
 invariant-walk_document-elements l = record {
   seen : List Field;

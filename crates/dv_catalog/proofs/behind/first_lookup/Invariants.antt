@@ -3,7 +3,7 @@ use Rattle.std.specs.List.{list_all}
 use Rattle.dv_catalog.specs.Inner.Behind.{looks_nowhere}
 use Rattle.dv_catalog.proofs.behind.first_lookup.Given as goal
 
--- the stages so far look into nothing
+-- the stages so far look up nothing
 abbrev pub invariant-stages : goal.invariant-stages
 invariant-stages l = record {
   within : l.place ≤ length l.stages;

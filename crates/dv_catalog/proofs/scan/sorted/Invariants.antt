@@ -3,6 +3,6 @@ use Rattle.dv_pipe.specs.Sources.{rows_referred}
 use Rattle.dv_catalog.proofs.Scanned.{IsSorting}
 use Rattle.dv_catalog.proofs.scan.sorted.Given as goal
 
--- these rows came to the sorter, so far
+-- the rows that the sorter has received so far
 abbrev pub invariant-rows : goal.invariant-rows
 invariant-rows l = IsSorting l.sort l.fn.most l.sorter (rows_referred (drop l.row-index l.rows)) (rows_referred l.fn.rows)

@@ -7,7 +7,7 @@ use Rattle.dv_catalog.specs.Effects as updates
 use Rattle.dv_catalog.specs.Inner.EffectView.{after_of}
 use Rattle.dv_catalog.proofs.update.changed_by.Given as goal
 
--- what was changed so far, and what becomes of the documents that are left
+-- what was changed so far, and the results for the documents that are left
 abbrev pub invariant-documents : goal.invariant-documents
 invariant-documents l = record {
   afters : updates.changed_by (seen.update l.fn.update) (rows_referred l.fn.documents)

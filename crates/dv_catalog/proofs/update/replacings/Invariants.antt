@@ -2,7 +2,7 @@ use Rattle.std.proofs.Common.{◌≡◌, ◌++◌, length, map}
 use Rattle.dv_index.specs.Inner.View.{afters, befores}
 use Rattle.dv_catalog.proofs.update.replacings.Given as goal
 
--- those so far, and those that are left
+-- the pairs so far, and those that are left
 abbrev pub invariant-documents : goal.invariant-documents
 invariant-documents l =
     (goal.iterator-documents).can_next l.document-iterator × (goal.iterator-documents).is_finite l.document-iterator

@@ -1,4 +1,4 @@
--- What the first turn hands on leads from what it made to what it makes, which those behind it take in.
+-- The changes that the first operator returns lead from its old result to its new one; the operators after it take them in.
 use Rattle.std.proofs.Common.{rules, ◌≡◌, ◌∙◌, ◌++◌, ◌∷◌, sym, ap}
 use Rattle.std.specs.List.{AllByRecursion}
 use Rattle.dv_change.specs.Changes.{with_changes}

@@ -1,4 +1,4 @@
--- What the turn hands on leads from what it made to what it makes, which those behind it take in.
+-- The changes that the operator returns lead from its old result to its new one; the operators after it take them in.
 use Rattle.std.proofs.Common.{rules, ◌≡◌, ◌∙◌, ◌++◌, ◌∷◌, sym, ap}
 use Rattle.dv_change.specs.declared.input.Input.TheVariants.{Named}
 use Rattle.dv_change.specs.Inner.Linked.{first_left}

@@ -1,4 +1,4 @@
--- Each time one turn less is left.
+-- Each time one operator less is left.
 use Rattle.std.proofs.Common.{length}
 use Rattle.dv_change.proofs.chain.+feed_named.Given as goal
 

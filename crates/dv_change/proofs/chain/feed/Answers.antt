@@ -1,4 +1,4 @@
--- What the turn handed on before it failed stands behind what the changes before it handed on.
+-- What the operator appended before it failed follows what it appended for the changes before.
 use Rattle.std.proofs.Common.{rules}
 use Rattle.dv_change.specs.Inner.Beginning.{BeginsWith}
 use Rattle.dv_change.proofs.Beginning.{begins-through}

@@ -1,4 +1,4 @@
--- What the turn has taken in with the changes to come is what it takes in of all.
+-- What the operator has taken in, with the changes that are left, is what it takes in by all of them.
 use Rattle.std.proofs.Common.{◌≡◌, ◌≤◌, ◌++◌}
 use Rattle.std.specs.Vec.Iter.{into_iter_items}
 use Rattle.dv_change.specs.Inner.Beginning.{BeginsWith}

@@ -1,4 +1,4 @@
--- What comes out leads from what the last turn made to what it makes.
+-- The changes that are returned lead from the last operator's old result to its new one.
 use Rattle.std.proofs.Common.{◌≡◌, ◌∙◌, ◌++◌, ◌∷◌, [], ap, sym}
 use Rattle.dv_change.specs.Changes.{with_changes}
 use Rattle.dv_change.specs.Inputs.{left_after}

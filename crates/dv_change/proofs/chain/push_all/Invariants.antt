@@ -1,4 +1,4 @@
--- The changes so far stand behind the others.
+-- The changes so far follow the others.
 use Rattle.std.proofs.Common.{◌≡◌, ◌++◌}
 use Rattle.std.specs.Vec.Iter.{into_iter_items}
 use Rattle.dv_change.specs.Inner.Beginning.{BeginsWith}

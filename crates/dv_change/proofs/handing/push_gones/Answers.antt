@@ -1,4 +1,4 @@
--- Where there is no row, nothing is put.
+-- If there is no row, nothing is appended.
 use Rattle.std.proofs.Common.{rules, ◌≡◌, ◌++◌, ap, sym, ◌∙◌, append-nil, slice_get, None}
 use Rattle.dv_change.specs.Inner.Told.{gones_told}
 use Rattle.dv_change.proofs.Fronts.{nothing}

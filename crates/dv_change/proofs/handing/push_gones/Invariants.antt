@@ -1,4 +1,4 @@
--- What is put so far, and what is left to put, are all that goes.
+-- The removals so far, and those that are left, are all removals.
 use Rattle.std.proofs.Common.{◌≡◌, ◌++◌}
 use Rattle.dv_change.specs.Inner.Beginning.{BeginsWith}
 use Rattle.dv_change.specs.Inner.Told.{gones_told}

@@ -1,4 +1,4 @@
--- What is put so far, and what is left, are all that comes.
+-- What is put so far, and what is left, are together all that is put.
 use Rattle.std.proofs.Common.{rules, arith, ◌≡◌, ◌++◌, ◌∷◌, ap, sym, ◌∙◌, append_assoc, append-nil, drop, slice_get, List, Some, None}
 use Rattle.std.proofs.lemmas.Grind.{common_steps}
 use Rattle.dv_value.specs.Tree.{Field}

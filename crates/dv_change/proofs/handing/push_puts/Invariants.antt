@@ -1,4 +1,4 @@
--- What is put so far, and what is left to put, are all that comes.
+-- What is put so far, and what is left to put, are together all that is put.
 use Rattle.std.proofs.Common.{◌≡◌, ◌++◌}
 use Rattle.dv_change.specs.Inner.Beginning.{BeginsWith}
 use Rattle.dv_change.specs.Inner.Told.{puts_told}

@@ -1,4 +1,4 @@
--- The list at the place takes the change in.
+-- The change is applied to the list at the place.
 use Rattle.std.proofs.Common.{◌≡◌, ◌∙◌, ap}
 use Rattle.std.specs.Prelude.{Result, Ok, Err, IfOk}
 use Rattle.dv_change.specs.Inner.Answered.{ok-one}

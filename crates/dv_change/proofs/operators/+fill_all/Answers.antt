@@ -1,4 +1,4 @@
--- What the first operator tells leads from nothing to what it makes, which those behind it take in.
+-- The changes that the first operator returns lead from no rows to its result; the operators after it take them in.
 use Rattle.std.proofs.Common.{rules, ◌≡◌, ◌∷◌}
 use Rattle.dv_change.specs.Inner.Answered.{ok-in}
 use Rattle.dv_change.proofs.Passing.{filled-through}

@@ -1,4 +1,4 @@
--- The first operator holds what it held, and so do those behind it.
+-- The first operator holds what it held, and so do those after it.
 use Rattle.std.proofs.Common.{rules, ◌≡◌, ◌∷◌}
 use Rattle.dv_change.specs.Inner.Answered.{ok-one}
 use Rattle.dv_change.proofs.Passing.{stays-more}

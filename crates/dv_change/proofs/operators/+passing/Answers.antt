@@ -1,4 +1,4 @@
--- What the first operator tells leads from what it made to what it makes, which those behind it take in.
+-- The changes that the first operator returns lead from its old result to its new one; the operators after it take them in.
 use Rattle.std.proofs.Common.{rules, ◌≡◌, ◌∙◌, ◌++◌, ◌∷◌, [], List, ap, length, subst, sym}
 use Rattle.std.specs.Option.{option_map}
 use Rattle.std.proofs.lemmas.Bool.{eqb-true}

@@ -1,4 +1,4 @@
--- The change is of a list of the first operator, or of one behind it.
+-- The change is of a list of the first operator, or of one after it.
 use Rattle.std.proofs.Common.{rules, ◌≡◌, ◌∙◌, ◌++◌, ◌∷◌, List, ap, subst}
 use Rattle.std.specs.Option.{option_map}
 use Rattle.dv_change.specs.declared.input.Input.TheVariants.{Named}

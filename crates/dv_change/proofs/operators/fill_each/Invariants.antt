@@ -1,4 +1,4 @@
--- So far, what they told of their first rows leads from nothing to what they make.
+-- The changes that they have returned so far for their first rows lead from no rows to their result.
 use Rattle.std.proofs.Common.{◌≡◌, List, []}
 use Rattle.std.specs.List.{AllByRecursion}
 use Rattle.std.specs.Vec.Iter.{into_iter_items}

@@ -1,4 +1,4 @@
--- What they hold stays where it takes less memory.
+-- What they hold stays the same when it is stored in less memory.
 use Rattle.dv_change.proofs.Passing.{filled-packed}
 use Rattle.dv_change.proofs.operators.fill_packed.Goals as goal
 

@@ -1,4 +1,4 @@
--- Whatever it has taken in, it is about to take in the rest of it.
+-- Whatever it has taken in, it is about to take in the rest of the changes.
 use Rattle.std.proofs.Common.{◌≡◌, List}
 use Rattle.std.specs.List.{AllByRecursion}
 use Rattle.std.specs.Vec.Iter.{into_iter_items}

@@ -1,4 +1,4 @@
--- A change is taken in, beside the rows that are kept where there are any.
+-- A change is taken in, with the stored rows if there are any.
 use Rattle.std.proofs.Common.{Option, ap, subst}
 use Rattle.std.specs.Option.{option_map}
 use Rattle.dv_change.specs.Changes.{Positioned}

@@ -1,4 +1,4 @@
--- The same stands at each position of both trees.
+-- Both trees have the same row at each position.
 use Rattle.std.proofs.Common.{◌∙◌, refl}
 use Rattle.std.proofs.lemmas.Map.Keys.{IsDistinct-from_sorted}
 use Rattle.std.proofs.lemmas.Map.Made.{update_all_none}

@@ -1,4 +1,4 @@
--- The parts so far stand behind the others.
+-- The parts so far follow the others.
 use Rattle.std.proofs.Common.{◌≡◌, ◌++◌, take}
 use Rattle.dv_change.proofs.position.push_all.Given as goal
 

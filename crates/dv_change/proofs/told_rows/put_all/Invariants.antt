@@ -1,4 +1,5 @@
--- What is left, on the rows so far, makes what all does; and behind what was told it is all that is told.
+-- The changes that are left, applied to the rows so far, give what all changes give; and what is appended so far, followed by them,
+-- is all that is appended.
 use Rattle.std.proofs.Common.{◌≡◌, ◌++◌}
 use Rattle.std.specs.Vec.Iter.{into_iter_items}
 use Rattle.dv_change.specs.Changes.{with_changes}

@@ -1,4 +1,4 @@
--- What is left, on the rows so far, makes what all does.
+-- The changes that are left, applied to the rows so far, give what all changes give.
 use Rattle.std.proofs.Common.{◌≡◌}
 use Rattle.std.specs.Vec.Iter.{into_iter_items}
 use Rattle.dv_change.specs.Changes.{with_changes}

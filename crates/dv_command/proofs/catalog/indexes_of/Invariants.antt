@@ -1,4 +1,4 @@
--- the indexes so far stand in front of those of the other entries
+-- the indexes so far are followed by those of the other entries
 use Rattle.std.proofs.Common.{◌≡◌, ◌++◌, Ok, map}
 use Rattle.dv_command.specs.Entries.{index_asked}
 use Rattle.dv_command.specs.Inner.View.{index_seen}

@@ -1,4 +1,4 @@
--- what was read out of the values so far stands in front of what is read out of the others
+-- what was read from the values so far is followed by what is read from the others
 use Rattle.std.proofs.Common.{◌≡◌, ◌++◌, Ok, drop, map}
 use Rattle.dv_value.specs.View.{tree}
 use Rattle.dv_command.specs.Fields.{integer_in}

@@ -2,7 +2,7 @@ use Rattle.std.proofs.Common.{◌≡◌, ◌++◌, drop, length, take}
 use Rattle.dv_core.specs.More.{went_each, without_cursors}
 use Rattle.dv_core.proofs.more.kill_each.Given as goal
 
--- the ids so far went, or had no cursor
+-- the ids so far had a cursor, which was ended, or had none
 abbrev pub invariant-ids : goal.invariant-ids
 invariant-ids l = record {
   long : length l.went.items ≡ length l.ids;

@@ -6,7 +6,7 @@ use Rattle.dv_files.specs.declared.file.FileFault.{FileFault}
 use Rattle.dv_files.specs.declared.file.FileFault.TheVariants as file
 use Rattle.dv_files.proofs.check.check.Goals as goal
 
--- a check tells of a file that is too large where the reading of it does
+-- a check reports a file that is too large if reading it does
 too_large : {A : Type 0} (result : Result A CheckFault) (fault : FileFault) → IsErrAnd result (λ e. e ≡ read_fault fault) → result ≡ Err faults.TooLarge → fault ≡ file.TooLarge
 too_large (Ok x) fault told large = absurd told
 too_large (Err e) file.Read told large = cc

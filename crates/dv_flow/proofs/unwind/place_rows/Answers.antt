@@ -1,4 +1,4 @@
--- The row at the place is put in front of those that are placed, unless it is marked.
+-- The row at the place is put before those that are placed, unless it is marked.
 use Rattle.std.proofs.Common.{◌≡◌, ◌<◌, ◌∙◌, ◌+◌, ◌-◌, ◌∷◌, [], ◌++◌, ap, sym, arith, rules, drop, length}
 use Rattle.dv_change.specs.declared.position.Part.TheVariants.{At}
 use Rattle.dv_change.specs.Changes.{in_row_order}

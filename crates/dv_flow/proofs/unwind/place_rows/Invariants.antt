@@ -1,4 +1,4 @@
--- Those from the place on are placed.
+-- The rows from the place on are placed.
 use Rattle.std.proofs.Common.{◌≡◌, drop}
 use Rattle.dv_change.specs.Changes.{in_row_order}
 use Rattle.dv_flow.specs.Inner.Unwinding.{rows_unmarked}

@@ -1,4 +1,4 @@
--- The fields so far, before those that are left give.
+-- The fields so far, followed by those that the rest gives.
 use Rattle.std.proofs.Common.{◌≡◌, map}
 use Rattle.dv_value.specs.Results.{each}
 use Rattle.dv_row.specs.Inner.EachLaws.{after_each}

@@ -1,4 +1,4 @@
--- What is left is still to be put behind the fields.
+-- What is left is still to be put after the fields.
 use Rattle.std.proofs.Common.{◌≡◌, map, drop}
 use Rattle.std.specs.Vec.Iter.{into_iter_items}
 use Rattle.dv_value.specs.View.{tree}

@@ -1,4 +1,4 @@
--- Where there is no first value, there is none.
+-- If there is no first value, there is none.
 use Rattle.std.proofs.Common.{rules, ◌≡◌, ◌∙◌, ap, map, sym, slice_get, None}
 use Rattle.dv_value.specs.View.{tree}
 use Rattle.dv_group.specs.Inner.AccumulatorStates.{values_in}

@@ -1,4 +1,4 @@
--- The copies so far, and the values that are left, are all.
+-- The copies so far and the values that are left are all values.
 use Rattle.std.proofs.Common.{◌≡◌, ◌++◌, map}
 use Rattle.dv_value.specs.View.{tree}
 use Rattle.dv_group.specs.Inner.AccumulatorStates.{values_in}

@@ -1,4 +1,4 @@
--- They are what leads from nothing to the rows.
+-- They are the changes from no rows to these.
 use Rattle.std.proofs.Common.{◌++◌, ◌∙◌}
 use Rattle.dv_change.specs.Inner.Told.{diff_told}
 use Rattle.dv_group.proofs.group_operator.puts_of.Goals as goal

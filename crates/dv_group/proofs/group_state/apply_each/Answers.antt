@@ -1,4 +1,4 @@
--- Each turn changes the state of one field.
+-- Each turn of the loop changes the state of one field.
 use Rattle.std.proofs.Common.{◌≡◌, ◌+◌, [], ◌∷◌, ◌∙◌, List, ap, drop, map, subst, sym}
 use Rattle.std.proofs.lemmas.List.{with_items_is}
 use Rattle.dv_gather.specs.Inner.GroupView.{accumulation}

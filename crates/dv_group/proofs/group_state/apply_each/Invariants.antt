@@ -1,4 +1,4 @@
--- What is left still changes, and stands as it did.
+-- The states that are left are still to be changed, and are as they were.
 use Rattle.std.proofs.Common.{◌≡◌, map, drop}
 use Rattle.dv_gather.specs.Inner.GroupView.{accumulation}
 use Rattle.dv_group.specs.Inner.SumBounds.{AreSummableIn, HaveRoom}

@@ -1,4 +1,4 @@
--- The changes that are left move the rows so far as all of them do.
+-- The changes that are left lead from the rows so far to the rows after all changes.
 use Rattle.std.proofs.Common.{◌≡◌}
 use Rattle.std.specs.Vec.Iter.{into_iter_items}
 use Rattle.dv_order.specs.Key.{KeyTree}

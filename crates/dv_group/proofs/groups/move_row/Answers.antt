@@ -1,4 +1,4 @@
--- Where the keys are equal, one group changes, and else one after the other.
+-- If the keys are equal, one group changes; otherwise one group after the other.
 use Rattle.std.proofs.Common.{rules, ◌≡◌, ◌∙◌, ap, cond, false, true}
 use Rattle.dv_change.specs.Inner.Ordered.{gone}
 use Rattle.dv_change.specs.Positions.{PosTree}

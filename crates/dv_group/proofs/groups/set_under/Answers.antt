@@ -1,4 +1,4 @@
--- The rows as they were set stand in the slot of those that were there, or nothing where none are left.
+-- The changed group is in the slot of the old one, or is removed if it has no rows left.
 use Rattle.std.proofs.Common.{◌∙◌, ap, sym, None, Some}
 use Rattle.dv_group.specs.Inner.Members.{group_members, rows_in, set_at}
 use Rattle.dv_group.proofs.Under.{group-there, groups-left, groups-written, changed-under, found-there, shown-alike, written-over, written-there}

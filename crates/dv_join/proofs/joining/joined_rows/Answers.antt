@@ -1,4 +1,4 @@
--- Rows in order that are put one after the other are these rows.
+-- Rows in order, put one after the other into an empty list, are these rows.
 use Rattle.std.proofs.Common.{rules, ◌≡◌, ◌∙◌, ◌∷◌, [], ap, drop, slice_get, sym, List, None, Some}
 use Rattle.dv_value.specs.Tree.{Field}
 use Rattle.dv_change.specs.Changes.{forget}

@@ -1,4 +1,5 @@
--- Of the rows that are left the copies are left. The rows so far, and those that are left, joined, are all.
+-- The copies that are left are those of the rows that are left. The joined rows so far, and those of the rows that are left, are
+-- all joined rows.
 use Rattle.std.proofs.Common.{◌≡◌, []}
 use Rattle.std.specs.Prelude.{List}
 use Rattle.dv_value.specs.Tree.{Field}

@@ -1,4 +1,4 @@
--- One value more is one row less that is left.
+-- For each value that is added, one row less is left.
 use Rattle.std.proofs.Common.{rules, ◌≡◌, ◌∙◌, ◌∷◌, ◌++◌, [], ap, append-nil, append_assoc, drop, map, slice_get, sym, List, None, Some}
 use Rattle.std.proofs.lemmas.List.{map-append}
 use Rattle.dv_value.specs.Tree.{Field, Tree}

@@ -1,4 +1,4 @@
--- The values so far, and those of the rows that are left, are all.
+-- The values so far, and those of the rows that are left, are all values.
 use Rattle.std.proofs.Common.{◌≡◌, ◌++◌, map}
 use Rattle.dv_value.specs.View.{tree}
 use Rattle.dv_change.specs.Changes.{forget}

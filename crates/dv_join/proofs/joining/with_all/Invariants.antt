@@ -1,4 +1,4 @@
--- What is put so far, and what is left to put, are all.
+-- The rows put so far, and those that are left to put, are all rows.
 use Rattle.std.proofs.Common.{◌≡◌}
 use Rattle.dv_join.specs.Inner.Listed as listed
 use Rattle.dv_join.proofs.joining.with_all.Given as goal

@@ -15,7 +15,7 @@ decreases-narrow_by_member l = 2 * member_weight (member l.part.now)
 abbrev pub decreases-narrow_by_filters : goal.decreases-narrow_by_filters
 decreases-narrow_by_filters l = 2 * filters_weight l.filters.now + 1
 
--- a key that is in all bounds is in those that are left, and no key between the ends is lost that is
+-- a key that is in all bounds is in those that are left, and still between the ends if it was
 abbrev pub invariant-narrow_by_filter-loop-member : goal.invariant-narrow_by_filter-loop-member
 invariant-narrow_by_filter-loop-member l =
     (k : KeyTree) → is_in_all k l.path l.fn.filter ≡ true → (is_in_all k l.path (members_of (map member (drop l.member-index l.member-items))) ≡ true) × (is_between l.fn.ends k ≡ true → is_between l.ends k ≡ true)

@@ -1,4 +1,4 @@
--- A comparison goes down both values in step, so the weight of the first falls. Each step of a loop leaves what is after it.
+-- A comparison descends into both values together, so the weight of the first falls. Each step of a loop leaves the rest of both.
 use Rattle.std.proofs.Common.{◌+◌, ◌*◌, ◌≤◌, drop, map}
 use Rattle.dv_value.specs.Tree.{fields_of, elements_of}
 use Rattle.dv_value.specs.Inner.Tree.{weight, fields_weight, elements_weight}

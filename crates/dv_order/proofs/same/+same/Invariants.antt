@@ -1,4 +1,4 @@
--- Two values are gone through side by side, so the weight of the first falls.
+-- Both values are descended into together, so the weight of the first falls.
 use Rattle.std.proofs.Common.{◌+◌, ◌*◌, ◌≤◌, drop, map}
 use Rattle.std.specs.Cmp.Lexicographic.{pointwise}
 use Rattle.dv_value.specs.Tree.{fields_of, elements_of}

@@ -15,7 +15,7 @@ use Rattle.dv_path.proofs.Together.{lent}
 use Rattle.dv_path.proofs.Vectors.{remove-some, remove-past}
 use Rattle.dv_path.proofs.removing_each.+together.Goals as goal
 
--- the groups as the loop goes through them
+-- the groups as the loop visits them
 in-these : (paths : List (List (List ℕ))) (groups items : List Group) → items ≡ groups → IsGrouping (map group groups) paths → IsGrouping (map group items) paths
 in-these paths groups items is grouping = let P : List Group → Type 0 = λ gs. IsGrouping (map group gs) paths in subst P (sym is) grouping
 

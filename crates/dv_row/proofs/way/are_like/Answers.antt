@@ -1,4 +1,4 @@
--- The next ones are alike too.
+-- The next ones are like each other too.
 use Rattle.std.proofs.Common.{◌∙◌, ap, sym, take, Some, arith, rules}
 use Rattle.dv_value.specs.Inner.ListLaws.{take-read}
 use Rattle.dv_row.specs.Inner.Crossings.{set_inward}

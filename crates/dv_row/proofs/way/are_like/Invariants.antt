@@ -1,4 +1,4 @@
--- Where a value is set in the first ones of both, the outermost ones become the same.
+-- If a value is set in the first ones of both, the outermost ones become the same.
 use Rattle.std.proofs.Common.{◌≡◌, Some, take}
 use Rattle.dv_value.specs.Tree.{Tree}
 use Rattle.dv_row.specs.Inner.Crossings.{set_inward}

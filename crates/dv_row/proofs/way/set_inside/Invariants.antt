@@ -1,4 +1,4 @@
--- The value for the documents that are left stands in place of the last one that was set.
+-- The value for the documents that are left replaces the last one that was set.
 use Rattle.std.proofs.Common.{◌≡◌, take}
 use Rattle.std.specs.Option.{option_map}
 use Rattle.dv_value.specs.View.{tree}

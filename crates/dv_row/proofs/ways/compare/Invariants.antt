@@ -1,4 +1,4 @@
--- Each step of the loop leaves what is behind it.
+-- Each step of the loop leaves the rest.
 use Rattle.dv_value.specs.Inner.LeftLaws.{IsLeft}
 use Rattle.dv_row.specs.Inner.Ways.{way_order}
 use Rattle.dv_row.proofs.ways.compare.Given as goal

@@ -1,4 +1,4 @@
--- The values so far stand behind the list.
+-- The list is followed by the values so far.
 use Rattle.std.proofs.Common.{◌≡◌, ◌++◌, map, take}
 use Rattle.dv_value.specs.View.{tree}
 use Rattle.dv_update.proofs.edit.joined.Given as goal

@@ -1,4 +1,4 @@
--- What is left of the edits makes of the document what all of them make.
+-- The edits that are left have the same result for the document so far as all edits have for the first one.
 use Rattle.std.proofs.Common.{◌≡◌, map, drop}
 use Rattle.dv_update.specs.Apply.{edited}
 use Rattle.dv_update.specs.View.{edit}

@@ -1,4 +1,4 @@
--- What is ahead parts from what is left as the paths do.
+-- What is left of the two paths parts as the whole paths do.
 use Rattle.std.proofs.Common.{◌≡◌, length}
 use Rattle.dv_update.specs.Inner.StandIn.{parting}
 use Rattle.dv_update.proofs.far.parting.Given as goal

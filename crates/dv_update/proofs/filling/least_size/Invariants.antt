@@ -1,4 +1,4 @@
--- What is counted, and what is left to count, is no more than all.
+-- What is counted and what is left to count are together no more than all.
 use Rattle.std.proofs.Common.{◌+◌, ◌≤◌, drop, map}
 use Rattle.dv_update.specs.Inner.Filling.{least_size}
 use Rattle.dv_update.specs.Inner.FillView.{fill}

@@ -1,4 +1,4 @@
--- The edits that are left are refused as all of them are, and else keep the same `_id`.
+-- The edits that are left are refused as all of them are; if they aren't refused, the `_id` is the same.
 use Rattle.std.proofs.Common.{length, map}
 use Rattle.dv_update.specs.Apply.{edited}
 use Rattle.dv_update.specs.Inner.Collected.{Steps}

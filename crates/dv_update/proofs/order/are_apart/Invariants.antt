@@ -1,4 +1,4 @@
--- What holds of the edits that are left holds of all, as far as each parts from the next.
+-- If `Steps` holds of the edits that are left, it holds of all edits.
 use Rattle.std.proofs.Common.{length, map}
 use Rattle.dv_update.specs.View.{edit}
 use Rattle.dv_update.specs.Inner.Collected.{Steps}

@@ -1,4 +1,4 @@
--- Each step of the loop leaves what is behind it.
+-- Each step of the loop leaves the components that follow.
 use Rattle.std.specs.Cmp.Lexicographic.{slice_cmp}
 use Rattle.dv_update.specs.PathOrder.{component_order}
 use Rattle.dv_update.proofs.order.compare_paths.Given as goal

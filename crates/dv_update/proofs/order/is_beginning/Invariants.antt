@@ -1,4 +1,4 @@
--- Each step of the loop leaves what is behind it.
+-- Each step of the loop leaves the components that follow.
 use Rattle.dv_update.specs.PathOrder.{begins}
 use Rattle.dv_update.proofs.order.is_beginning.Given as goal
 use Rattle.dv_value.specs.Inner.LeftLaws.{IsLeft}

@@ -1,4 +1,4 @@
--- The edits so far stand behind those that were there.
+-- The edits so far come after those that were there.
 use Rattle.std.proofs.Common.{◌≡◌, map}
 use Rattle.dv_update.specs.Inner.Collected.{behind}
 use Rattle.dv_update.specs.Parsing.{edits_by}

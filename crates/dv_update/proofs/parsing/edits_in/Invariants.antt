@@ -1,4 +1,4 @@
--- The edits so far are those of the operators that were looked at.
+-- The edits so far are those of the operators that were read.
 use Rattle.std.proofs.Common.{◌≡◌, map}
 use Rattle.dv_update.specs.Inner.Collected.{behind}
 use Rattle.dv_update.specs.Parsing.{edits_in}

@@ -1,4 +1,4 @@
--- The bytes so far, and those that are left, are all.
+-- The bytes so far and those that are left are together all bytes.
 use Rattle.std.proofs.Common.{◌≡◌, ◌+◌, drop}
 use Rattle.dv_update.specs.Inner.StandIn.{names_length}
 use Rattle.dv_update.proofs.pieces.names_size.Given as goal

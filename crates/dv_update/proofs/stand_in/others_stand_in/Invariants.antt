@@ -1,4 +1,4 @@
--- What is left of the edits makes, of what the document stands in for, what all of them make.
+-- The edits that are left have the same result, for what the document stands in for, as all edits have for the first one.
 use Rattle.std.proofs.Common.{◌≡◌, List, map, drop}
 use Rattle.dv_value.specs.Tree.{Field}
 use Rattle.dv_update.specs.Apply.{edited}

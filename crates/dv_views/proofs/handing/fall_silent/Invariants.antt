@@ -1,4 +1,4 @@
--- What the views so far told is let go, and nothing else.
+-- The changes that the views so far have passed on are dropped, and nothing else.
 use Rattle.std.proofs.Common.{◌≡◌, drop, length, map}
 use Rattle.dv_views.specs.Inner.Handing.{AreSilentBut, silenced}
 use Rattle.dv_views.proofs.handing.fall_silent.Given as goal

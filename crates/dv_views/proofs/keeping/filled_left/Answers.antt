@@ -1,4 +1,4 @@
--- The rows come where none were.
+-- The rows are inserted where there were none.
 use Rattle.dv_change.specs.declared.told_rows.ToldRows.{ToldRows}
 use Rattle.dv_views.specs.declared.stage_operator.StageOperator.{StageOperator}
 use Rattle.dv_views.specs.Placed.{forms}

@@ -1,4 +1,4 @@
--- Operators that are the stages and have taken in nothing are the stages over lists of no rows.
+-- Operators of stages that have taken in nothing have taken in lists of no rows.
 use Rattle.std.proofs.Common.{rules, ◌≡◌, List, subst, sym}
 use Rattle.dv_change.specs.Inner.RowLaws.{positioned-none}
 use Rattle.dv_change.specs.Changes.{Positioned}

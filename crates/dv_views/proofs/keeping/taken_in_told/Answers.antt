@@ -1,4 +1,4 @@
--- Where nothing is told, nothing turns.
+-- If there are no changes, the rows stay the same.
 use Rattle.std.proofs.Common.{◌≡◌, List, Option, None, Some, ap, subst, sym}
 use Rattle.std.specs.Option.{option_map}
 use Rattle.dv_change.specs.declared.taking.Taken as taking

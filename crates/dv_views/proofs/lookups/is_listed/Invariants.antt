@@ -1,4 +1,4 @@
--- None of the names so far is the one.
+-- None of the names so far is the name that is looked for.
 use Rattle.std.proofs.Common.{◌≡◌, drop}
 use Rattle.dv_views.specs.Forms.{is_name_among}
 use Rattle.dv_views.proofs.lookups.is_listed.Given as goal

@@ -1,4 +1,4 @@
--- The names so far, and behind them those of the stages that are left.
+-- The names so far, and after them those of the stages that are left.
 use Rattle.std.proofs.Common.{◌≡◌, ◌++◌, drop}
 use Rattle.dv_views.specs.Forms.{names_read}
 use Rattle.dv_views.specs.Placed.{lookups_of}

@@ -1,4 +1,4 @@
--- The names so far stand behind the others.
+-- The names so far are after the others.
 use Rattle.std.proofs.Common.{◌≡◌, ◌++◌, ◌∷◌, take}
 use Rattle.dv_views.specs.Placed.{lookups_of}
 use Rattle.dv_views.proofs.lookups.push_names_read.Given as goal

@@ -1,4 +1,4 @@
--- What comes to a list puts its rows in.
+-- The changes of a list insert its rows.
 use Rattle.std.proofs.Common.{◌∙◌}
 use Rattle.dv_change.specs.declared.told_rows.ToldRows.{ToldRows}
 use Rattle.dv_views.specs.declared.stage_operator.StageOperator.{StageOperator}

@@ -1,4 +1,4 @@
--- The places so far stand where they do once the other is gone.
+-- The places so far are already lowered for the removal of the other place.
 use Rattle.std.proofs.Common.{◌≡◌, ◌++◌, map, take, drop}
 use Rattle.dv_views.specs.Inner.Readers.{lowered}
 use Rattle.dv_views.proofs.readers.take_out_of.Given as goal

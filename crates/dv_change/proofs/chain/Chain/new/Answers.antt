@@ -1,4 +1,4 @@
--- Of nothing, each turn makes nothing.
+-- For no rows, each operator's result has no rows.
 use Rattle.dv_change.proofs.Linking.{fresh-linked}
 use Rattle.dv_change.proofs.chain.Chain.new.Goals as goal
 

@@ -1,4 +1,4 @@
--- What is told is what is owed.
+-- What is returned is what is owed.
 use Rattle.std.proofs.Common.{◌≡◌, ◌∙◌, ◌++◌, ap, arith, Result, Ok, Err, OnErr}
 use Rattle.dv_change.specs.Inner.Answered.{ok-one}
 use Rattle.dv_change.specs.Work.{owed_by}

@@ -1,4 +1,4 @@
--- Each change takes it one change further; what it tells of all of them leads from nothing to what it makes.
+-- Each change takes it one change further; the changes that it returns for all of them lead from no rows to its result.
 use Rattle.std.proofs.Common.{rules, ◌≡◌, ◌∙◌, ◌++◌, ◌+◌, ◌∷◌, [], List, length, ap, refl, subst, sym}
 use Rattle.std.specs.Vec.Iter.{into_iter_items}
 use Rattle.dv_change.specs.declared.taking.Taken.{Taken}

@@ -1,4 +1,4 @@
--- Whatever puts its first rows in, it is about to take in the rest of it.
+-- Whatever changes insert its first rows, it is about to take in the rest of them.
 use Rattle.std.proofs.Common.{◌≡◌, List, []}
 use Rattle.std.specs.List.{AllByRecursion}
 use Rattle.std.specs.Vec.Iter.{into_iter_items}

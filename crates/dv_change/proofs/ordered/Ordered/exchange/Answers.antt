@@ -1,4 +1,4 @@
--- The one that comes stands in front of all, in the place of the first or among the others.
+-- The new value comes before all others, in place of the first or among the others.
 use Rattle.std.proofs.Common.{rules, ◌≡◌, ◌∙◌, ap, sym, Some, None}
 use Rattle.std.specs.declared.cmp.Ordering.TheVariants.{Less, Greater}
 use Rattle.dv_change.specs.Inner.Ordered.{found_at, put}

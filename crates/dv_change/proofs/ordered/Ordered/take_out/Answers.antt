@@ -1,4 +1,4 @@
--- The first one stays, since another one goes.
+-- The first one stays, since another one is removed.
 use Rattle.std.proofs.Common.{rules, ◌≡◌, Some, false}
 use Rattle.std.specs.Ordering.{is_eq}
 use Rattle.dv_change.specs.Positions.{pos_order}

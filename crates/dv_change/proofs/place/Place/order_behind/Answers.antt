@@ -1,4 +1,4 @@
--- The numbers of first parts that are alike are the same, so the parts are; what is behind them decides.
+-- First parts with the same code are the same, so what follows them decides.
 use Rattle.std.proofs.Common.{ap₂, ◌∙◌}
 use Rattle.std.specs.Ordering.{ordering_then}
 use Rattle.dv_change.proofs.Behind.{one_one, one_two, two_one, two_two}

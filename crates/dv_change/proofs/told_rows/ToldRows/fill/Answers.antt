@@ -1,4 +1,4 @@
--- What comes out are the first rows.
+-- The rows that come out are the result for the first rows.
 use Rattle.std.proofs.Common.{◌∙◌, subst, sym}
 use Rattle.dv_change.specs.Changes.{Positioned}
 use Rattle.dv_change.specs.Inner.Changes.{IsPositioned}

@@ -1,4 +1,4 @@
--- Of nothing, nothing comes out.
+-- For no rows, no rows come out.
 use Rattle.std.proofs.Common.{rules, ◌≡◌, []}
 use Rattle.dv_change.proofs.Made.{made_first}
 use Rattle.dv_change.proofs.told_rows.ToldRows.new.Goals as goal

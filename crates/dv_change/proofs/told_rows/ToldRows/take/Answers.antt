@@ -1,4 +1,4 @@
--- What comes out leads from the rows before to the rows after.
+-- The changes that are returned lead from the rows before to the rows after.
 use Rattle.dv_change.proofs.Made.{takes_told}
 use Rattle.dv_change.proofs.told_rows.ToldRows.take.Goals as goal
 

@@ -1,4 +1,4 @@
--- The `_id` stays, and with it the key under which the document stands.
+-- The `_id` stays, and with it the key under which the document is kept.
 use Rattle.dv_coll.proofs.Changed.{keyed-either}
 use Rattle.dv_coll.proofs.collection.Collection.change_field.Goals as goal
 

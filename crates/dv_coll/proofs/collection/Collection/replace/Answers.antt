@@ -1,4 +1,4 @@
--- The keys stay, since that of the document is the one in whose place it is put.
+-- The keys stay, since the document has the key of the one that it replaces.
 use Rattle.std.proofs.Common.{◌≡◌, subst}
 use Rattle.std.specs.BTreeMap.{is_at}
 use Rattle.std.specs.Map.{set_value}

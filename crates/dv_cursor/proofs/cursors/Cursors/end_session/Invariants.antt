@@ -3,7 +3,7 @@ use Rattle.std.specs.FinMap as finite
 use Rattle.dv_cursor.specs.Cursors.{without_session}
 use Rattle.dv_cursor.proofs.cursors.Cursors.end_session.Given as goal
 
--- what is taken out is the session's
+-- what is removed is the session's
 abbrev pub invariant-cursors : goal.invariant-cursors
 invariant-cursors l = without_session l.session l.self ≡ without_session l.session l.fn.self
 

@@ -1,4 +1,4 @@
--- What it tells of a change is what it makes of the changed row alone, of which what it made before may be kept.
+-- What it returns for a change are the changes of its rows for the changed row alone; the old ones may be kept.
 use Rattle.std.proofs.Common.{◌∙◌, ◌+◌, ◌++◌, ap, sym, subst}
 use Rattle.dv_change.specs.Inner.Answered.{ok-one}
 use Rattle.dv_change.specs.declared.input.Input.{Input}

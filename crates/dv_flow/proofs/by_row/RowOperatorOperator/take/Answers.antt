@@ -1,4 +1,4 @@
--- Whatever rows it has made, none are kept.
+-- Whatever rows it has returned, none are kept.
 use Rattle.dv_change.specs.Inner.Answered.{ok-one}
 use Rattle.dv_flow.proofs.by_row.RowOperatorOperator.take.Goals as goal
 

@@ -1,4 +1,4 @@
--- As the last of the rows tells.
+-- Comparing with the last of the rows is enough.
 use Rattle.std.proofs.Common.{rules, ◌≡◌, ◌∙◌, ◌-◌, length, slice_get, Some, is_gt}
 use Rattle.dv_change.specs.Positions.{pos_order}
 use Rattle.dv_flow.proofs.Fronts.{past-is}

@@ -1,4 +1,4 @@
--- Where the front is full, the place of its last row.
+-- If the front is full, the place of its last row.
 use Rattle.std.proofs.Common.{rules, ◌≡◌, ◌∙◌, ◌<◌, ◌≤◌, ◌-◌, ap, arith, length, slice_get, sym, Some}
 use Rattle.dv_flow.proofs.Fronts.{last-empty, last-is, last-none, no-length}
 use Rattle.dv_flow.proofs.limit.LimitOperator.last_place.Goals as goal

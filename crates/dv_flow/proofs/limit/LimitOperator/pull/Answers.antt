@@ -1,4 +1,4 @@
--- The first of the others stands behind the front.
+-- The first of the others follows the front.
 use Rattle.std.proofs.Common.{rules, ◌≡◌, ◌∙◌, ◌∷◌, ◌<◌, ap, arith, length, subst, sym}
 use Rattle.dv_change.specs.Changes.{Positioned}
 use Rattle.dv_change.specs.Inner.Changes.{IsPositioned}

@@ -1,4 +1,4 @@
--- A row of the front leaves room there; another one leaves the front as it is.
+-- Removing a row of the front leaves room there; removing another one leaves the front unchanged.
 use Rattle.std.proofs.Common.{rules, ◌≡◌, ◌∙◌, ◌++◌, ◌+◌, ap, arith, cond, false, is_some, length, subst, sym, true}
 use Rattle.dv_change.specs.Changes.{Positioned, at}
 use Rattle.dv_change.specs.Inner.Changes.{IsPositioned}

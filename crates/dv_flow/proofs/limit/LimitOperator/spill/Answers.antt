@@ -1,4 +1,4 @@
--- The last of the front stands before all others.
+-- The last of the front is before all others.
 use Rattle.std.proofs.Common.{rules, ◌≡◌, ◌∙◌, ◌∷◌, ◌++◌, [], ap, arith, length, subst, sym}
 use Rattle.std.proofs.lemmas.List.{length_push}
 use Rattle.dv_change.specs.Changes.{Positioned}

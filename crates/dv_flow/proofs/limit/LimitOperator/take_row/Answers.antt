@@ -1,4 +1,4 @@
--- Behind a full front, nothing that is shown changes; else what changes stands at the position of the change and at the edge.
+-- After a full front, no shown row changes; otherwise the changes are at the position of the change and at the edge.
 use Rattle.std.proofs.Common.{append-nil, arith, rules, subst, sym, true, ◌≡◌, ◌∙◌, ◌++◌, ◌+◌, ap, length}
 use Rattle.dv_change.specs.Inner.Answered.{ok-one}
 use Rattle.dv_change.specs.Changes.{Positioned, with_change}

@@ -1,4 +1,4 @@
--- What it made of the row stands at the position of the row.
+-- The row that it returned for a row is at the position of that row.
 use Rattle.std.proofs.Common.{◌∙◌}
 use Rattle.std.proofs.lemmas.Result.{IfOk-weaker}
 use Rattle.dv_flow.specs.Inner.Projecting.{project_beside}

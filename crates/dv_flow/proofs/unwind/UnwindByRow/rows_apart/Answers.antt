@@ -1,4 +1,4 @@
--- The rows of both, but for those that both have.
+-- The rows of both, except those that both have.
 use Rattle.std.proofs.Common.{◌∙◌, ap, ap₂}
 use Rattle.dv_change.specs.Changes.{in_row_order}
 use Rattle.dv_change.specs.Inner.Told.{diff_told}

@@ -1,4 +1,4 @@
--- The rows of the row, behind its position.
+-- The rows of the row, at positions that continue its own.
 use Rattle.std.proofs.Common.{◌∙◌, ap, []}
 use Rattle.std.proofs.lemmas.Result.{IfOk-weaker}
 use Rattle.dv_change.specs.Changes.{in_row_order}

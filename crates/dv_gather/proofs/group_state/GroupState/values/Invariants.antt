@@ -1,4 +1,4 @@
--- What is left is still to be valued.
+-- The values of the states that are left are still to be computed.
 use Rattle.std.proofs.Common.{◌≡◌, ◌++◌, map}
 use Rattle.std.specs.Vec.Iter.{into_iter_items}
 use Rattle.dv_value.specs.View.{tree}

@@ -1,4 +1,4 @@
--- Each group has its row, and under other keys stands nothing.
+-- Each group has its row, and there are no rows under other keys.
 use Rattle.std.proofs.Common.{rules, ◌≡◌, ◌∙◌, ◌∷◌, [], ap, subst, sym}
 use Rattle.std.specs.Map.{keys_of}
 use Rattle.dv_order.specs.Key.{KeyTree}

@@ -1,4 +1,4 @@
--- The rows so far, with those of the groups to come, are those of all.
+-- The rows so far, with those of the groups that are left, are those of all groups.
 use Rattle.std.proofs.Common.{◌≡◌, []}
 use Rattle.std.specs.Map.{keys_of}
 use Rattle.dv_order.specs.Key.{KeyTree}

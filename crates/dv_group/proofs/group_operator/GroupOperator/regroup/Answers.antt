@@ -1,4 +1,4 @@
--- The groups have their rows as the row left them, and what changes of their rows is told.
+-- The groups have their rows after the change, and the changes of their own rows are returned.
 use Rattle.std.proofs.Common.{◌+◌, ◌++◌, ◌∙◌, ap, length, sym}
 use Rattle.std.proofs.lemmas.Result.{on_ok_weaker}
 use Rattle.dv_change.specs.Raised.{raised}

@@ -1,4 +1,4 @@
--- The rows of all groups are what it makes of the rows that came.
+-- The rows of all groups are what it returns for the rows that it took in.
 use Rattle.std.proofs.Common.{◌∙◌, List, [], ap, subst, sym}
 use Rattle.dv_change.specs.Changes.{Positioned, with_changes}
 use Rattle.dv_change.specs.Inner.DiffLaws.{apply-diff, exact-diff, positioned-changes}

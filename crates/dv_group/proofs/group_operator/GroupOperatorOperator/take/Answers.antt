@@ -1,4 +1,4 @@
--- What it tells is what changes of the rows of the groups of two keys.
+-- It returns the changes of the rows of the groups of two keys.
 use Rattle.std.proofs.Common.{◌≡◌, ◌+◌, ◌++◌, ◌∙◌, ap, length, refl, subst, sym}
 use Rattle.dv_change.specs.declared.input.Input.{Input}
 use Rattle.dv_change.specs.Inner.Answered.{ok-both}

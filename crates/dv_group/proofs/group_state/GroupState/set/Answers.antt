@@ -1,4 +1,4 @@
--- What stood at the position is taken from the states, and then the row that comes is added.
+-- The row that was at the position is removed from the states, and then the new row is added.
 use Rattle.std.proofs.Common.{◌≡◌, ◌≤◌, ◌∙◌, None, arith, length, refl, sym}
 use Rattle.dv_change.specs.Changes.{at}
 use Rattle.dv_change.specs.Inner.Answered.{ok-both}

@@ -1,4 +1,4 @@
--- What is left is still to be pushed.
+-- The values that are left are still to be pushed.
 use Rattle.std.proofs.Common.{◌≡◌, ◌∷◌, ◌++◌, map}
 use Rattle.dv_value.specs.View.{tree}
 use Rattle.dv_gather.specs.Inner.GroupView.{accumulation}

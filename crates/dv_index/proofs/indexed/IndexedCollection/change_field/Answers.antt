@@ -1,4 +1,4 @@
--- No key changes that an index has.
+-- No key of an index changes.
 use Rattle.std.proofs.Common.{◌∙◌, sym}
 use Rattle.dv_index.proofs.InPlace.{kept_in_place}
 use Rattle.dv_index.proofs.indexed.IndexedCollection.change_field.Goals as goal

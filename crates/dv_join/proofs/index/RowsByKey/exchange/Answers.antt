@@ -1,4 +1,4 @@
--- One after the other.
+-- First the old row is taken out, then the new one is set.
 use Rattle.std.proofs.lemmas.Result.{on_ok_weaker}
 use Rattle.std.specs.BTreeSet.{contains}
 use Rattle.dv_change.specs.Inner.Ordered.{gone}

@@ -1,4 +1,4 @@
--- Under each key stands what stood there.
+-- Under each key are the rows that were there.
 use Rattle.std.proofs.Common.{subst}
 use Rattle.std.specs.BTreeMap.{BTreeMap, IsFromIterResult}
 use Rattle.std.specs.List.Sorted.{IsStrictlySortedBy}

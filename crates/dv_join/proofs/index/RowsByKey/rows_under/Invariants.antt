@@ -1,4 +1,4 @@
--- What is left of the keys decides.
+-- The rows under the keys that are left are still to be added.
 use Rattle.std.proofs.Common.{◌≡◌, []}
 use Rattle.std.specs.BTreeSet.{union}
 use Rattle.dv_order.specs.Key.{key_order}

@@ -1,4 +1,4 @@
--- What stood under the key is set, and put back where any is left.
+-- The row is set or removed among the rows under the key, which are put back if any are left.
 use Rattle.std.proofs.Common.{rules, ◌≡◌, ◌∙◌, [], ap, cond, sym}
 use Rattle.std.specs.BTreeMap.{get}
 use Rattle.std.specs.Option.{unwrap_or}

@@ -1,4 +1,4 @@
--- Under the key stands nothing then, and under other keys what stood there.
+-- Afterwards there are no rows under the key, and the same rows as before under other keys.
 use Rattle.std.proofs.Common.{◌≡◌, ◌∙◌, [], ap, cond, sym, refl}
 use Rattle.std.specs.BTreeMap.{get}
 use Rattle.std.specs.Option.{unwrap_or}

@@ -1,4 +1,4 @@
--- Under one key are those that have it; under none are none.
+-- Under one key are the rows that have it; under no key there are none.
 use Rattle.std.proofs.Common.{◌≡◌, ◌∙◌, ◌≤◌, [], ap, arith, filter, length, map, sym}
 use Rattle.std.proofs.lemmas.Result.{IfOk-weaker}
 use Rattle.std.specs.Option.{option_copied, unwrap_or}

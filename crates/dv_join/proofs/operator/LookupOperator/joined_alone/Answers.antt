@@ -1,4 +1,4 @@
--- One row alone is put among none.
+-- One row alone is put into an empty list.
 use Rattle.std.proofs.Common.{rules, ◌≡◌, ◌∙◌, ap, sym, IfOk, Some}
 use Rattle.std.proofs.lemmas.Result.{IfOk-weaker}
 use Rattle.dv_change.specs.Inner.Changes.{alone}

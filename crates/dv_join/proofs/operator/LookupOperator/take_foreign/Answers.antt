@@ -1,4 +1,4 @@
--- What it tells is what it makes of the rows that have a key of the document that went or of the one that came.
+-- The changes are those of the joined rows for the rows that have a key of the old document or of the new one.
 use Rattle.std.proofs.Common.{◌≡◌, ◌∙◌, filter, refl, subst, sym}
 use Rattle.std.specs.BTreeSet.{union}
 use Rattle.dv_change.specs.Changes.{Positioned, at, forget, with_change}

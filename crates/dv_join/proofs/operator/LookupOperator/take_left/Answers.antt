@@ -1,4 +1,4 @@
--- What it tells is what it makes of the changed row alone.
+-- The changes are those of the joined row for the changed row alone.
 use Rattle.std.proofs.Common.{◌≡◌, ◌∙◌, sym}
 use Rattle.dv_change.specs.Inner.Changes.{alone}
 use Rattle.dv_change.specs.Inner.DiffLaws.{positioned-changed}

@@ -1,4 +1,4 @@
--- What it tells is what its two sides tell.
+-- It returns the changes of its two sides.
 use Rattle.std.proofs.Common.{◌≡◌, ◌+◌, ◌++◌, ◌∙◌, List, ap, sym, length, subst}
 use Rattle.dv_change.specs.declared.input.Input.{Input}
 use Rattle.dv_change.specs.Changes.{Positioned, with_change}

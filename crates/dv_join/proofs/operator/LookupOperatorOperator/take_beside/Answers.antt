@@ -1,4 +1,4 @@
--- What it tells of a change of its rows is what it makes of the changed row alone, of which what was made before is kept.
+-- For a change of its rows it returns the changes of the joined row for the changed row alone; the old joined row is kept.
 use Rattle.std.proofs.Common.{◌+◌, ◌++◌, ◌∙◌, ap}
 use Rattle.dv_change.specs.Raised.{raised}
 use Rattle.dv_change.specs.Inner.Answered.{ok-one}

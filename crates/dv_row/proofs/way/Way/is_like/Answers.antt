@@ -1,4 +1,4 @@
--- The outermost ones are alike, and so are those in them.
+-- The outermost ones are like each other, and so are those in them.
 use Rattle.std.proofs.Common.{◌∙◌, ap, sym, Some, rules}
 use Rattle.dv_row.specs.Inner.Crossings.{set_inward}
 use Rattle.dv_row.proofs.Alike.{like-way}

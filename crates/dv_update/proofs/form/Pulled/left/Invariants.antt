@@ -1,4 +1,4 @@
--- The elements that stay so far, and those that are left.
+-- The elements that stay so far, and the rest that is still to be tested.
 use Rattle.std.proofs.Common.{◌≡◌, ◌++◌, map, drop}
 use Rattle.dv_value.specs.View.{tree}
 use Rattle.dv_update.specs.Apply.{left}

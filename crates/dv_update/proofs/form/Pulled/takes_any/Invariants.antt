@@ -1,4 +1,4 @@
--- No element so far is taken out.
+-- No element so far is removed.
 use Rattle.std.proofs.Common.{◌≡◌, map, drop}
 use Rattle.std.specs.List.{list_any}
 use Rattle.dv_value.specs.View.{tree}

@@ -1,4 +1,4 @@
--- What stands inside weighs less, and the others weigh one more in an array.
+-- The values inside weigh less, and the others weigh one more in an array.
 use Rattle.std.proofs.Common.{◌∙◌, ap, arith}
 use Rattle.dv_value.specs.declared.value.Value.TheVariants.{Array}
 use Rattle.dv_value.specs.Tree.{elements_of}

@@ -1,4 +1,4 @@
--- What came to the lists so far was taken in.
+-- The changes of the lists so far were taken in.
 use Rattle.std.proofs.Common.{take}
 use Rattle.dv_views.specs.Inner.Keeping.{IsSoundLive, kept_seen}
 use Rattle.dv_views.specs.Inner.Older.{told_found}

@@ -1,4 +1,4 @@
--- What the operator inside tells of the first rows is what the enum tells.
+-- What the operator inside returns for the first rows is what the enum returns.
 use Rattle.std.proofs.Common.{◌≡◌, IfOk, List, [], sym, subst}
 use Rattle.std.specs.Prelude.{Result}
 use Rattle.std.specs.List.{AllByRecursion}

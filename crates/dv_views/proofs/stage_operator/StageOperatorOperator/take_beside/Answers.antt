@@ -1,4 +1,4 @@
--- What the operator inside ensures beside the rows that are kept is ensured of the enum.
+-- What the operator inside ensures, given the rows that are kept, is ensured of the enum.
 use Rattle.std.proofs.Common.{◌≡◌, ◌+◌, ◌++◌, ℕ, List, length, subst, sym}
 use Rattle.std.specs.Prelude.{OnOk, Result}
 use Rattle.dv_change.specs.declared.change.Change.{Change}

@@ -1,4 +1,4 @@
--- The views have taken in the changes so far, where these were told with what stood there.
+-- The views have taken in the changes so far, if these came with the documents that were there before.
 use Rattle.std.proofs.Common.{take}
 use Rattle.dv_change.specs.Inner.Told.{changes_told}
 use Rattle.dv_views.proofs.Behind.{AreToldIn, HaveFollowed}

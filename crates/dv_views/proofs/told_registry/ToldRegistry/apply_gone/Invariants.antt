@@ -1,4 +1,4 @@
--- The views have taken in that the documents so far go.
+-- The views have taken in the removals of the documents so far.
 use Rattle.dv_views.proofs.Losing.{HaveGone}
 use Rattle.dv_views.proofs.told_registry.ToldRegistry.apply_gone.Given as goal
 

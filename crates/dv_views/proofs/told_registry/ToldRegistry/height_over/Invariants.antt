@@ -1,4 +1,4 @@
--- The views that are left, behind the highest so far, are as high as all of them.
+-- The highest view so far and the views that are left are together as high as all views.
 use Rattle.std.proofs.Common.{◌≡◌}
 use Rattle.dv_views.proofs.Heights.{highest_read}
 use Rattle.dv_views.proofs.told_registry.ToldRegistry.height_over.Given as goal

@@ -1,4 +1,4 @@
--- The names so far are needed for the first ones by the views that were asked, the youngest first.
+-- The names so far are those that the views visited so far need for the first ones; the youngest view is visited first.
 use Rattle.std.proofs.Common.{◌≡◌, ◌≤◌, drop, length, map}
 use Rattle.dv_views.specs.Forms.{needed}
 use Rattle.dv_views.specs.Inner.Views.{view_form}

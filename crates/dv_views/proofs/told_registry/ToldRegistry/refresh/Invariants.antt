@@ -1,4 +1,4 @@
--- The views so far are made anew where that is asked for.
+-- The views so far are recomputed if that is requested.
 use Rattle.std.proofs.Common.{◌≡◌, length, take, true, false}
 use Rattle.std.specs.List.{AllByRecursion}
 use Rattle.dv_pipe.specs.Sources.{lists_of}
