@@ -1,9 +1,9 @@
-"""A picture of bars: for each of some rows a bar for each of some columns, with what it says behind it, as SVG."""
+"""A picture of bars, as SVG: each row has a bar for each column, with a text after it."""
 from collections import namedtuple
 
 from picture import COLOURS, legend, picture, text
 
-# A row's name and its bars, pairs of a length and what is said behind it; None for a column that the row lacks.
+# A row's name and its bars: pairs of a length and the text after the bar, or None for a column that the row lacks.
 Row = namedtuple("Row", "name bars")
 
 LEFT, WIDTH, RIGHT = 190, 460, 150
@@ -11,7 +11,7 @@ BAR, GAP, TOP, BOTTOM = 15, 14, 44, 40
 
 
 def drawn(columns, rows, unit):
-    """The picture of rows, whose bars are of these columns, over an axis in this unit."""
+    """The picture of these rows, which have a bar for each of these columns, over an axis in this unit."""
     most = max(length for row in rows for length, _ in filter(None, row.bars))
     height = TOP + sum(GAP + BAR * len(row.bars) for row in rows)
     parts, y = [*legend(columns, LEFT), *axis(most, height, unit)], TOP
@@ -36,7 +36,7 @@ def bars(row, y, most):
 
 
 def axis(most, height, unit):
-    """The lines of whole numbers, a dozen at most, and the unit below them."""
+    """The grid lines at whole numbers, a dozen at most, and the unit below them."""
     for number in range(0, int(most) + 1, 1 + int(most) // 12):
         x = across(number, most)
         yield '<line class="grid" x1="%.1f" x2="%.1f" y1="%d" y2="%d"/>' % (x, x, TOP - 6, height)

@@ -1,12 +1,12 @@
 #!/usr/bin/python3
-"""What `docd listen` takes for many connections at once, beside Redis in the same run and beside `docd serve` with one connection.
+"""What `docd listen` takes for many connections at once, compared with Redis and with `docd serve` with one connection.
 
-Needs what bench/measuring.py says. 1, 10, 100 and 900 connections of one process ask pings and finds by `_id` of documents of ten
-fields, each one request at a time, or 32 and then the next 32 when all are answered. Each reply is compared, byte for byte. Told
-is the server's processor time of a request; how many requests the connections were answered that were answered least and most;
-what a thousand that are idle take; and one client's time from a ping to its reply, alone and while a hundred others ask 32 finds
-each, which is time on the wall and moves with whatever else the machine does. Redis (`apt-get install redis-server`) is left out
-where it is missing.
+Needs what bench/measuring.py says. 1, 10, 100 and 900 connections of one process send pings and finds by `_id` of documents of ten
+fields. Each has one request outstanding, or sends 32 and then the next 32 when all are answered. Each reply is compared, byte for
+byte. The tables show the server's processor time for a request; how many requests were answered for the connection with the fewest
+and for the one with the most; what a thousand idle connections take; and one client's time from a ping to its reply, alone and
+while a hundred others send 32 finds each. This last is real time, which varies with whatever else the machine does. Redis
+(`apt-get install redis-server`) is measured in the same run, and left out if it is missing.
 
     /usr/bin/python3 bench/connections.py
     /usr/bin/python3 bench/connections.py --count 10000 --program crates/docd/out/docd
@@ -36,17 +36,17 @@ from served import free_port
 from serving import connected, docd_message, redis_command
 
 COUNTS = 1, 10, 100, 900
-MANY = 32  # requests on their way in a connection
+MANY = 32  # outstanding requests of a connection
 ASKED = 3_200  # requests of a kind
 ROUNDS = 3
 SECONDS = 1  # of a measurement
-LONGER = 5  # seconds of a measurement that looks at each request, or at none
-SHARE = 30  # pieces that a connection is answered on average where each is looked at
+LONGER = 5  # seconds of a measurement that times each request, or sends none
+SHARE = 30  # pieces answered for each connection, on average, if they are counted by connection
 IDLE = 1_000
-LARGE = 100_000  # bytes of a reply that idle connections had before
-OTHERS = 100  # that ask many beside one
+LARGE = 100_000  # bytes of a reply that idle connections received before
+OTHERS = 100  # connections that send many requests while one is timed
 
-# Requests and their replies. What is sent to a server in one piece, and what it answers, are the members of a Work.
+# Requests and their replies: lists of what is sent to a server in one piece, and of what it answers to that.
 Work = namedtuple("Work", "name requests replies")
 
 
@@ -61,7 +61,7 @@ class Started:
             self.asked(request, size)
 
     def asked(self, request, size):
-        """The reply to a request, which has so many bytes."""
+        """The reply to a request. It has `size` bytes."""
         self.connection.sendall(request)
         taken = b""
         while len(taken) < size:
@@ -147,14 +147,14 @@ class Redis:
 
 
 def at_once(work, count):
-    """The same work, so many requests in a piece."""
+    """The same work, with `count` requests in a piece."""
     def joined(some):
         return [b"".join(some[at:at + count]) for at in range(0, len(some), count)]
     return Work(work.name, joined(work.requests), joined(work.replies))
 
 
 class Crowd:
-    """Connections of this process to a server, which all ask: each its next piece of a work when the one before is answered."""
+    """Connections of this process to a server. Each sends its next piece of a work when the piece before is answered."""
 
     def __init__(self, port, count):
         self.connections = [connected(port) for _ in range(count)]
@@ -165,8 +165,8 @@ class Crowd:
             self.poll.register(one.fileno(), select.EPOLLIN)
 
     def ask(self, work, seconds=math.inf, most=math.inf):
-        """Asks for so many seconds, or until so many pieces are answered; how many each connection was answered until then, and
-        how many all together to the end."""
+        """Asks for `seconds`, or until `most` pieces are answered. Returns how many were answered on each connection until then,
+        and how many on all of them once none is outstanding."""
         self.work, count = work, len(self.connections)
         self.next, self.taken = [place % len(work.requests) for place in range(count)], {}
         self.counts, answered = [0] * count, 0
@@ -187,7 +187,7 @@ class Crowd:
         self.connections[place].sendall(self.work.requests[self.next[place]])
 
     def answered(self):
-        """The places of connections whose replies are there now."""
+        """The places of connections whose replies are now complete."""
         places = []
         for descriptor, _ in self.poll.poll():
             place = self.places[descriptor]
@@ -210,7 +210,7 @@ class Crowd:
 
 
 def kinds(works):
-    """Each work, one request at a time and many on their way, with how many requests a piece has."""
+    """Each work, with one request in a piece and with many; each is paired with that number."""
     return [(at_once(work, count), count) for work in works for count in (1, MANY)]
 
 
@@ -230,7 +230,7 @@ def times_of_requests(server, counts, asked):
 
 
 def time_of_one(server, asked):
-    """The same of a server that has one connection after the other: once the first has gone."""
+    """The same for a server that serves one connection after the other, once the first is closed."""
     started, times = server.started(), {}
     started.connection.close()
     crowd = Crowd(started.port, 1)
@@ -304,7 +304,7 @@ def print_idle(servers):
 
 
 def answer_times(connection, work, seconds):
-    """The microseconds of each request that is asked alone, one behind the other, ascending."""
+    """The microseconds of each request, sent one at a time, in ascending order."""
     request, reply, times = work.requests[0], work.replies[0], []
     end = time.perf_counter() + seconds
     while (begun := time.perf_counter()) < end:

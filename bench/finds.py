@@ -1,9 +1,9 @@
 #!/usr/bin/python3
-"""What finds and deletes cost that scan a collection, beside SQLite in process and mongomock on the same documents.
+"""What finds and deletes that scan a collection cost, compared with SQLite in process and mongomock on the same documents.
 
-Needs what bench/measuring.py says. The documents have ten fields; SQLite holds them as JSON, in memory and without an
-index (`json_extract`), mongomock (`apt-get install python3-mongomock`; it is left out where that is missing) holds a tenth
-of them. docd and SQLite give as many documents. All times are processor time, the least of some runs in turn.
+Needs what bench/measuring.py says. The documents have ten fields. SQLite stores them as JSON, in memory and without an
+index (`json_extract`). mongomock (`apt-get install python3-mongomock`; left out if it is missing) stores a tenth of them.
+docd and SQLite have to return equally many documents. All times are processor time, the least of some runs in turn.
 
     /usr/bin/python3 bench/finds.py
     /usr/bin/python3 bench/finds.py --count 10000 --program crates/docd/out/docd
@@ -27,7 +27,7 @@ FIELD = "json_extract(body, '$.%s')"
 
 
 def finds(count):
-    """Finds of which each but the last matches a thousandth of the documents."""
+    """Finds. Each, except the last, matches a thousandth of the documents."""
     middle, width = count // 2, count // 1_000
     members = random.Random(count).sample(range(count), width)
     serial = FIELD % "serial"
@@ -43,8 +43,8 @@ def finds(count):
     ]
 
 
-# What is asked of a system: the action, the clock of the process that carries it out, and how many documents the last one
-# was about.
+# What a system is asked: the action, the clock of the process that carries it out, and a function that returns how many
+# documents the last action found or deleted.
 Asked = namedtuple("Asked", "action clock told")
 
 
@@ -73,7 +73,7 @@ def asked_of_mongomock(collection, find):
 
 
 def deletes(clock, delete):
-    """A delete of a hundredth, each time of another one."""
+    """A delete of a hundredth of the documents, a different hundredth each time."""
     places, gone = iter(range(measuring.RUNS)), []
     return Asked(lambda: gone.append(delete(*bounds_of(next(places)))), clock, lambda: gone[-1])
 
@@ -113,7 +113,7 @@ def mongomock_with(documents):
 
 
 def tell(name, count, few, by_docd, by_sqlite, by_mongomock):
-    """A line of the table: milliseconds, and thousands of documents a second that are looked at."""
+    """Prints a line of the table: milliseconds, and how many thousands of documents are examined in a second."""
     asked = [by_docd, by_sqlite] + [by_mongomock] * (by_mongomock is not None)
     spent, other, *mocked = in_turn(*((one.action, one.clock) for one in asked))
     if by_docd.told() != by_sqlite.told():

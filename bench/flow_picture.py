@@ -21,7 +21,7 @@ Box = namedtuple("Box", "x y width name does colour")
 Arrow = namedtuple("Arrow", "points said at", defaults=("", None))
 
 LEFT, RIGHT, STEP = 30, 630, 96
-# The crates from a session's bytes down, what each does, and what goes from it to the next.
+# The crates, from a session's bytes downwards: what each does, and what it passes to the next.
 CRATES = [
     ("dv_scripts, dv_serving", "take a line of a script, or what a reader has", "bytes of a session"),
     ("dv_wire, dv_message", "take whole messages off; dv_bson reads them", "documents"),
@@ -29,7 +29,7 @@ CRATES = [
     ("dv_catalog", "what matches (dv_match), what comes of it (dv_update)", "its changes, one document each"),
     ("dv_index, dv_coll", "keep the documents by _id, and the indexes (dv_keyed)", ""),
 ]
-# The views: their names, what they are, and where they stand.
+# The views: their names, what they are, and their places from the top.
 VIEWS = [
     ("dv_views", "carries each change through all views, oldest first", 2),
     ("bysite", "$group over hives (dv_group): n for each site", 3),

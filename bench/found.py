@@ -1,12 +1,12 @@
 #!/usr/bin/python3
-"""What is found by a key, without a look at all else: by `_id`, in aggregates and their look-ups, and rows of views, beside SQLite
-in process with the same.
+"""What finding by a key costs, without a scan: by `_id`, in aggregates and their `$lookup`s, and of rows of views, compared with
+SQLite in process with the same documents and indexes.
 
-Needs what bench/measuring.py says. The documents are those of bench/indexes.py, with an index on `serial`; SQLite holds them as JSON in
-memory, with an index on `json_extract` of the same. The collection `d` has a document for each number that a `serial` can be. The
-views, and SQLite's tables that triggers keep by hand, are two of bench/view_cases.py. All times are processor time, the least of
-some runs in turn; docd's hold the reading of its messages and the writing of its replies, SQLite's the making of the statement and
-of Python's rows.
+Needs what bench/measuring.py says. The documents are those of bench/indexes.py, with an index on `serial`. SQLite stores them as
+JSON in memory, with an index on `json_extract` of the same field. The collection `d` has a document for each number that a `serial`
+can be. The views are two of bench/view_cases.py; in SQLite, triggers written by hand keep them as tables. All times are processor
+time, the least of some runs in turn. docd's include reading its messages and writing its replies, and SQLite's include preparing
+the statement and making Python's rows.
 
     /usr/bin/python3 bench/found.py
     /usr/bin/python3 bench/found.py --count 10000 --program crates/docd/out/docd
@@ -25,7 +25,7 @@ from views import Changes, Docd, Sqlite
 
 TIMES = 1_000  # requests of a run
 
-# Requests, another one each time: what docd is sent, and SQLite's statements with their values.
+# Requests, each by its number: the commands that docd is sent, and SQLite's statements with their values.
 Requests = namedtuple("Requests", "name commands statements")
 
 
@@ -85,7 +85,7 @@ def rows_given(reply):
 
 
 def tell(docd, base, asked):
-    """Writes a line of what a request takes, after both have given as many rows."""
+    """Prints a line of what a request takes, once both have returned equally many rows."""
     commands = [command for at in range(TIMES) for command in asked.commands(at)]
     statements = [one for at in range(TIMES) for one in asked.statements(at)]
     given = sum(map(rows_given, docd.ask(*commands)))

@@ -1,9 +1,9 @@
 #!/usr/bin/python3
-"""What groups and lookups cost, run anew as aggregates, beside SQLite in process on the same values as columns.
+"""What groups and lookups cost in aggregates, compared with SQLite in process on the same values as columns.
 
-Needs what bench/measuring.py says. A group counts the documents and adds up a number by a field of few or of many values;
-a lookup finds for each document the one of another collection that has the same number, in SQLite by a join on an indexed
-column. All times are processor time, the least of some runs in turn.
+Needs what bench/measuring.py says. A group counts the documents and adds up a number by a field of few or of many values.
+A lookup finds for each document the document of another collection that has the same number; SQLite does it by a join on an
+indexed column. All times are processor time, the least of some runs in turn.
 
     /usr/bin/python3 bench/groups.py
     /usr/bin/python3 bench/groups.py --count 10000 --program crates/docd/out/docd
@@ -20,7 +20,7 @@ FEW = 100  # values of the field of few values
 
 
 def documents(count):
-    """`few` is one of a hundred numbers, `many` another one in each, `code` one of a tenth as many."""
+    """`few` is one of a hundred numbers, `many` a different one in each document, `code` one of `count // 10` numbers."""
     rng = random.Random(count)
     return [{"_id": place, "few": rng.randrange(FEW), "many": (place * 7_919) % count, "code": rng.randrange(count // 10),
              "amount": rng.randrange(1_000)} for place in range(count)]

@@ -1,10 +1,10 @@
 #!/usr/bin/python3
 """What views keep for a document, and what a write under them takes, by the kind of the documents' `_id`s.
 
-Needs what bench/measuring.py says. For `_id`s that are integers, ObjectIds, strings as `user-00000001`, strings of 24 hexadecimal
-digits, e-mail addresses and documents, over 100,000 documents: the bytes that a view adds for each document of its collection,
-and the processor time of an update of one field, without a view and with it. With `--beside` another program, an earlier one for
-example, does the same in turn, and its figures stand behind the others.
+Needs what bench/measuring.py says. The `_id`s are integers, ObjectIds, strings such as `user-00000001`, strings of 24 hexadecimal
+digits, e-mail addresses or documents. Over 100,000 documents, it measures the bytes that a view adds for each document of its
+collection, and the processor time of an update of one field, without the view and with it. With `--beside`, another program, for
+example an earlier one, does the same in turn, and its figures are in columns after the others.
 
     /usr/bin/python3 bench/identities.py
     /usr/bin/python3 bench/identities.py --count 10000 --beside ../before/docd
@@ -64,7 +64,7 @@ class Store:
         return (memory_of(self.docd.process) - before) / len(self.identities)
 
     def writes(self):
-        """An action that carries out the next of as many streams of updates as there are runs."""
+        """An action that carries out the next of some streams of updates, of which there is one for each run."""
         streams = iter([measuring.stream_of([self.update() for _ in range(WRITES)]) for _ in range(measuring.RUNS)])
         return lambda: self.docd.send(next(streams), WRITES)
 
@@ -74,7 +74,7 @@ class Store:
 
 
 def measured(programs, identities, stages):
-    """Of each program the bytes of a view for a document, or None, and the seconds of a write."""
+    """For each program, the bytes that the view adds for a document, or None without a view, and the seconds of a write."""
     stores = [Store(program, identities) for program in programs]
     taken = [stages and store.make(stages) for store in stores]
     spent = in_turn(*((store.writes(), store.docd.clock) for store in stores))

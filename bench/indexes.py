@@ -1,12 +1,12 @@
 #!/usr/bin/python3
-"""What finds by indexes cost, and what indexes, unique ones too, cost the writes, beside SQLite in process with the same.
+"""What finds by indexes cost, and what indexes, also unique ones, cost writes, compared with SQLite in process with the same.
 
-Needs what bench/measuring.py says. The documents have ten fields; SQLite holds them as JSON in memory, with indexes on
-`json_extract` of the same fields, and its answers stand in the order of its indexes, docd's in that of `_id`. A hundred
-documents have one `bucket`; `serial` is another number in each. All times are processor time, the least of some runs in
-turn; docd's hold the reading of its messages and the writing of its replies, SQLite's the making of the statement and of
-Python's rows. An update of all documents is one statement; the bytes are those that docd has resident at most while it is
-carried out, less those before it.
+Needs what bench/measuring.py says. The documents have ten fields. SQLite stores them as JSON in memory, with indexes on
+`json_extract` of the same fields. Without a sort, it returns them in the order of its indexes, docd in that of `_id`. A hundred
+documents share each `bucket`; each document has a different `serial`. All times are processor time, the least of some runs in
+turn, except that of making the indexes, which is of one run. docd's include reading its messages and writing its replies, and
+SQLite's include preparing the statement and making Python's rows. An update of all documents is one statement; the bytes are the
+most that docd has resident while it is carried out, minus those before it.
 
     /usr/bin/python3 bench/indexes.py
     /usr/bin/python3 bench/indexes.py --count 10000 --program crates/docd/out/docd
@@ -22,15 +22,15 @@ import measuring
 from listening import memory_of
 from measuring import documents_to_find, heads, in_turn, inserts, load, loaded, loaded_sqlite, row
 
-FIELDS = ["bucket", "serial", "age", "balance"]  # those that have indexes, in the order in which they get them
+FIELDS = ["bucket", "serial", "age", "balance"]  # the fields that have indexes, in the order in which they get them
 AT_END = 20  # documents in a range
 BETWEEN = (20, 2_000)  # documents between two bounds
 MEMBERS = 20  # of an `$in`
 STATEMENTS = 1_000  # in a message
 FIRST = 10  # documents of a sort
 
-# Finds by a number, another one each time, and the same as the end of an SQL statement with its values; how many of which
-# order are asked for, where these aren't all.
+# Finds: how many there are, the filter of each by its number, the same as the end of an SQL statement with its values, and the
+# sort and the limit if there are any.
 Finds = namedtuple("Finds", "name times filter sql values first", defaults=[{}])
 
 
@@ -64,7 +64,7 @@ def finds(count):
 
 
 def first_of(field, direction, column=None, least=None):
-    """A find of the first documents in a sort by a field that has an index, of all or from a number on."""
+    """A find of the first documents in a sort by a field that has an index: of all documents, or of those from a number on."""
     order, word = ("", "ascending") if direction == 1 else (" DESC", "descending")
     column, of, bounds = column or extracted(field), "", {}
     condition, values = "1", []
@@ -76,7 +76,7 @@ def first_of(field, direction, column=None, least=None):
 
 
 def between(count, many, field="serial", column=None):
-    """A find by a range with two bounds, in which so many documents are."""
+    """A find by a range with two bounds that holds `many` documents."""
     starts, column = random.Random(many).sample(range(count - many), 100), column or extracted(field)
     return Finds("between two bounds" + " of `_id`" * (field == "_id"), 100,
                  lambda at: {field: {"$gte": starts[at], "$lt": starts[at] + many}},
@@ -88,7 +88,7 @@ def buckets_of(count):
 
 
 def documents(count):
-    """A hundred documents have one `bucket`."""
+    """A hundred documents share each `bucket`."""
     buckets = buckets_of(count)
     return [{**one, "bucket": (one["_id"] * 7_919) % buckets} for one in documents_to_find(count)]
 
@@ -124,7 +124,7 @@ def print_finds(found):
 
 
 def tell_with_arrays(docd, count):
-    """The finds between two bounds where one document in a hundred has its `serial` in an array: SQLite has no such index."""
+    """Prints the finds between two bounds if one document in a hundred has its `serial` in an array. SQLite has no such index."""
     numbers = [{"q": {"_id": place}, "u": {"$set": {"serial": [place, place]}}} for place in range(0, count, 100)]
     docd.ask({"update": "c", "updates": numbers})
     for many in BETWEEN:
@@ -135,7 +135,7 @@ def tell_with_arrays(docd, count):
 
 
 def print_making(docd, found):
-    """What it takes to make the indexes over documents that are there."""
+    """Prints what it takes to make the indexes over existing documents."""
     start = docd.clock()
     docd.ask({"createIndexes": "c", "indexes": [index_of(field) for field in FIELDS[:2]]})
     spent = docd.clock() - start
@@ -148,7 +148,7 @@ def print_making(docd, found):
 
 
 def asked_docd(docd, asked):
-    """How many documents docd gives to all finds, and the stream that asks for them."""
+    """How many documents docd returns for all finds, and the stream that asks for them."""
     commands = [{"find": "c", "filter": asked.filter(at), **asked.first, "batchSize": measuring.ALL}
                 for at in range(asked.times)]
     given = sum(len(reply["cursor"]["firstBatch"]) for reply in docd.ask(*commands))
@@ -195,7 +195,7 @@ def least_of_writes(found, fields):
 
 
 def updates_of(count):
-    """For a tenth of the documents, in no order, another number for each field that may have an index."""
+    """For a tenth of the documents, in random order, a new number for each field that may have an index."""
     rng = random.Random(count)
     return [(place, [rng.randrange(buckets_of(count)), count + place, rng.randrange(100, 200), rng.randrange(10**9)])
             for place in rng.sample(range(count), count // 10)]
@@ -235,7 +235,7 @@ def sqlite_writes(found, updates, fields):
 
 
 def print_unique(found):
-    """An insert and an update of all documents, where `serial` has a unique index, one that isn't, and none."""
+    """Prints an insert and an update of all documents: with a unique index on `serial`, one that isn't unique, and none."""
     kinds = [("none", [], False), ("one", ["serial"], False), ("a unique one", ["serial"], True)]
     heads("a write", "index on `serial`", "microseconds a document", "SQLite: microseconds", "times SQLite",
           "bytes a document at most")
@@ -286,7 +286,7 @@ def insert_all_sqlite(base, rows):
 
 
 def updates_of_all(docd, base, count):
-    """The least seconds of an update of all documents in some runs, and the most bytes that docd had resident beyond those
+    """The least seconds of an update of all documents in some runs, and the most bytes that docd had resident, minus those
     before it."""
     spent, most = [], 0
     for _ in range(measuring.RUNS):
@@ -297,7 +297,7 @@ def updates_of_all(docd, base, count):
 
 
 def update_all(docd, count, is_free=True):
-    """Adds a number to each `serial`, after which the numbers are others than before."""
+    """Adds a number to each `serial`. All numbers then differ from those before."""
     reply, = docd.ask({"update": "c", "updates": [{"q": {}, "u": {"$inc": {"serial": count}}, "multi": True}]})
     if ("writeErrors" in reply) == is_free:
         sys.exit("bench: the reply to an update of all is %r" % reply)
@@ -316,7 +316,7 @@ def update_all_sqlite(base, count, is_free=True):
 
 
 def refused_updates(docd, base, count):
-    """Seconds of an update of all whose last document would get a number that one has which isn't updated."""
+    """Seconds of an update of all that is refused, since the last document but one would get the number that the last still has."""
     last, = docd.ask({"find": "c", "filter": {"_id": count - 1}})
     taken = {"_id": count, "serial": last["cursor"]["firstBatch"][0]["serial"] + count}
     docd.ask({"insert": "c", "documents": [taken]})
@@ -327,7 +327,7 @@ def refused_updates(docd, base, count):
 
 
 def forget_peak(docd):
-    """Has the system forget how many bytes a running program had resident at most, and gives how many it has."""
+    """Resets the system's count of the most bytes that a running program had resident, and returns how many it has now."""
     with open("/proc/%d/clear_refs" % docd.process.pid, "w") as file:
         file.write("5")
     return memory_of(docd.process)

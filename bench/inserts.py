@@ -1,7 +1,7 @@
 #!/usr/bin/python3
-"""What inserts, finds and pings cost in docd, and how that grows, beside another BSON library on the same bytes.
+"""What inserts, finds and pings cost in docd, and how that grows, compared with another BSON library on the same bytes.
 
-Needs what bench/measuring.py says. Inputs are seeded, so that runs compare. The program's start is left out.
+Needs what bench/measuring.py says. Inputs are seeded, so that runs can be compared. The program's start is left out.
 
     /usr/bin/python3 bench/inserts.py
     /usr/bin/python3 bench/inserts.py --count 10000 --program crates/docd/out/docd
@@ -36,7 +36,7 @@ def documents(count, is_shuffled):
 
 
 def store(bodies):
-    """What another library takes to decode the messages, with a dict for the documents."""
+    """Decodes the messages with another library, and puts their documents into a dict."""
     collection = {}
     for body in bodies:
         for one in bson.decode(body)["documents"]:

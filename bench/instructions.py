@@ -1,9 +1,9 @@
 #!/usr/bin/python3
-"""How many instructions a command costs inside docd, by valgrind's callgrind: repeatable where other work runs beside.
+"""How many instructions a command takes inside docd, counted by valgrind's callgrind: repeatable, whatever else the machine does.
 
-Needs what bench/measuring.py says, and valgrind (`apt-get install valgrind`). A run brings a collection of 2,000 documents and then
-so many commands; what a second run with twice as many takes more, divided by their number, is what a command costs. With `--beside`
-another program, an earlier one for example, does the same, and its figures are in a column of their own.
+Needs what bench/measuring.py says, and valgrind (`apt-get install valgrind`). A run sends a collection of 2,000 documents and then
+300 commands. A second run sends twice as many commands. The difference of the two, divided by 300, is what a command costs. With
+`--beside`, another program, for example an earlier one, does the same, and its figures are in a column of their own.
 
     /usr/bin/python3 bench/instructions.py
     /usr/bin/python3 bench/instructions.py --program docd.fast --beside ../before/docd.fast
@@ -61,7 +61,7 @@ VIEWS = {
 
 
 def commands(stages, made, count):
-    """What a run brings: the collections, the view if there is one, and so many of the commands."""
+    """What a run sends: the collections, the view if there is one, and `count` of the measured commands."""
     yield {"insert": "o", "documents": [{"_id": place} for place in range(OTHERS)]}
     if stages is not None:
         yield {"create": "v", "viewOn": "c", "pipeline": stages}
@@ -70,7 +70,7 @@ def commands(stages, made, count):
 
 
 def collected(program, stages, made, count):
-    """The instructions of a run, of which each command has to succeed."""
+    """The instructions of a run. Each of its commands has to succeed."""
     words = ["valgrind", "--tool=callgrind", "--callgrind-out-file=" + os.devnull, program, "run"]
     asked = [*commands(stages, made, count)]
     done = subprocess.run(words, input=stream_of(asked), stdout=subprocess.PIPE, stderr=subprocess.PIPE)
@@ -82,7 +82,7 @@ def collected(program, stages, made, count):
 
 
 def cost(program, stages, made):
-    """The instructions that one command more takes."""
+    """The instructions that one more command takes."""
     few, many = (collected(program, stages, made, COMMANDS * times) for times in (1, 2))
     return "{:,}".format((many - few) // COMMANDS)
 

@@ -1,8 +1,8 @@
 #!/usr/bin/python3
-"""What reading and writing values of each kind costs in docd, beside another BSON library on the same bytes in the same run.
+"""What reading and writing values of each type costs in docd, compared with another BSON library on the same bytes in the same run.
 
-Needs what bench/measuring.py says. A document has an `_id` and 20 fields of one kind. docd reads it in an insert and writes
-it in the answer of a find; the times of an insert hold the store too. The other library decodes and encodes the same
+Needs what bench/measuring.py says. A document has an `_id` and 20 fields of one type. docd reads it in an insert and writes
+it in the reply to a find; the times of an insert include storing it. The other library decodes and encodes the same
 documents.
 
     /usr/bin/python3 bench/kinds.py

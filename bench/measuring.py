@@ -1,8 +1,8 @@
-"""What the measurements share: messages, their times, a running program, what stands beside it, and tables.
+"""What the measurements share: messages, their times, a running program, what it is compared with, and tables.
 
 All need the built program (./docd run < /dev/null) and the BSON library of Debian's package python3-bson with its C extension
-(`apt-get install python3-bson python3-bson-ext`; run with /usr/bin/python3). All times are processor time, which other
-programs on the machine change least, and the least of some runs.
+(`apt-get install python3-bson python3-bson-ext`; run with /usr/bin/python3). Unless a script says otherwise, times are
+processor time, which other programs on the machine change least, and the least of some runs.
 """
 import argparse
 import json
@@ -29,10 +29,10 @@ from model.messages import HEADER  # noqa: E402
 from program import parsed  # noqa: E402
 from spelled import message, script_lines  # noqa: E402
 
-DOCD = None  # the program that is measured, as the words ask for it
+DOCD = None  # the program that is measured, which the arguments may name
 RUNS = 5
-TUNABLES = "GLIBC_TUNABLES"  # the variable by which ./docd says how memory is to be taken
-ALL = 2**31 - 1  # as many rows in a first batch as its bytes let
+TUNABLES = "GLIBC_TUNABLES"  # the variable with which ./docd sets how memory is allocated
+ALL = 2**31 - 1  # a batch size: as many rows as the bytes of a batch allow
 REFUSAL = b"\x02errmsg\0"  # in a reply that refuses a command or a statement
 
 
@@ -41,27 +41,27 @@ def options_of(description):
 
 
 def count_asked(description):
-    """How many documents the words ask for, 100,000 by default; they may name the program too."""
+    """How many documents the arguments ask for, 100,000 by default; they may name the program too."""
     options = options_of(description)
     options.add_argument("--count", type=int, default=100_000, help="how many documents")
     return asked(options).count
 
 
 def take_words(description):
-    """Reads the words of a script that has none of its own: they may name the program."""
+    """Reads the arguments of a script that has none of its own: they may name the program."""
     asked(options_of(description))
 
 
 def take_memory_as_docd():
-    """Starts this script once more with the variable that ./docd sets, so that docd takes memory as it does for its users, and so
-    does what is measured in this process beside it. A variable that is set already stays."""
+    """Starts this script again with the variable that ./docd sets, so that docd allocates memory as it does for its users. So does
+    what is measured in this process to compare docd with. A variable that is set already is kept."""
     if TUNABLES not in os.environ:
         set_by_docd = re.search(r"\{%s-([^}]+)\}" % TUNABLES, pathlib.Path(TOOLS, os.pardir, "docd").read_text())[1]
         os.execve(sys.executable, [sys.executable, *sys.argv], {**os.environ, TUNABLES: set_by_docd})
 
 
 def asked(options):
-    """What the words ask for. They may name the program too, which all measurements then take."""
+    """What the arguments ask for. They may name the program too, which all measurements then use."""
     global DOCD
     take_memory_as_docd()
     given = parsed(options, "bench")
@@ -72,17 +72,17 @@ def asked(options):
 
 
 def stream_of(commands):
-    """The messages that bring commands of the database `t`."""
+    """The messages of these commands on the database `t`."""
     return b"".join(message(bson.encode({**command, "$db": "t"})) for command in commands)
 
 
 def lines(stream, size):
-    """A hex script that brings the bytes, so many in a line."""
+    """A hex script that sends the bytes, `size` in a line."""
     return b"".join(line + b"\n" for line in script_lines(0, stream, size))
 
 
 def replies_in(stream):
-    """The bodies of the replies that a stream has one after the other."""
+    """The bodies of the replies in a stream."""
     at = 0
     while at < len(stream):
         size, = struct.unpack_from("<i", stream, at)
@@ -91,8 +91,8 @@ def replies_in(stream):
 
 
 def in_turn(*timed):
-    """The least processor time of each action, of some runs in which they come in turn. An action stands beside the clock
-    of the process that carries it out: what else the machine does moves that clock less than the time on the wall."""
+    """The least processor time of each action, of some runs in which they take turns. Each action has the clock of the
+    process that carries it out: other work on the machine affects this clock less than it affects real time."""
     best = [float("inf")] * len(timed)
     for _ in range(RUNS):
         for place, (action, clock) in enumerate(timed):
@@ -103,18 +103,18 @@ def in_turn(*timed):
 
 
 def least(action, clock=time.thread_time):
-    """The least processor time of some runs, which is the one that was disturbed least."""
+    """The least processor time of some runs: that of the run that was disturbed least."""
     return in_turn((action, clock))[0]
 
 
 def ended_time():
-    """The seconds of processor time that the processes have taken which this one began and which have ended."""
+    """The seconds of processor time of the processes that this one started and that have ended."""
     usage = resource.getrusage(resource.RUSAGE_CHILDREN)
     return usage.ru_utime + usage.ru_stime
 
 
 def processor_time(process):
-    """The seconds that a running process has taken, by the clock that clock_getcpuclockid names."""
+    """The processor seconds that a running process has taken, by the clock that clock_getcpuclockid names."""
     return time.clock_gettime(~process.pid << 3 | 2)
 
 
@@ -124,14 +124,14 @@ def load():
 
 
 def stop_at_refusals(bodies):
-    """Stops at a reply that refuses something, which is no work to be measured."""
+    """Ends the script at a reply that refuses something, since a refusal is not the work to be measured."""
     for body in bodies:
         if REFUSAL in body:
             sys.exit("bench: docd refuses: %.1000r" % bson.decode(body))
 
 
 def seconds(stream, replies):
-    """The time of a run of docd, which answers the messages of the stream by so many, and refuses none."""
+    """The time of a run of docd. It has to answer the messages of the stream with `replies` replies, and to refuse none."""
     def run():
         done = subprocess.run([DOCD, "run"], input=stream, stdout=subprocess.PIPE, check=True)
         bodies = [*replies_in(done.stdout)]
@@ -143,7 +143,7 @@ def seconds(stream, replies):
 
 
 def seconds_of_script(script, replies):
-    """The time of a run of docd on a hex script, which prints so many lines, and refuses nothing."""
+    """The time of a run of docd on a hex script. It has to print `replies` lines, and to refuse nothing."""
     def run():
         done = subprocess.run([DOCD, "run", "--hex"], input=script, stdout=subprocess.PIPE, check=True)
         if (given := done.stdout.count(b"\n")) != replies or REFUSAL.hex().encode() in done.stdout:
@@ -167,11 +167,11 @@ class Docd:
         self.bodies.put(None)
 
     def send(self, stream, replies):
-        """Sends messages, which are answered by so many replies. None of them may be a refusal."""
+        """Sends messages, which get `replies` replies. None of these may be a refusal."""
         stop_at_refusals(self.replies_to(stream, replies))
 
     def replies_to(self, stream, replies):
-        """Sends messages, and gives the bodies of the replies, which are so many."""
+        """Sends messages, which get `replies` replies, and returns the bodies of these."""
         self.process.stdin.write(stream)
         self.process.stdin.flush()
         bodies = [self.bodies.get() for _ in range(replies)]
@@ -180,11 +180,11 @@ class Docd:
         return bodies
 
     def ask(self, *commands):
-        """Sends commands of the database `t`, and gives the replies, refusals too."""
+        """Sends commands on the database `t`, and returns the replies, refusals too."""
         return [bson.decode(body) for body in self.replies_to(stream_of(commands), len(commands))]
 
     def clock(self):
-        """The processor time that it has taken when all that it was sent is done."""
+        """The processor time that it has taken once everything that it was sent is done."""
         self.ask({"ping": 1})
         return processor_time(self.process)
 
@@ -224,7 +224,7 @@ def person(rng, identity):
 
 
 def documents_to_find(count):
-    """Documents of ten fields and some 250 bytes. `serial` is another number below `count` in each, `bucket` one of a
+    """Documents of ten fields and some 250 bytes. `serial` is a different number below `count` in each, `bucket` one of a
     thousand, and each of two items has one of two thousand numbers."""
     rng = random.Random(count)
     serials = rng.sample(range(count), count)

@@ -1,14 +1,14 @@
 #!/usr/bin/python3
-"""What a stored document takes of memory in docd, beside its BSON bytes, and beside Redis where that is installed.
+"""How much memory a stored document takes in docd, compared with its BSON bytes, and with Redis if that is installed.
 
-Needs what bench/measuring.py says. Documents of five shapes are inserted one in a message and a hundred in one, in pieces
-as a reader cuts them. Then, while its input is still open, the program's own VmRSS is read: what a child's ru_maxrss tells
-starts with what its parent held. From it goes what the program took before the first insert. Redis
-(`apt-get install redis-server`) holds the same BSON bytes as strings under the documents' numbers.
+Needs what bench/measuring.py says. Documents of five shapes are inserted, one in a message and a hundred in one, in pieces
+as a reader cuts them. Then, while its input is still open, the program's own VmRSS is read, since a child's ru_maxrss begins
+with what its parent had. What the program took before the first insert is subtracted. Redis
+(`apt-get install redis-server`) stores the same BSON bytes as strings under the documents' numbers.
 
-A picture shows what is resident beside the BSON bytes, of documents that come alone. bench/memory.svg is drawn where as many documents
-as usual are measured, and Redis too, or, with `--figures`, of a file that has the table of an earlier run. `--picture` has one drawn
-of whatever is measured.
+A picture shows the resident bytes next to the BSON bytes, of documents that are inserted one in a message. bench/memory.svg is
+drawn if the usual number of documents is measured, and Redis too, or, with `--figures`, from a file that has the table of an
+earlier run. With `--picture`, a picture is drawn of whatever is measured.
 
     /usr/bin/python3 bench/memory.py
     /usr/bin/python3 bench/memory.py --count 10000 --program crates/docd/out/docd
@@ -37,7 +37,7 @@ from measuring import Docd, heads, inserts, row, stream_of
 USUAL = 100_000  # documents
 PICTURE = os.path.join(os.path.dirname(os.path.abspath(__file__)), "memory.svg")
 HEADS = ["shape", "BSON bytes", "alone", "times", "a hundred in a message", "times", "Redis", "times"]
-SHOWN = ["BSON bytes", "alone", "Redis"]  # of these by the picture
+SHOWN = ["BSON bytes", "alone", "Redis"]  # the columns that the picture shows
 COLUMNS = ["BSON bytes", "resident in docd", "resident in Redis"]
 UNIT = "times the BSON bytes of a document; behind a bar stand its bytes"
 
@@ -58,7 +58,7 @@ def nested(rng, identity):
     return {"_id": identity, "items": [{"item": rng.randrange(1000), "count": rng.randrange(10)} for _ in range(50)]}
 
 
-# the shape, how a document of it is made, how many are inserted where as many as usual are asked for
+# the shape, how a document of it is made, and how many are inserted if the usual number is asked for
 SHAPES = [
     ("10 fields", document, 100_000),
     ("3 numbers", numbers, 200_000),
@@ -102,7 +102,7 @@ def stored_by_redis(documents):
 
 
 def measured(asked, has_redis):
-    """Prints the table row by row, and gives its rows, each by its columns."""
+    """Prints the table row by row, and yields its rows, each as its cells by column."""
     heads(*HEADS)
     for name, made, count in SHAPES:
         rng = random.Random(count)
@@ -117,7 +117,7 @@ def measured(asked, has_redis):
 
 
 def printed(path):
-    """The rows of a table that was printed into a file, which may lack columns that no picture shows."""
+    """The rows of a table in a file, which may lack columns that the picture does not show."""
     names, columns, found = [name for name, _, _ in SHAPES], [], []
     with open(path, encoding="utf-8") as file:
         for cells in ([cell.strip() for cell in line.strip().strip("|").split("|")] for line in file):
@@ -129,7 +129,7 @@ def printed(path):
 
 
 def picture_of(rows):
-    """The picture of the table's rows, each by its columns."""
+    """The picture of the table's rows, each as its cells by column."""
     def bar(row, column):
         return None if row[column] == "-" else (int(row[column]) / int(row["BSON bytes"]), format(int(row[column]), ","))
 
@@ -139,8 +139,8 @@ def picture_of(rows):
 def main():
     options = argparse.ArgumentParser(description=__doc__, formatter_class=argparse.RawDescriptionHelpFormatter)
     options.add_argument("--count", type=int, default=USUAL, help="how many documents")
-    options.add_argument("--figures", metavar="FILE", help="measure nothing: draw the table that stands in a file")
-    options.add_argument("--picture", metavar="FILE", help="where the picture is written, of whatever is measured")
+    options.add_argument("--figures", metavar="FILE", help="measure nothing: draw the table that is in this file")
+    options.add_argument("--picture", metavar="FILE", help="write a picture of whatever is measured to this file")
     given, has_redis = options.parse_known_args()[0], shutil.which("redis-server") is not None
     rows = printed(given.figures) if given.figures else list(measured(measuring.asked(options).count, has_redis))
     if given.picture or given.figures or has_redis and given.count == USUAL:

@@ -1,9 +1,9 @@
 #!/usr/bin/python3
-"""What messages cost that are long, have many fields or come in small pieces, and how that grows, beside another BSON library
-on the same bytes.
+"""What messages cost that are long, have many fields or arrive in small pieces, and how that grows, compared with another BSON
+library on the same bytes.
 
-Needs what bench/measuring.py says. Inputs are fixed, so that runs compare. Small pieces are lines of a hex script: those
-times hold the lines and their digits, which the same bytes in long lines tell of.
+Needs what bench/measuring.py says. Inputs are fixed, so that runs can be compared. Small pieces are lines of a hex script, so
+their times include reading the lines and their digits; the times of the same bytes in long lines show what that costs.
 
     /usr/bin/python3 bench/messages.py
     /usr/bin/python3 bench/messages.py --program crates/docd/out/docd

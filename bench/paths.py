@@ -2,9 +2,10 @@
 """What a path of many components costs in a document that it leads through in very many ways, and how that grows.
 
 Needs what bench/measuring.py says. The document is {"0": [{"0": [..]}]}, 10 to 98 levels deep, and the path is `0` fifty
-times: a whole number both picks an element and enters it, so the ways grow as a power of the levels. A filter asks of the
-leaves at the path, a sort takes its least key; each looks at a value once for each component at most. Times are those of
-one find beside a find of the same documents by a name that they don't have, without the program's start.
+times. In an array, `0` leads both to the element and to its field `0`, so the number of ways grows as a power of the levels. A
+filter tests the leaves at the path, and a sort takes their least key; each reads a value at most once for each component. A time
+is that of a find, minus that of a find of the same two documents by a name that they don't have, divided by two. So the program's
+start is left out.
 
     /usr/bin/python3 bench/paths.py
     /usr/bin/python3 bench/paths.py --program crates/docd/out/docd
@@ -19,7 +20,7 @@ PATH = ".".join(["0"] * COMPONENTS)
 
 
 def nested(levels):
-    """A document so many levels deep, whose levels are documents and arrays in turn."""
+    """A document of so many levels, which are documents and arrays in turn."""
     value = 1
     for level in range(levels, 1, -1):
         value = [value] if level % 2 == 0 else {"0": value}
@@ -31,7 +32,7 @@ def documents(levels):
 
 
 def check_find():
-    """Stops where docd's find takes no filter or sort by paths."""
+    """Ends the script if docd's find refuses a filter or a sort by a path."""
     docd = Docd()
     _, reply = docd.ask(*inserts(documents(10)), {"find": "c", "filter": {PATH: 1}, "sort": {PATH: 1}})
     docd.close()

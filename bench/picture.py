@@ -1,5 +1,5 @@
-"""A picture of times over counts, as SVG: for each of some panels a few lines, on logarithmic scales. bench/bars.py has pictures
-of bars with the same marks."""
+"""A picture of times over counts, as SVG: panels with a few lines each, on logarithmic scales. bench/bars.py draws bars in the same
+style."""
 import math
 from collections import namedtuple
 from xml.sax.saxutils import escape
@@ -23,7 +23,7 @@ def decades(values):
 
 
 def exponent_text(exponent):
-    """Ten to a power, as a count of microseconds, milliseconds or seconds."""
+    """A power of ten of microseconds, as a number of seconds, milliseconds or microseconds."""
     for unit, start in (("s", 6), ("ms", 3), ("µs", 0)):
         if exponent >= start:
             return "%d %s" % (10 ** (exponent - start), unit)
@@ -71,7 +71,7 @@ def text(x, y, said, kind, anchor="start"):
 
 
 def legend(names, left=LEFT):
-    """The names beside their colours, as squares of one line."""
+    """The names in one line, each after a square of its colour."""
     x = left
     for colour, name in zip(COLOURS, names):
         yield '<rect x="%d" y="13" width="12" height="12" fill="%s"/>' % (x, colour)
@@ -87,7 +87,7 @@ def picture(width, height, parts):
 
 
 def drawn(panels, caption):
-    """The picture of panels, by their titles: times upwards, counts across, all panels on one scale of times."""
+    """The picture of panels, which are lines by a title: times upwards, counts across, and one scale of times for all panels."""
     heights = decades([max(spent, 1e-3) for lines in panels.values() for line in lines for _, spent in line.points])
     made = [Panel(title, lines, WIDTH * (place % ACROSS), LEGEND + HEIGHT * (place // ACROSS), heights)
             for place, (title, lines) in enumerate(panels.items())]

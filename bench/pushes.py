@@ -1,9 +1,10 @@
 #!/usr/bin/python3
-"""What a view with a `$push` costs that is kept by changes, beside an aggregate of its pipeline.
+"""What a live view with a `$push` costs, compared with an aggregate of its pipeline.
 
-Needs what bench/measuring.py says. Documents are in groups of so many, and the view counts those of each group and pushes a
-number of each. One document's number changes, and the row of its group is read; then the number of each document of a group
-changes by one statement, once. Each change of a group's row copies its array. All times are processor time.
+Needs what bench/measuring.py says. Documents are in groups of one size, and the view counts the documents of each group and
+pushes a number of each. One document's number changes, and the row of its group is read. In the last row of the table, one
+statement changes the number of each document of a group, once. Each change of a group's row copies its array. All times are
+processor time.
 
     /usr/bin/python3 bench/pushes.py
     /usr/bin/python3 bench/pushes.py --count 10000 --program crates/docd/out/docd
@@ -43,8 +44,8 @@ def once(docd, stream, replies):
 
 
 def compared(docd, changed):
-    """The processor seconds of a change and a read of the first group's row, and of an aggregate that makes it: the least of
-    some runs, or those of one where many documents change."""
+    """The processor seconds of a change with a read of the first group's row, and of an aggregate that computes that row: the
+    least of some runs, or those of one run if many documents change."""
     reading = {"find": "v", "limit": 1}
     making = {"aggregate": "c", "pipeline": [*STAGES, {"$limit": 1}], "cursor": {}}
     found, made = docd.ask(reading, making)

@@ -1,4 +1,4 @@
-"""PostgreSQL beside docd: a server of its own, in a folder that goes with it, and what a REFRESH of a view takes there."""
+"""PostgreSQL, which docd is compared with: a server in a folder that is removed with it, and what a REFRESH of a view takes."""
 import os
 import pwd
 import shutil
@@ -22,7 +22,7 @@ Backend = namedtuple("Backend", "pid")
 
 
 class Postgres:
-    """A server and a session with it. `told` says why there is none, where there is none."""
+    """A server and a session with it. If there is none, `told` says why; otherwise it is None."""
 
     def __init__(self):
         missing = [one for one in TOOLS if not shutil.which(one)]
@@ -53,7 +53,7 @@ class Postgres:
         self.backend = Backend(int(self.ask("SET client_min_messages = warning; SELECT pg_backend_pid();")[0]))
 
     def words(self, *words):
-        """The words of a command of the server's user, which is never root."""
+        """The words of a command that runs as the server's user, which is never root."""
         return ["runuser", "-u", self.user, "--", *words] if os.getuid() == 0 else list(words)
 
     def run(self, *words):
@@ -69,7 +69,7 @@ class Postgres:
         shutil.rmtree(self.folder, ignore_errors=True)
 
     def ask(self, text):
-        """The lines that a text of statements is answered."""
+        """The lines that answer a text of statements."""
         self.session.stdin.write("%s\n\\echo %s\n" % (text, END))
         self.session.stdin.flush()
         lines = []
@@ -80,7 +80,7 @@ class Postgres:
         sys.exit("bench: PostgreSQL has ended its session")
 
     def fill(self, case, count):
-        """Makes the tables of a case, in place of what is there."""
+        """Makes the tables of a case, in place of those that exist."""
         self.ask("DROP TABLE IF EXISTS c, d CASCADE;")
         for name, documents in (("c", case.documents(count)), ("d", case.foreign(count))):
             columns = ["%s %s" % (column, TYPES.get(column, "integer")) for column in COLUMNS[name]]
@@ -94,7 +94,7 @@ class Postgres:
         return self.chain_refreshed(case, [("v", case.query[1])], count)
 
     def chain_refreshed(self, case, views, count):
-        """The least seconds that a refresh of some views takes, one after the other, each of which has a name and a query."""
+        """The least seconds that refreshing some views, one after the other, takes. Each view is a name and a query."""
         self.fill(case, count)
         for view in views:
             self.ask("CREATE MATERIALIZED VIEW %s AS %s;" % view)

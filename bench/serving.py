@@ -1,11 +1,11 @@
 #!/usr/bin/python3
-"""What a served docd answers over the loopback, beside Redis, and what `docd check` takes, beside libbson's visit.
+"""What requests to a served docd take over the loopback, compared with Redis, and `docd check`, compared with libbson's visit.
 
-Needs what bench/measuring.py says. One client sends inserts, finds by `_id`, updates of one field and ranges of an index to
-documents of ten fields: one request at a time, and many on their way at once, written by one thread and read by another.
-Redis (`apt-get install redis-server`; it is left out where that is missing) gets and sets the same documents' BSON bytes.
-Beside the time on the wall, in which this client has its part, stands the server's processor time. The file for `docd check`
-has about 200 MB; libbson's visit is bench/visit.c (`apt-get install libbson-dev`; left out where it doesn't compile).
+Needs what bench/measuring.py says. One client sends inserts, finds by `_id`, updates of one field and finds of a range of an
+index, over documents of ten fields: one request at a time, and then with many outstanding, where one thread writes and another
+reads. Redis (`apt-get install redis-server`; left out if it is missing) gets and sets the same documents' BSON bytes. The table
+shows real time, which includes this client's work, and the server's processor time. The file for `docd check` has about 200 MB;
+libbson's visit is bench/visit.c (`apt-get install libbson-dev`; left out if it doesn't compile).
 
     /usr/bin/python3 bench/serving.py
     /usr/bin/python3 bench/serving.py --count 10000 --program crates/docd/out/docd
@@ -38,7 +38,7 @@ ROUNDS = 3
 IN_RANGE = 20  # documents
 FILE_BYTES = 200_000_000
 
-# What is sent to docd, a message each, and to Redis, None where it has nothing of the kind.
+# What is sent to docd, as messages, and to Redis, as commands, or None if Redis has nothing of the kind.
 Work = namedtuple("Work", "name messages commands")
 
 
@@ -51,7 +51,7 @@ def redis_command(*words):
 
 
 def works(documents):
-    """Inserts of all documents, and then as many requests of each other kind as a tenth of them."""
+    """Inserts of all documents, and then requests of each other kind, a tenth as many."""
     count, rng = len(documents), random.Random(len(documents))
     some = [rng.randrange(count) for _ in range(count // 10)]
     sets = [redis_command(b"SET", b"%d" % one["_id"], bson.encode(one)) for one in documents]
@@ -67,8 +67,8 @@ def works(documents):
 
 
 class Server:
-    """A server that was started, and a connection to it. `size` tells the bytes of the first reply in a stream, or None where
-    they aren't known yet; `ping` and `pong` are a request and its reply, which no other reply ends with."""
+    """A server that was started, and a connection to it. `size` returns how many bytes the first reply in a stream has, or None
+    if that isn't known yet; `ping` and `pong` are a request and its reply, with which no other reply ends."""
 
     def __init__(self, words, port, size, ping, pong):
         self.size, self.ping, self.pong = size, ping, pong
@@ -78,7 +78,7 @@ class Server:
         self.connection.setsockopt(socket.IPPROTO_TCP, socket.TCP_NODELAY, 1)
 
     def ask_alone(self, requests):
-        """Sends each request when the reply to the one before is there, and gives the replies."""
+        """Sends each request after the reply to the one before has arrived, and returns the replies."""
         return b"".join([self.reply_to(one) for one in requests])
 
     def reply_to(self, request):
@@ -95,7 +95,7 @@ class Server:
         return taken
 
     def ask_many(self, requests):
-        """Sends all requests while their replies are read, and gives these."""
+        """Sends all requests while their replies are read, and returns the replies."""
         sender = threading.Thread(target=self.connection.sendall, args=[b"".join(requests) + self.ping])
         sender.start()
         taken, last = [], b""
@@ -112,7 +112,7 @@ class Server:
 
 
 def connected(port):
-    """A connection to a server that may not have begun to listen."""
+    """A connection to a server that may not listen yet."""
     for _ in range(200):
         with contextlib.suppress(ConnectionRefusedError):
             return socket.create_connection(("127.0.0.1", port))
@@ -145,14 +145,14 @@ def served_redis(folder):
 
 
 def spent_on(server, asked, requests):
-    """The seconds that a request takes on the wall and of the server's processor, and the replies."""
+    """The seconds that a request takes, in real time and of the server's processor, and the replies."""
     start, taken = time.perf_counter(), processor_time(server.process)
     replies = asked(requests)
     return (time.perf_counter() - start) / len(requests), (processor_time(server.process) - taken) / len(requests), replies
 
 
 def measured(server, requests, check):
-    """The four times of a work: one request at a time, and many on their way, each on the wall and of the processor."""
+    """The four times of a work: with one request at a time and with many outstanding, each in real time and of the processor."""
     alone, many = requests[:min(ALONE, len(requests) // 2)], requests[len(requests) // 2:]
     server.ask_many(requests[len(alone):len(requests) // 2])
     times = []
@@ -164,7 +164,7 @@ def measured(server, requests, check):
 
 
 def check_docd(replies, count):
-    """Stops where there are others than so many replies, or one that is a refusal or tells of nothing."""
+    """Ends the script if there are not `count` replies, or if one is a refusal or reports that nothing was written or found."""
     at = told = 0
     while at < len(replies):
         size = docd_size(replies[at:at + 4])
@@ -178,7 +178,7 @@ def check_docd(replies, count):
 
 
 def check_redis(replies, count):
-    """Stops where there are others than so many replies, or one that is a refusal or finds nothing."""
+    """Ends the script if there are not `count` replies, or if one is a refusal or finds nothing."""
     at = told = 0
     while at < len(replies):
         if replies[at:at + 1] == b"-" or replies[at:at + 2] == b"$-":
@@ -217,7 +217,7 @@ def print_served(documents):
 
 
 def visiting_program(folder):
-    """The program of bench/visit.c, or None where it can't be compiled."""
+    """The program of bench/visit.c, or None if it can't be compiled."""
     program, source = os.path.join(folder, "visit"), os.path.join(ROOT, "bench", "visit.c")
     with contextlib.suppress(OSError, subprocess.CalledProcessError):
         words = ["pkg-config", "--cflags", "--libs", "libbson-1.0"]

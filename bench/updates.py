@@ -1,8 +1,8 @@
 #!/usr/bin/python3
-"""What updates of one field cost, one statement for all documents and one for each, beside SQLite in process.
+"""What updates of one field cost, by one statement for all documents and by one for each, compared with SQLite in process.
 
-Needs what bench/measuring.py says. The documents have ten fields; SQLite holds them as JSON in memory (`json_set`), and
-finds the one of a statement by its primary key. All times are processor time, the least of some runs in turn.
+Needs what bench/measuring.py says. The documents have ten fields. SQLite stores them as JSON in memory (`json_set`), and
+finds the document of a statement by its primary key. All times are processor time, the least of some runs in turn.
 
     /usr/bin/python3 bench/updates.py
     /usr/bin/python3 bench/updates.py --count 10000 --program crates/docd/out/docd
@@ -14,7 +14,7 @@ from collections import namedtuple
 import measuring
 from measuring import documents_to_find, heads, in_turn, load, loaded, loaded_sqlite, row
 
-# An update by a number, another one in each run, and the same in SQL, with how often the number stands there.
+# An update with a number, which is a different one in each run; the same in SQL; and how often the number is in that.
 Update = namedtuple("Update", "name made sql numbers")
 UPDATES = [
     Update("`$set`", lambda number: {"$set": {"age": number}}, "json_set(body, '$.age', ?)", 1),

@@ -1,7 +1,7 @@
 """The views that bench/views.py measures: their documents, their stages, the changes, and the same in SQL.
 
-A collection `c` has as many documents as are asked for, and `d` what a lookup looks into. In SQL the fields are columns; an
-array is a text of JSON in SQLite and an array in PostgreSQL.
+The collection `c` has as many documents as are asked for (in a lookup of ten, a tenth of them), and `d` has those that a lookup
+reads. In SQL the fields are columns; an array is a text of JSON in SQLite and an array in PostgreSQL.
 """
 import json
 import random
@@ -9,14 +9,14 @@ from collections import namedtuple
 
 PART = 10  # elements of an array, documents of a small group, matches of a row
 FEW = 100  # documents of a large group
-SHOWN = 101  # rows of a read, as a first batch has
+SHOWN = 101  # rows of a read, as many as a first batch has
 MOST = 1_000_000  # of an amount
 
 COLUMNS = {"c": "id few tens code amount name items".split(), "d": "id code name".split()}
 
-# A view: its name, the documents of `c` and of `d` of a size, its stages, what a change sets of a document, which
-# collection that is in, whether it is the one with the least amount, the query, and how SQLite keeps it: the statements that
-# make it so and the one that reads it.
+# A view: its name; the documents of `c` and of `d`, by their number; its stages; what a change sets in a document; that
+# document's collection; whether it is the one with the least amount; the query, for SQLite and for PostgreSQL; and how SQLite
+# keeps the view: the statements that set this up, and the query that reads it.
 Case = namedtuple("Case", "name documents foreign stages change changed least query kept read")
 
 
@@ -47,7 +47,7 @@ def ten_each(count):
     return [{"_id": place, "code": place % (count // PART), "name": "other %d" % place} for place in range(count)]
 
 
-# Changes: what is set, which is another value each time, in documents of so many.
+# Changes: the field that is set, with a random value each time, in a case over so many documents.
 
 
 def amount(rng, count):
@@ -77,12 +77,12 @@ def grouped(key):
 LOOKUP = [{"$lookup": {"from": "d", "localField": "code", "foreignField": "code", "as": "o"}},
           {"$project": {"code": 1, "names": "$o.name"}}]
 
-# The queries, where they are the same in both dialects.
+# The queries that are the same in both dialects.
 RICH = "SELECT id, amount, name FROM c WHERE amount >= %d" % (MOST // 2)
 TOP = "SELECT id, amount, name FROM c ORDER BY amount DESC, id LIMIT 10"
 ALL_GROUPED = "SELECT %s AS id, count(*) AS n, sum(amount) AS total, min(amount) AS least FROM c"
 GROUPED = ALL_GROUPED + " GROUP BY %s"
-# A pair of SQLite's and PostgreSQL's.
+# Pairs of a query for SQLite and one for PostgreSQL.
 ELEMENTS = ("SELECT c.id, e.key AS place, e.value AS item FROM c, json_each(c.items) AS e",
             "SELECT c.id, e.place, e.item FROM c, unnest(c.items) WITH ORDINALITY AS e (item, place)")
 PUSHED = ("SELECT tens AS id, json_group_array(amount) AS amounts FROM c GROUP BY tens",
@@ -99,18 +99,18 @@ def trigger(on, actions):
     return "CREATE TRIGGER keep_%s AFTER UPDATE ON %s BEGIN %s; END" % (on, on, "; ".join(actions))
 
 
-# What SQLite keeps by hand, and how it is read. A table `v` is kept by triggers; the first rows of a sort are kept by an index.
+# How SQLite keeps a view, and how that is read. Triggers written by hand keep a table `v`; an index keeps the first rows of a sort.
 
 
 def kept_rows(query, insert):
-    """Rows that are taken out and put in again where their document changes."""
+    """Rows that are deleted and inserted again when their document changes."""
     make = "CREATE TABLE v AS " + query
     return [make, "CREATE INDEX by_id ON v (id)",
             trigger("c", ["DELETE FROM v WHERE id = old.id", "INSERT INTO v " + insert])], "SELECT * FROM v"
 
 
 def kept_sums(query, indexed, of_group, group):
-    # The least amount of a group is looked up in an index where it may have gone.
+    # The least amount of a group is looked up in an index, since it may have changed.
     update = ("UPDATE v SET total = total - old.amount + new.amount, least = (SELECT min(amount) FROM c%s) WHERE id = %s"
               % (of_group, group))
     return ["CREATE TABLE v (id INTEGER PRIMARY KEY, n INTEGER, total INTEGER, least INTEGER)",
@@ -132,7 +132,7 @@ def kept_matches():
     names = "(SELECT json_group_array(name) FROM d WHERE d.code = %s)"
     left = "UPDATE v SET code = new.code, names = %s WHERE id = new.id" % (names % "new.code")
     foreign = "UPDATE v SET names = %s WHERE id IN (SELECT id FROM c WHERE code IN (old.code, new.code))" % (names % "v.code")
-    # Both columns `code` are without a type, or else the index isn't used.
+    # Neither column `code` has a type, since the index isn't used otherwise.
     return ["CREATE TABLE v (id INTEGER PRIMARY KEY, code, names TEXT)", "INSERT INTO v " + MATCHES[0],
             "CREATE INDEX c_by_code ON c (code)", trigger("c", [left]), trigger("d", [foreign])], "SELECT * FROM v"
 
@@ -164,7 +164,7 @@ CASES = [
 
 
 def rows_of(documents, collection, spelled):
-    """The documents as rows of their columns, each value spelled, None where it is missing."""
+    """The documents as rows of their columns. `spelled` converts each value, or None if the value is missing."""
     columns = COLUMNS[collection]
     return [[spelled(one.get("_id" if column == "id" else column)) for column in columns] for one in documents]
 
@@ -174,7 +174,7 @@ def as_json(value):
 
 
 def as_copied(value):
-    """As PostgreSQL's COPY reads a value."""
+    """A value as PostgreSQL's COPY reads it."""
     if value is None:
         return "\\N"
     return "{%s}" % ",".join(map(str, value)) if isinstance(value, list) else str(value)

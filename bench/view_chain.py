@@ -1,13 +1,13 @@
-"""The chain that bench/views.py measures: eight views, the first over the collection `c` and each other one over the one before.
+"""The chain that bench/views.py measures: eight views, the first over the collection `c`, and each other over the view before it.
 
-A change of one of the first documents goes through all of them: its group stays among the first ones, with another sum.
+A change of one of the first documents changes a row of each view: its group stays among the first groups, with another sum.
 """
 from collections import namedtuple
 
 from view_cases import MOST, PART, both, case, greater_amount, plain, trigger
 
-FIRST = 100  # groups that the sort leaves
-CHANGED = FIRST * PART  # documents, those of these groups
+FIRST = 100  # groups that the sort and the limit leave
+CHANGED = FIRST * PART  # the documents of these groups
 
 # A view of the chain: its stages, which field of a row of its source a change sets, and its query in SQLite and in PostgreSQL.
 Level = namedtuple("Level", "stages field query")
@@ -42,14 +42,14 @@ NAMES = ["v%d" % place for place in range(1, len(LEVELS) + 1)]
 
 
 def anew(views):
-    """A query of the last of some views, of which each is a query by a name."""
+    """A query that computes the last of some views. Each view is a name and a query."""
     return "WITH %s SELECT * FROM %s" % (", ".join("%s AS (%s)" % one for one in views), views[-1][0])
 
 
 SQLITE = list(zip(NAMES, [one.query[0] for one in LEVELS]))
 POSTGRES = list(zip(NAMES, [one.query[1] for one in LEVELS]))
-# What SQLite keeps by hand: the first three views as tables, by triggers of which one sets off the next, and the fourth by an
-# index. The others are made of its rows as they are read.
+# What SQLite keeps: triggers written by hand, each of which sets off the next, keep the first three views as tables, and an index
+# keeps the fourth. The others are computed from the rows of the fourth when they are read.
 KEPT = [
     *("CREATE TABLE %s AS %s" % one for one in SQLITE[:3]),
     *("CREATE UNIQUE INDEX %s_by_id ON %s (id)" % (name, name) for name in NAMES[:3]),

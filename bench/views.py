@@ -1,23 +1,24 @@
 #!/usr/bin/python3
-"""What a write and a read of a view cost, by how many rows it is over, beside what one would take instead.
+"""What a write and a read of a view cost, by how many documents it is over, compared with what one would use instead.
 
-Needs what bench/measuring.py says. For each view of bench/view_cases.py, over 1,000, 10,000 and 100,000 documents: an update of one
-document by its `_id`, one in a message, without the view and with it; and a find of the first 101 rows of the view. In the
-same run, on the same values: SQLite in process, where triggers keep a table by hand, or an index a sort; the same rows anew,
-by an aggregate of docd and by a query of SQLite; and PostgreSQL's REFRESH MATERIALIZED VIEW, where its server is installed
-(`apt-get install postgresql`). Behind the largest size stand the bytes that the view keeps for a document of its collection.
+Needs what bench/measuring.py says. For each view of bench/view_cases.py, over 1,000, 10,000 and 100,000 documents, it measures an
+update of one document by its `_id`, one in a message, without the view and with it, and a find of the first 101 rows of the view.
+In the same run, on the same values, it measures SQLite in process, where triggers written by hand keep a table, or an index keeps
+a sort; the same 101 rows recomputed, by an aggregate of docd and by a query of SQLite; and PostgreSQL's REFRESH MATERIALIZED VIEW,
+if its server is installed (`apt-get install postgresql`). For the largest size, the table also has the bytes that the view keeps
+for a document of its collection.
 
-A table of its own has the chain of eight views of bench/view_chain.py: a write, and one with a read of the last view. Beside them
-stands what the eight take by themselves, added up: of each what a write takes with it, less what it takes without it, where it is
-the only view, over a collection of the rows that its source has in the chain. A row that moves in the chain's sort goes and comes
-for the views behind it, and is only changed in these collections. SQLite's triggers set off one another; PostgreSQL refreshes the
-eight in their order.
+The chain of eight views of bench/view_chain.py has a table of its own: a write, and a write with a read of the last view. It also
+has what the eight views take by themselves, added up. For this, each is the only view, over a collection of the rows that its
+source has in the chain, and counts with what a write takes with it, minus what a write takes without it. A row that moves in the
+chain's sort is removed and inserted for the views after it, but is only changed in these collections. SQLite's triggers set off
+one another; PostgreSQL refreshes the eight in their order.
 
-All times are processor time, the least of some runs in turn; docd's hold the reading of its messages and the writing of
-its replies, SQLite's the making of the statement and of Python's rows, PostgreSQL's that of its own process.
+All times are processor time, the least of some runs in turn. docd's include reading its messages and writing its replies, SQLite's
+include preparing the statement and making Python's rows, and PostgreSQL's are those of its own process.
 
-The picture bench/views.svg is drawn where all views are measured, without `--only` and `--rows` and with PostgreSQL; `--picture` has
-one drawn of whatever is measured.
+The picture bench/views.svg is drawn if all views are measured, without `--only` and `--rows`, and with PostgreSQL. With
+`--picture`, a picture is drawn of whatever is measured.
 
     /usr/bin/python3 bench/views.py
     /usr/bin/python3 bench/views.py --rows 1000,10000 --only "group,sort" --program crates/docd/out/docd
@@ -43,18 +44,18 @@ from view_chain import CHAIN, CHANGED, FIRST, LEVELS, NAMES, POSTGRES
 
 ROWS = "1000,10000,100000"
 READS = 200  # in a run
-LARGEST = 200_000  # documents that a run goes through, about, in which rows are made anew
+LARGEST = 200_000  # about how many documents a run that recomputes rows goes through
 CREATE = "CREATE TABLE %s (%s)"
 PICTURE = os.path.join(os.path.dirname(os.path.abspath(__file__)), "views.svg")
 CAPTION = "Processor time of one, by the documents that the view is over; both scales are logarithmic."
 
-# What was measured of a view over so many documents: seconds of a write without the view, and with it; of a read; of the same rows
-# anew; and of a REFRESH, None where there is no PostgreSQL. Of each a pair: docd's and SQLite's.
+# What was measured of a view over so many documents: seconds of a write without the view, and with it; of a read; of recomputing
+# the same rows; and of a REFRESH, None if there is no PostgreSQL. All except the REFRESH are pairs: docd's and SQLite's.
 Measured = namedtuple("Measured", "case count bare write read anew refresh")
 
 
 class Docd:
-    """A running docd with the documents of a case, and with its view where that is wanted."""
+    """A running docd with the documents of a case, and with its view if that is wanted."""
 
     def __init__(self, case, count, has_view=False):
         self.case, self.docd = case, measuring.Docd()
@@ -77,7 +78,7 @@ class Docd:
         self.answered({"create": "v", "viewOn": "c", "pipeline": self.case.stages})
 
     def writes(self, changes, *behind):
-        """An action that makes the next of these lists of changes, each time, with these commands behind each change."""
+        """An action that makes the next of these lists of changes each time, with these commands after each change."""
         commands = [[command for one in some for command in (self.update(*one), *behind)] for some in changes]
         streams = iter([measuring.stream_of(some) for some in commands])
         return lambda: self.docd.send(next(streams), len(commands[0]))
@@ -146,7 +147,7 @@ class Sqlite:
 
 
 class Changes:
-    """Changes of a case's documents, which are of so many: of each a document's number and what is set."""
+    """Changes of a case over so many documents. Each change is a document's number and what is set in it."""
 
     def __init__(self, case, count):
         self.case, self.rng = case, random.Random(count)
@@ -157,7 +158,7 @@ class Changes:
         self.least = itertools.cycle(one["_id"] for one in by_amount)
 
     def lists(self, writes):
-        """Lists of so many changes, one for each run."""
+        """Lists of `writes` changes, one list for each run."""
         return [[self.one() for _ in range(writes)] for _ in range(measuring.RUNS)]
 
     def one(self):
@@ -166,7 +167,7 @@ class Changes:
 
 
 def each(times, *timed):
-    """The least seconds of one of so many in each action."""
+    """The least seconds of one request, for each action, which makes `times` of them."""
     return [spent / times for spent in in_turn(*timed)]
 
 
@@ -192,7 +193,7 @@ def measured(case, count, writes, postgres):
 
 
 def check(docd, base):
-    """That a view has the rows that its stages make anew, and so has what SQLite keeps."""
+    """Checks that the view has the rows that an aggregate of its pipeline returns, and what SQLite keeps those of its query."""
     kept, anew = docd.rows(docd.find()), docd.rows(docd.aggregate())
     if kept != anew:
         sys.exit("bench: %s: the view has other rows than its pipeline" % docd.case.name)
@@ -204,8 +205,8 @@ def check(docd, base):
 # The chain.
 
 # What was measured of the chain over so many documents: seconds of a write without it, of one with it, and of one with a read of
-# the last view; of the eight views by themselves; of the same rows anew; and of eight REFRESH. Of each but the eight and the
-# REFRESH a pair: docd's and SQLite's.
+# the last view; of the eight views by themselves; of recomputing the same rows; and of eight REFRESH. All except those of the eight
+# and the REFRESH are pairs: docd's and SQLite's.
 Chained = namedtuple("Chained", "count bare write both alone anew refresh")
 
 
@@ -224,7 +225,7 @@ class Chain(Docd):
 
 
 def changes_of(level, writes):
-    """Lists of so many changes of rows of a view's source, those of the groups that stay among the first."""
+    """Lists of `writes` changes of rows of a view's source. The rows are those of the groups that stay among the first."""
     rng, most, least = random.Random(writes), FIRST, PART * MOST
     if level.field == "amount":
         most, least = CHANGED, MOST
@@ -233,7 +234,7 @@ def changes_of(level, writes):
 
 
 def own(level, rows, others, writes):
-    """What a write takes with a view of the chain that is the only one, less what it takes without it; over these rows."""
+    """What a write over these rows takes with only this view of the chain, minus what it takes without it."""
     held = CHAIN._replace(stages=level.stages, documents=lambda count: rows, foreign=lambda count: others)
     pair, lists = [Docd(held, len(rows), has_view) for has_view in (False, True)], changes_of(level, writes)
     bare, write = each(writes, *((docd.writes(lists), docd.docd.clock) for docd in pair))
@@ -301,7 +302,7 @@ def lines_of(found):
 
 
 def tell_views(cases, sizes, writes, postgres):
-    """Writes the table of these views. What was measured of each, by its name."""
+    """Prints the table of these views. Returns what was measured of each, by its name."""
     heads("a view, microseconds", "documents", "a write without it", "a write", "SQLite", "a read", "SQLite",
           "recomputed: docd", "SQLite", "PostgreSQL: REFRESH", "bytes kept for a document")
     found = {}
@@ -320,10 +321,10 @@ def draw(found, path):
 
 def main():
     options = argparse.ArgumentParser(description=__doc__, formatter_class=argparse.RawDescriptionHelpFormatter)
-    options.add_argument("--rows", default=ROWS, help="over how many documents, joined by commas")
-    options.add_argument("--only", default="", help="words, joined by commas, of which the names of the views have one")
-    options.add_argument("--writes", type=int, default=1_000, help="how many writes a run has at most")
-    options.add_argument("--picture", metavar="FILE", help="where the picture is written, of whatever is measured")
+    options.add_argument("--rows", default=ROWS, help="over how many documents: numbers, joined by commas")
+    options.add_argument("--only", default="", help="words, joined by commas: measure the views whose name has one of them")
+    options.add_argument("--writes", type=int, default=1_000, help="how many writes a run has")
+    options.add_argument("--picture", metavar="FILE", help="write a picture of whatever is measured to this file")
     given = measuring.asked(options)
     sizes = [int(one) for one in given.rows.split(",")]
     names = named("bench", given.only, [*(case.name for case in CASES), CHAIN.name])

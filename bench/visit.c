@@ -1,5 +1,5 @@
-/* Visits each value of the documents in a file, one behind the other, as libbson does it, and prints how many documents these
- * are: what bench/serving.py sets beside `docd check`. It looks at each text and each name, at any depth.
+/* Visits each value of the documents in a file, one after the other, as libbson does it, and prints how many documents there
+ * are. bench/serving.py compares it with `docd check`. It checks each string and each name, at any depth.
  *
  *     cc -O2 -o visit bench/visit.c $(pkg-config --cflags --libs libbson-1.0)
  */

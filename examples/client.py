@@ -1,8 +1,8 @@
 #!/usr/bin/python3
-"""A client of docd in Python, with nothing but its own library and the modules in tools/client.
+"""A client of docd in Python, with nothing but Python's own library and the modules in tools/client.
 
 It keeps the orders of a small shop: it inserts some, finds those of a customer, dearest first, in batches, changes one, and
-reads a view of what each customer has spent. What was there under these names is dropped first, so it can be run again.
+reads a view of what each customer has spent. It drops `spent` and `orders` first, so it can be run again.
 
     ./docd listen --port 27017 &
     python3 examples/client.py 27017
@@ -31,7 +31,7 @@ class Stall:
         self.served = Served(port)
 
     def ask(self, *allowed, **command):
-        """The reply to a command; it is refused with no other codes than the allowed."""
+        """The reply to a command. A write error, or a refusal with a code that isn't allowed, ends the program."""
         reply = self.served.ask({**command, "$db": "stall"})
         if reply["ok"] != 1 and reply["code"] not in allowed or "writeErrors" in reply:
             sys.exit("client: %r is refused: %r" % (command, reply))

@@ -5,9 +5,10 @@ It forecasts from tools/proof_seconds.txt how long that takes. It prints which c
 is left. An interrupted build continues with the crates that it had not proved. The output of the prover is in
 crates/docd/out/build.log. A fault is printed in one line, and the exit status is then 1.
 
-Crates of which none uses another are proved side by side, each with as many processors as memory allows. The one with the
-longest chain of crates that wait for it comes first, and the others get what it leaves. (With the kit's `rt lib` each would
-wait until no other works on a crate that it uses, so the parts of `rt lib` are called here.)
+Crates of which none uses another are proved side by side, each with as many processors as memory allows, but at most half of
+them if another crate is running or the crate needs much memory. The crate with the longest chain of crates that wait for it comes
+first, and the others get what it leaves. (With the kit's `rt lib`, each would wait until no other build works on a crate that it
+uses, so the parts of `rt lib` are called here.)
 
     python3 tools/build.py            builds
     python3 tools/build.py --look     builds nothing, and ends with 0 if the program is proved from the present sources
@@ -34,17 +35,19 @@ SECONDS = HERE / "tools" / "proof_seconds.txt"
 A_CHECK = 3 << 30  # bytes of memory that one crate's check may take
 A_JOB = 7 << 28  # bytes that each processor of a check may take
 LARGE = {"dv_scripts": 9 << 29, "dv_serving": 5 << 30}  # the same of crates that take more; each gets half the processors, so that both have room
-SIDE_BY_SIDE = 3  # crates that are proved at once, since each leaves processors alone for a while
+SIDE_BY_SIDE = 3  # crates that are proved at once, since each leaves processors idle for a while
 ALL_WORK = 5 << 30  # bytes that the crates' work takes on disk
-SHARED = 1.25  # how much more processor time a check takes that several processors share
-FEWER = 2  # the share of the processors that a crate beside another one gets: each reads the libraries once more, a quarter of a small crate's work
-LESS_URGENT = 6  # by how much the priority of a crate is lower, in the system's `nice`, for each that goes before it
-A_LOOK = 0.2  # seconds from one look at the running checks to the next
-ALONE = 0.9  # how much of its processor time a crate takes at least, however many processors share it, as a first build showed
+SHARED = 1.25  # how many times as much processor time a check takes if several processors share it
+# A crate that is proved next to another one gets the processors divided by this, since each processor reads the libraries again,
+# which is a quarter of a small crate's work.
+FEWER = 2
+LESS_URGENT = 6  # by how much the priority of a crate is lower, in the system's `nice`, for each crate before it
+A_LOOK = 0.2  # seconds between two looks at the running checks
+ALONE = 0.9  # the part of its processor time that a crate takes at least, however many processors share it (seen in a first build)
 
 
 def free_memory():
-    """The bytes of memory that are free, or enough where the system doesn't tell."""
+    """The bytes of memory that are free, or enough of them if the system doesn't report them."""
     try:
         return int(re.search(r"MemAvailable: *(\d+)", pathlib.Path("/proc/meminfo").read_text())[1]) << 10
     except (OSError, TypeError):
@@ -69,7 +72,7 @@ def seconds_known():
 
 
 class Crates:
-    """The crates that docd stands on, and docd: what each uses, and what has to be done for it."""
+    """The crates that docd uses, and docd: what each uses, and the processor seconds that its proof still needs."""
 
     def __init__(self, kit):
         self.of_kit = {it.name: it for it in kit.crates_below(str(HERE))}
@@ -87,7 +90,7 @@ class Crates:
 
     @functools.cache
     def behind(self, name):
-        """The processor seconds of the longest chain of crates from this one on."""
+        """The processor seconds of the longest chain of crates that begins with this one, each using the crate before it."""
         above = [self.behind(it) for it in self.names if name in {dep.name for dep in self.of_kit[it].deps}]
         return self.seconds[name] + max(above, default=0)
 
@@ -100,13 +103,13 @@ class Crates:
 
 def start(name, jobs, log):
     """Begins to prove a crate."""
-    # (a group of its own, and no session, among which Linux would share the processors evenly)
+    # (in a process group of its own, but not in a session of its own: Linux would share the processors evenly among sessions)
     words = [sys.executable, __file__, "--crate", name, "--jobs", str(jobs)]
     return subprocess.Popen(words, stdin=subprocess.DEVNULL, stdout=log, stderr=log, preexec_fn=os.setpgrp)
 
 
 def groups_of(number):
-    """The groups of a check's processes: its own, and that into which the kit puts the prover."""
+    """The groups of a check's processes: its own, and the group into which the kit puts the prover."""
     yield number
     for thread in pathlib.Path("/proc", str(number), "task").glob("*/children"):
         with contextlib.suppress(OSError):  # one has ended meanwhile
@@ -114,7 +117,7 @@ def groups_of(number):
 
 
 def prove(kit, name, jobs):
-    """Proves one crate. The program is linked too, and run on an empty script. The caller holds the locks of all."""
+    """Proves one crate. The program is linked too, and run on an empty script. The caller holds the locks of all crates."""
     crate = next(it for it in kit.crates_below(str(HERE)) if it.name == name)
     os.chdir(crate.folder)
     os.makedirs("out", exist_ok=True)
@@ -127,8 +130,8 @@ def prove(kit, name, jobs):
 
 
 def prove_library(crate, jobs):
-    """Proves a library and keeps what it states, without the proofs, which no crate above it needs. The kit leaves such a library without
-    its stamp, since the libraries below might be built anew; here they are not, unless their sources change."""
+    """Proves a library and keeps what it states, without the proofs, which no crate above it needs. The kit writes no
+    stamp for such a library, since the libraries below might be built again; here they are not, unless their sources change."""
     stamp = crate.stamp()
     status = crate.build_rlib(["--jobs", str(jobs)], anew=True)
     if status == 0 and crate.stamp() == stamp:
@@ -158,7 +161,7 @@ class Build:
         self.left = [it for it in self.crates.names if it not in self.done]
 
     def start_ready(self):
-        """Begins the crates that stand on proved ones alone, as far as there is room, the longest chains first."""
+        """Starts the crates that use only proved ones, as far as there is room, the longest chains first."""
         ready = [it for it in self.left if self.crates.below(it) <= self.done and (it != PROGRAM or not self.running)]
         for name in sorted(ready, key=self.crates.behind, reverse=True):
             taken = sum(jobs * LARGE.get(it, A_JOB) for it, (_, _, jobs) in self.running.items())
@@ -171,16 +174,16 @@ class Build:
             self.running[name] = start(name, max(1, jobs), self.log), time.monotonic(), max(1, jobs)
 
     def favour(self):
-        """Has the processors go to the running crates in the order of what is left of their longest chains."""
+        """Gives the processors to the running crates in the order of what is left of their longest chains."""
         now = time.monotonic()
         order = sorted(self.running, key=lambda name: self.crates.behind(name) - (now - self.running[name][1]), reverse=True)
         for place, name in enumerate(order):
-            with contextlib.suppress(OSError):  # who isn't root can't take a lower priority back
+            with contextlib.suppress(OSError):  # only root can raise a priority again
                 for group in groups_of(self.running[name][0].pid):
                     os.setpriority(os.PRIO_PGRP, group, LESS_URGENT * place)
 
     def take_ended(self):
-        """Notes the crates whose proof has ended since the last look, and stops at one that failed. Whether there were any."""
+        """Notes the crates whose proof has ended, and returns whether there are any. Raises a fault if one failed."""
         ended = [it for it, (process, _, _) in self.running.items() if process.poll() is not None]
         for name in ended:
             process, since, _ = self.running.pop(name)
@@ -192,7 +195,7 @@ class Build:
         return bool(ended)
 
     def stop(self):
-        """Ends what still runs: the check of each crate, with which the kit ends the prover."""
+        """Ends the checks that still run. The kit ends the prover with its check."""
         for process, _, _ in self.running.values():
             with contextlib.suppress(ProcessLookupError):  # it has ended meanwhile
                 os.killpg(process.pid, signal.SIGTERM)  # (what a shell runs in the background ignores SIGINT)
@@ -213,7 +216,7 @@ class Build:
 
 
 def build(kit):
-    """Builds the program. Its time is that at which the build began, so that what is edited meanwhile is newer."""
+    """Builds the program. The file gets the time at which the build began, so that what is edited meanwhile is newer."""
     since, begun = time.time(), time.monotonic()
     LOG.parent.mkdir(exist_ok=True)
     with alone(LOG.parent / "lock"):
@@ -225,7 +228,7 @@ def build(kit):
 
 
 def is_proved(kit):
-    """Whether the program was built from the very sources that are here now. It is then newer than they are."""
+    """Whether the program was built from exactly the present sources. If so, its file is made newer than they are."""
     since, crate = time.time(), docd_of(kit)
     program = LOG.parent / PROGRAM
     if not all(it.is_built() for it in crate.below()) or kit.text_of(str(program) + ".stamp") != crate.stamp() + kit.sum_of(str(program)):

@@ -1,13 +1,13 @@
 #!/usr/bin/python3
-"""The gate: `rt ci`, and after it what is tried on the program that it built, without a proof.
+"""The gate: `rt ci`, and then the checks of the program that it built, which need no proof.
 
 `rt ci` proves each crate from nothing, tries the edits that must be refused, and runs the tests and the program. Then the parts
-below run, as many side by side as there are processors. Each has to end well, and to say that it looked at no less than is
-known of it: one that crashes, says nothing or looks at nothing has failed. A part that fails is named with the first lines that it
-printed, and its log is kept. The last line counts what passed, `rt ci`'s first number and the parts, and what failed. An
-interruption ends all that runs.
+below run, as many side by side as there are processors. Each has to end with status 0, and to report that it checked no less than
+it is known to check: a part that crashes, reports nothing or checks nothing has failed. A part that fails is named with the first
+lines that it printed, and its log is kept. The last line counts what passed (the first number of `rt ci`, and the parts) and what
+failed. An interruption ends everything that runs.
 
-Needs the kit and Python alone.
+Needs only the kit and Python.
 
     tools/check.py                                           the gate
     tools/check.py --program PROGRAM [--parts WORD,WORD]     only the parts, or some of them, on a program: not the gate
@@ -33,8 +33,8 @@ COUNTS = re.compile(r"(\d+) passed, (\d+) failed")
 A_PART = 3_600  # seconds that a part may take
 FIRST_LINES = 20  # of what a part that failed has printed
 
-# What is tried: its name, the tool's words, what its output says where nothing is wrong, and how many it has looked at then
-# at least; whether it runs the program.
+# A part: its name; the tool and its arguments; what its output says if nothing is wrong; how many it has then checked at least;
+# and whether it runs the program.
 Part = namedtuple("Part", "name words says least runs", defaults=[True])
 
 RIGHT = r"(\d+) right, 0 wrong"
@@ -42,7 +42,7 @@ REFUSED = r"(\d+) requests refused, 0 wrong"
 COMPARED = r"(\d+) scripts \(seed \d+\) with \d+ messages, and 0 at the limits: no difference"
 AT_LIMITS = r"0 scripts \(seed \d+\) with 0 messages, and (\d+) at the limits: no difference"
 
-# Those that take longest come first.
+# The parts that take longest come first.
 PARTS = [
     Part("worked examples cut after each byte, and with each byte replaced", ["each_byte.py"], r"(\d+) runs, 0 wrong", 80_000),
     *[Part("random scripts compared with the model, from number %d" % start,
@@ -73,8 +73,8 @@ def say(text):
 
 
 def proved():
-    """Runs `rt ci`, and hands on what it prints. How many passed and failed by its last line, one failing at least where it ended
-    badly."""
+    """Runs `rt ci`, and passes on what it prints. Returns how many passed and failed by its last line, and that at least one failed
+    if it ended badly."""
     last = ""
     if not shutil.which("rt"):
         say("the command `rt` is not found: put the folder bin of the Rattle kit on the PATH")
@@ -96,13 +96,13 @@ class Tools:
         self.running, self.lock, self.is_over = set(), threading.Lock(), False
 
     def ended(self, words, said):
-        """Runs a tool to its end: its exit status, and the seconds of a processor that it took with what it ran. What it leaves running
-        is ended."""
+        """Runs a tool to its end, and ends what it leaves running. Returns its exit status, and the processor seconds that it took
+        with what it ran."""
         tool = subprocess.Popen(words, cwd=ROOT, stdin=subprocess.DEVNULL, stdout=said, stderr=subprocess.STDOUT, start_new_session=True)
         self.running.add(tool.pid)
         clock = threading.Timer(A_PART, self.end, [tool.pid])
         clock.start()
-        # (The number of its group is its own until it is waited for.)
+        # (No other group gets the number of its group until it is waited for.)
         os.waitid(os.P_PID, tool.pid, os.WEXITED | os.WNOWAIT)
         clock.cancel()
         self.end(tool.pid)
@@ -149,8 +149,8 @@ def is_well(part, program, log, tools):
 
 
 def tried_parts(made, parts):
-    """Whether each part is well, tried on a copy of the program that was made, as many side by side as there are processors. The
-    logs stay where one isn't. An interruption ends all that runs."""
+    """Tries the parts on a copy of the program, as many side by side as there are processors. Returns whether each part passed. The
+    logs are kept if one didn't. An interruption ends everything that runs."""
     folder = tempfile.mkdtemp(prefix="lofgrim-check-")
     program = os.path.join(folder, "docd")
     shutil.copyfile(made, program)
@@ -175,7 +175,7 @@ def tried_parts(made, parts):
 
 
 def counted(program, tools):
-    """Runs `rt ci`, where no program is given, and then the parts of these tools. How many passed and failed."""
+    """Runs `rt ci`, if no program is given, and then the parts of these tools. Returns how many passed and failed."""
     passed, failed = (0, 0) if program else proved()
     made = program or PROVED
     if not failed and not os.path.exists(made):

@@ -1,10 +1,10 @@
-"""The Rattle kit: whether it is installed and the one that the file KIT names, and its parts, which this repository's tools call.
+"""The Rattle kit: whether the kit that the file KIT names is installed, and its parts, which this repository's tools call.
 
-The kit's command `rt` is a Python program, which these tools load as a module. Nothing in it is changed. Of `rtlib`, which it
-brings, they call `crates_below`, `kit_sources`, `lock`, `guarded`, `text_of` and `sum_of`, and of a crate `below`, `is_built`,
-`has_kept`, `stamp`, `sources_below`, `build_rlib` and `run`. They read `KIT` and a crate's `name`, `folder`, `rlib`, `deps` and `of_kit`,
-set its `held` and the class's `cuts_libraries`, and write the file `stamp` beside a library. tools/check/planted.py calls the engine
-of `rt must-fail` too: `checked`, `unread` and `must_fail`.
+The kit's command `rt` is a Python program, which these tools load as a module. Nothing in it is changed. Of its module `rtlib`,
+they call `crates_below`, `kit_sources`, `lock`, `guarded`, `text_of` and `sum_of`, and of a crate `below`, `is_built`, `has_kept`,
+`stamp`, `sources_below`, `build_rlib` and `run`. They read `KIT` and a crate's `name`, `folder`, `rlib`, `deps` and `of_kit`, set
+its `held` and the class's `cuts_libraries`, and write the file `stamp` next to a library. tools/check/planted.py also calls the
+engine of `rt must-fail`: `checked`, `unread` and `must_fail`.
 """
 import importlib.machinery
 import importlib.util
@@ -25,12 +25,12 @@ class Fault(Exception):
 
 
 def tell(text):
-    """Writes a line of docd's to standard error."""
+    """Writes a line to standard error, which begins with `docd: `."""
     print("docd: " + text, file=sys.stderr, flush=True)
 
 
 def part(name):
-    """A part of the kit as a module: `rt` itself, whose `rtlib` has the crates; None where there is no command `rt`."""
+    """A part of the kit as a module: `rt` itself, whose `rtlib` has the crates; None if there is no command `rt`."""
     found = shutil.which("rt")
     if not found:
         return None
@@ -44,7 +44,7 @@ def part(name):
 
 
 def wanted_kit():
-    """The kit's part `rtlib`, where the installed kit has the logic that KIT names: kits of one logic prove the same."""
+    """The kit's part `rtlib`, if the installed kit has the logic that KIT names: kits of one logic prove the same."""
     wanted = WANTED.read_text().strip()
     if not shutil.which("rt"):
         raise Fault("the command `rt` is not found: put the folder bin of the Rattle kit (%s) on the PATH" % wanted)

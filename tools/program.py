@@ -1,4 +1,4 @@
-"""Where the repository is, the built program, which the tools run, and what the tools' words name."""
+"""Where the repository is, the built program, which the tools run, and what the tools' arguments name."""
 import glob
 import os
 import sys
@@ -8,11 +8,11 @@ OUT = os.path.join(ROOT, "crates", "docd", "out")
 PROVED, UNPROVED = os.path.join(OUT, "docd"), os.path.join(OUT, "unproved", "docd")
 SOURCES = [os.path.join(ROOT, one) for one in ("KIT", "crates.txt", "crates/*/src", "crates/*/specs", "crates/*/proofs")]
 COMPILER = os.path.join(ROOT, "tools", "unproved.py")  # of the program without a proof
-TESTS = "tests", "tests.rt"  # which the program has nothing of
+TESTS = "tests", "tests.rt"  # which the program is not built from
 
 
 def sources():
-    """The files and folders that the program is built from. (A folder is newer where a file was added or removed.)"""
+    """The files and folders that the program is built from. (A folder is newer if a file was added or removed.)"""
     for top in sum(map(glob.glob, SOURCES), []):
         yield top
         for folder, folders, files in os.walk(top):
@@ -23,12 +23,12 @@ def sources():
 def is_newer(path, nanoseconds):
     try:
         return os.lstat(path).st_mtime_ns > nanoseconds
-    except OSError:  # it has gone meanwhile
+    except OSError:  # it was removed meanwhile
         return False
 
 
 def is_current(program, *others):
-    """Whether a program is built, and no source is newer, as ./docd finds it out; some others may count as sources."""
+    """Whether a program is built, and no source is newer, as ./docd checks it. Other files may count as sources too."""
     if not os.access(program, os.X_OK):
         return False
     since = os.stat(program).st_mtime_ns
@@ -36,22 +36,22 @@ def is_current(program, *others):
 
 
 def built():
-    """The program that ./docd runs: the proved one, or the one without a proof where a source is newer; None where one is newer than
-    both."""
+    """The program that ./docd runs: the proved one, or the one without a proof if a source is newer than the proved one; None if a
+    source is newer than both."""
     if is_current(PROVED):
         return PROVED
     return UNPROVED if is_current(UNPROVED, COMPILER) else None
 
 
 def program_at(path, who):
-    """The whole path of a program that the words name. Stops where there is none."""
+    """The absolute path of a program that the arguments name. Ends the tool if there is none."""
     if not (os.path.isfile(path) and os.access(path, os.X_OK)):
         sys.exit("%s: there is no program %s" % (who, path))
     return os.path.abspath(path)
 
 
 def parsed(options, who):
-    """What the words of a tool give, the whole path of the program among it. Stops where there is none."""
+    """The arguments of a tool, with the absolute path of the program among them. Ends the tool if there is none."""
     options.add_argument("--program", metavar="FILE", help="the program; without this, the one that ./docd runs")
     given = options.parse_args()
     given.program = program_at(given.program, who) if given.program is not None else built()
@@ -61,7 +61,7 @@ def parsed(options, who):
 
 
 def named(who, words, names):
-    """The names that have one of the words in them, which are joined by commas. Stops at a word that none has."""
+    """The names that contain one of the words, which are joined by commas. Ends the tool at a word that no name contains."""
     words = words.split(",")
     for word in words:
         if not any(word in name for name in names):

@@ -1,5 +1,5 @@
-/* Counts the requests for memory of a program that it is loaded into before it, and prints the count as the program ends: what
- * bench/turns.py tells of allocations.
+/* Counts the requests for memory of the program that it is loaded into, and prints the count when the program ends. bench/turns.py
+ * reports it as allocations.
  *
  *     cc -O2 -shared -fPIC -o calls.so bench/turns/calls.c
  *     LD_PRELOAD=./calls.so PROGRAM

@@ -1,9 +1,9 @@
 #!/usr/bin/python3
 """Tests `docd listen` with connections that come in crowds, break off, stop reading or hold back: the others must still be served.
 
-Needs the built program (./docd run < /dev/null), Linux, and Python alone. Each case below has a docd of its own and says what
-has to hold: what each connection is answered, byte for byte, how it ends, and what the program takes meanwhile. What doesn't
-hold is printed, and the exit status is 1.
+Needs the built program (./docd run < /dev/null), Linux, and Python without packages. Each case has a docd of its own, and checks
+what each connection is answered, byte for byte, how it ends, and how much memory and processor time docd takes meanwhile. What is
+wrong is printed, and then the exit status is 1.
 
     python3 tools/check/broken_connections.py
     python3 tools/check/broken_connections.py --cases "crowd,resets" --program crates/docd/out/docd
@@ -25,13 +25,13 @@ from listening import Listening, let_open_many
 from program import named, parsed
 
 PLACES = 1_000  # connections at a time
-A_WHILE = 0.5  # seconds in which nothing has to happen
-IDLE = 0.05  # seconds of processor time that are none
-SHARE, ALL_UNFINISHED = 262_144, 268_435_456  # bytes of unfinished messages
+A_WHILE = 0.5  # seconds in which nothing may happen
+IDLE = 0.05  # seconds of processor time: below this docd counts as idle
+ALL_UNFINISHED = 268_435_456  # bytes of unfinished messages of all connections
 
 
 class Case:
-    """A docd, and what is told of it."""
+    """A docd, and how the checks of it are reported."""
 
     def __init__(self, program, name, tell, *words, **how):
         self.docd, self.name, self.told = Listening(program, *words, **how), name, tell
@@ -46,20 +46,20 @@ class Case:
         return [self.connection() for _ in range(count)]
 
     def serves(self, text):
-        """Others have to be served."""
+        """Checks that another connection is served, and returns that connection."""
         one = self.connection()
         self.tell(one.is_answered(ping(3), pong(3)), "another connection isn't served " + text)
         return one
 
     def is_idle(self, text):
-        """It takes no processor time for a while."""
+        """Checks that docd takes no processor time for a while."""
         taken = self.docd.seconds()
         time.sleep(A_WHILE)
         taken = self.docd.seconds() - taken
         self.tell(taken < IDLE, "%.3f s of processor time %s" % (taken, text))
 
     def ended(self, *wanted):
-        """So the connections have to have ended, in the order in which they came."""
+        """Checks how the connections ended, in the order in which they arrived."""
         fates = self.docd.fates_of(len(wanted))
         self.tell(fates == list(wanted), "they end by %s, and not by %s" % (counted(fates), counted(wanted)))
 
@@ -69,12 +69,12 @@ class Case:
 
 
 def counted(fates):
-    """The fates in their order, each with how often it comes in turn."""
+    """The fates as text, in order; equal neighbours are counted together."""
     return ", ".join("%d %s" % (len(list(some)), fate) for fate, some in itertools.groupby(fates))
 
 
 def readable(connections, seconds):
-    """How many of the connections have something to be read, behind so many seconds at most."""
+    """How many of the connections have something to read. Waits until all have, but at most this many seconds."""
     poll = select.poll()
     for one in connections:
         poll.register(one.socket, select.POLLIN)
@@ -85,7 +85,7 @@ def readable(connections, seconds):
 
 
 def crowd(program, tell):
-    """1,300 at once: the first thousand are answered, and of the others each that finds a place, in their order."""
+    """1,300 at once: the first thousand are answered, and the others in order, each when a place is free."""
     case = Case(program, "crowd", tell)
     all_of_them = case.connections(1_300)
     for one in all_of_them:
@@ -110,8 +110,8 @@ def crowd(program, tell):
 
 
 def few_descriptors(program, tell):
-    """64 descriptors and 200 connections: those that find none wait until one is free, without work, and for each there is one in
-    the end."""
+    """64 descriptors and 200 connections: connections without a descriptor wait until one is free, docd takes no processor time
+    meanwhile, and in the end each connection is served."""
     case = Case(program, "few_descriptors", tell, preexec_fn=lambda: resource.setrlimit(resource.RLIMIT_NOFILE, (64, 64)))
     waiting, rounds = case.connections(200), 0
     for one in waiting:
@@ -132,7 +132,7 @@ def few_descriptors(program, tell):
 
 
 def resets(program, tell):
-    """Resets within a message and within a reply: what was whole is carried out, what wasn't isn't, and nothing is left of it."""
+    """Resets within a message and within a reply: whole messages are carried out, others are not, and no memory stays in use."""
     case = Case(program, "resets", tell)
     one = case.serves("at first")
     case.tell(one.is_answered(insert(-1, 10 * MEGABYTE), INSERTED), "an insert isn't answered")
@@ -159,9 +159,9 @@ def resets(program, tell):
 
 
 def half_closed(program, tell):
-    """Who has finished sending gets all answers; who doesn't receive any more is heard to the end."""
+    """A client that has finished sending gets all answers. If a client no longer receives, all its commands are carried out."""
     case = Case(program, "half_closed", tell)
-    for count in 1, 1_000, 4_000:  # 4,000 are more than docd takes at once
+    for count in 1, 1_000, 4_000:  # 4,000 are more than docd reads at once
         one = case.connection()
         one.send(b"".join(map(ping, range(count))))
         one.finish_sending()
@@ -190,8 +190,8 @@ def half_closed(program, tell):
 
 
 def unread(program, tell):
-    """Ten that ask for 2 GB and don't read: each makes docd hold one reply, others are served, and the answers come when they are
-    read."""
+    """Ten connections ask for 2 GB in all and don't read: docd holds one reply for each, others are served, and the rest of the
+    answers is sent once it is read."""
     case = Case(program, "unread", tell)
     first = case.serves("at first")
     first.is_answered(insert(1, MEGABYTE), INSERTED)
@@ -221,7 +221,7 @@ def unread(program, tell):
 
 
 def bytewise(program, tell):
-    """Twenty at a time send their messages byte by byte, in turn."""
+    """Twenty connections at once send their messages byte by byte, in turn."""
     case = Case(program, "bytewise", tell)
     all_of_them = case.connections(20)
     for place in range(0, len(ping(5) + ping(6))):
@@ -244,7 +244,7 @@ FAULTS = {
 
 
 def faults(program, tell):
-    """Each fault that closes: what was asked before is answered, what comes behind isn't, and the others are served."""
+    """Each closing fault from 1 to 5: what was asked before it is answered, what follows it is not, and others are served."""
     case = Case(program, "faults", tell)
     for fault, data in FAULTS.items():
         one = case.connection()
@@ -263,8 +263,8 @@ def faults(program, tell):
 
 
 def unfinished(program, tell):
-    """Seven bring 48 MB each but for the last byte: those that come to more than all may have are closed, and the others' messages
-    are carried out."""
+    """Seven connections send 48 MB each, except the last byte: those that make the unfinished messages exceed the limit for all are
+    closed, and the others' messages are carried out."""
     case = Case(program, "unfinished", tell)
     small = case.connection()
     small.send(ping()[:-1])
@@ -290,7 +290,7 @@ def unfinished(program, tell):
 
 
 def the_port(program, tell):
-    """A port that is taken is refused, and is free when docd has ended; with a number of connections it ends behind them."""
+    """A port in use is refused, and is free when docd has ended. With a number of connections, docd ends after them."""
     case = Case(program, "the_port", tell, "--connections", "3")
     words = [program, "listen", "--port", str(case.docd.port), "--connections", "0"]
     second = subprocess.run(words, capture_output=True, text=True, timeout=PATIENCE)
@@ -312,7 +312,7 @@ CASES = {one.__name__: one for one in [crowd, few_descriptors, resets, half_clos
 
 def main():
     options = argparse.ArgumentParser(description=__doc__, formatter_class=argparse.RawDescriptionHelpFormatter)
-    options.add_argument("--cases", default="", help="words, joined by commas, of which the names of the cases have one")
+    options.add_argument("--cases", default="", help="words, joined by commas: run the cases whose name has one of them")
     given = parsed(options, "broken_connections")
     let_open_many()
     cases = named("broken_connections", given.cases, CASES)

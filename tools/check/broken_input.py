@@ -1,21 +1,21 @@
 #!/usr/bin/python3
 """Sends broken messages to docd in each of its four ways to run, and prints the first reply that isn't the model's.
 
-Needs the built program (./docd run < /dev/null). Right messages of all commands (`tools/check/random_scripts.py`) have bytes changed,
-cut, repeated, swapped and put in; lengths, flags, operation codes, kinds of sections, types, names and texts made wrong;
-and pieces of one message put behind another. What surrounds a change has its lengths mended in most cases, so that the
-fault lies deep. What they write to is under live views, one of each stage. They are sent to
+Needs the built program (./docd run < /dev/null). Right messages of all commands (`tools/check/random_scripts.py`) are broken: bytes
+are changed, cut, repeated, swapped and inserted; lengths, flags, operation codes, kinds of sections, types, names and texts are
+made wrong; and a piece of one message is put before or after another. In most cases the lengths around a change are corrected, so
+that the fault lies deep. The collections are under live views, one of each stage. The messages are sent to
 
 - `docd run`, one session a run;
 - `docd run --hex`, several sessions side by side, cut anywhere;
 - `docd serve` and `docd listen`, many connections one after the other.
 
-In the end each view is read, and its pipeline is run as an aggregate, in a session of its own where there may be one: both
-have to give the model's rows, which are the same.
+In the end each view is read, and its pipeline is run as an aggregate, in a session of their own except with `docd run`. Both have
+to return the model's rows, which are the same.
 
-What is answered, the closings, the counts at an end, the exit status and standard error's text must be those of the model
-of `tools/check/machine.py`. The first input that docd answers in another way is cut down and printed with both answers, and the
-exit status is 1. So it is where docd doesn't end within the seconds that an input has.
+The replies, the closings, the counts at the end of sessions, the exit status and standard error must be those of the model of
+`tools/check/machine.py`. The first input that docd answers differently is cut down and printed with both answers, and the exit
+status is 1. The exit status is also 1 if docd doesn't end within 60 seconds for an input.
 
     python3 tools/check/broken_input.py
     python3 tools/check/broken_input.py --seed 7 --count 100000 --way served --program crates/docd/out/docd
@@ -40,15 +40,15 @@ A_RUN = 60  # seconds that docd may take for one input
 MOST_TRIES = 1_500  # runs of docd that cutting an input down may take
 LONGEST_CUT = 20_000  # bytes of a piece that is cut down byte by byte
 
-# Bytes of a session, or its end, where they are None.
+# Bytes that a session sends, or its end if they are None.
 Piece = namedtuple("Piece", "session data")
 
 REFUSED_BYTES = b"InvalidBSON: ".hex().encode()
 
 
 def pieces_of(rng, sessions, last):
-    """The pieces of some sessions' messages, many of them broken, behind those that make views; and, for a last session, of
-    those that ask for each view's rows."""
+    """The pieces of each session's messages, many of them broken; those of the first session begin with messages that make views.
+    And the pieces of a last session's messages, which ask for each view's rows."""
     maker, breaker, made = Maker(rng), Breaker(rng), []
     begin = [maker.first(), maker.first(b"d")]
     views = maker.views_of_each_stage()
@@ -65,8 +65,8 @@ def pieces_of(rng, sessions, last):
 
 
 class Way:
-    """A way to bring sessions to docd. Inputs are pieces of sessions; outcomes are the exit status, what standard error and
-    standard output have, and what each connection is answered."""
+    """A way to send sessions to docd. An input is a list of pieces. An outcome is the exit status, standard error, standard output,
+    and what each connection is answered."""
 
     def __init__(self, program):
         self.program, self.tries = program, 0
@@ -84,7 +84,7 @@ class Way:
 
 
 class Run(Way):
-    """One session, of standard input's bytes."""
+    """One session, whose bytes are standard input."""
 
     def input(self, rng):
         (messages,), shown = pieces_of(rng, [b"0"], b"0")
@@ -162,7 +162,7 @@ class Serve(Way):
 
 
 class Listen(Serve):
-    """The same where many may come at once."""
+    """The same with `docd listen`, which serves many connections at once."""
 
     word = "listen"
 
@@ -193,8 +193,8 @@ def recut(rng, messages):
 
 
 def answered(port, pieces):
-    """What a connection is answered to these bytes. One that docd closes before it has read them all is reset, and then
-    what it was answered first has come."""
+    """What a connection is answered to these bytes. If docd closes the connection before it has read them all, the connection is
+    reset, and the answers that were sent before have arrived."""
     got = []
     with socket.create_connection(("127.0.0.1", port), timeout=A_RUN) as connection:
         try:
@@ -212,7 +212,7 @@ def answered(port, pieces):
 
 
 def smaller(way, pieces):
-    """A small input that is answered in two ways."""
+    """A smaller input that docd and the model answer differently."""
     pieces = fewer(pieces, way.differs)
     for place, (session, data) in enumerate(pieces):
         if data and len(data) <= LONGEST_CUT:
@@ -222,7 +222,7 @@ def smaller(way, pieces):
 
 
 def tell(way, pieces):
-    """Prints an input that is answered in two ways, and both answers."""
+    """Prints an input that docd and the model answer differently, and both answers."""
     for session, data in pieces:
         line = session + (b" end" if data is None else b" " + data.hex().encode())
         print(line.decode()[:6_000])
@@ -237,7 +237,7 @@ def tell(way, pieces):
 
 
 def compare(way, name, seed, wanted):
-    """Sends inputs until so many messages are answered; what was seen of them, None where an answer is another."""
+    """Sends inputs until this many messages are answered. Returns counts of what was seen, or None if an answer differs."""
     seen, place = Counter(), 0
     while seen["messages answered"] < wanted:
         pieces = way.input(random.Random("%d/%s/%d" % (seed, name, place)))

@@ -1,9 +1,9 @@
 #!/usr/bin/python3
-"""Writes crates/dv_tests_values/src/bson/vectors.rt: the bytes that another library writes for documents, and
-what these documents are. A test there compares them with those that dv_bson writes.
+"""Prints crates/dv_tests_values/src/bson/vectors.rt: the bytes that another library writes for documents, and
+what these documents are. A test in that crate compares the bytes with those that dv_bson writes.
 
 The bytes come from the BSON library of Debian's package python3-bson (`apt-get install python3-bson`, run with
-/usr/bin/python3), the text beside them from the values that it was given: plain numbers are int32, L marks int64.
+/usr/bin/python3). The text next to them shows the values that it was given: plain numbers are int32, L marks int64.
 
     /usr/bin/python3 tools/check/bson_vectors.py > crates/dv_tests_values/src/bson/vectors.rt
 """
@@ -110,7 +110,7 @@ def shown(value):
     if isinstance(value, ObjectId):
         return "id x%s" % value
     if isinstance(value, Binary):
-        # The old subtype 2 has a count of its own in front of its bytes.
+        # The old subtype 2 has a length of its own before its bytes.
         own = struct.pack("<i", len(value)) + value if value.subtype == 2 else value
         return "binary %d x%s" % (value.subtype, own.hex())
     if isinstance(value, bytes):
@@ -127,7 +127,7 @@ def shown(value):
 
 
 def escaped(data):
-    """A literal's text: letters stand for themselves, other bytes as escapes."""
+    """A literal's text: plain characters as they are, other bytes as escapes."""
     return "".join(chr(b) if 32 <= b < 127 and chr(b) not in '"\\' else "\\x%02x" % b for b in data)
 
 

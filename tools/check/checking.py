@@ -1,9 +1,9 @@
-"""What scripts share that check something against rows written by hand."""
+"""Shared by scripts that check something, and count what is right and wrong."""
 
 
 def status_of(who, *checks):
-    """Runs the checks, each of which is given a function that it tells whether something is right, and what it is. What is
-    wrong is printed, and how many are right and wrong; gives the exit status, which is 1 too where nothing was looked at."""
+    """Runs the checks, prints what is wrong, and how many are right and wrong, and returns the exit status, which is also 1 if
+    nothing was checked. Each check is given a function that it calls with whether something is right, and with what it is."""
     right, wrong = [], []
 
     def tell(is_right, text):

@@ -3,11 +3,11 @@
 
 Needs the built program (./docd run < /dev/null). The same seed makes the same scripts (`tools/check/random_scripts.py`). They have
 the commands that docd has, good ones and ones with every kind of fault, in sessions that end and open again, in messages
-cut anywhere into lines; a few scripts at the limits of sizes and counts come last. In so many of a hundred scripts as `--broken`
-says, half the messages have broken bytes (`tools/check/making/breaking.py`). The first script that docd answers in another way
-than the model is cut down and printed with both answers, and the exit status is 1. How far it is stands on standard error; the
-model takes some 0.1 seconds for a script. A few in ten thousand have towers of views
-that each join the one below with itself: those for which the model takes over a minute of processor time are passed over, and counted apart.
+cut anywhere into lines; a few scripts at the limits of sizes and counts come last. In as many of a hundred scripts as `--broken`
+says, half the messages have broken bytes (`tools/check/making/breaking.py`). The first script that docd answers differently from
+the model is cut down and printed with both answers, and the exit status is 1. Progress is printed on standard error; the model
+takes some 0.1 seconds for a script. A few in ten thousand have towers of views that each join the one below with itself: those for
+which the model takes over a minute of processor time are skipped, and counted separately.
 
     python3 tools/check/compare.py
     python3 tools/check/compare.py --seed 7 --count 10000 --broken 33 --program crates/docd/out/docd
@@ -33,7 +33,7 @@ from random_scripts import Maker
 A_RUN = 600  # seconds that docd may take for a script
 NO_END = "no end within %d seconds" % A_RUN
 MOST_TRIES = 3_000  # runs of docd that cutting a script down may take
-A_LOOK = 500  # scripts from one line of how far it is to the next
+A_LOOK = 500  # scripts from one line of progress to the next
 MOST_SECONDS = 60  # of processor time that a script may take to be made and to be answered by the model
 
 
@@ -46,7 +46,7 @@ def stop(*_):
 
 
 def answer(program, lines):
-    """What docd prints for these lines: the status, and both outputs. Where it doesn't end in time, that stands for the status."""
+    """How docd answers these lines: the exit status, and both outputs. If docd doesn't end in time, the status is NO_END."""
     try:
         done = subprocess.run([program, "run", "--hex"], input=b"\n".join([*lines, b""]), capture_output=True, timeout=A_RUN)
     except subprocess.TimeoutExpired:
@@ -61,8 +61,8 @@ def wanted_answer(lines):
 
 
 def random_script(seed, place, breaks):
-    """A script's lines, lines that bring the same messages each in one, how many messages there are, and what the model answers;
-    None where that takes too long."""
+    """A script's lines; lines with the same messages, one message in each; how many random messages there are; and what the model
+    answers. None if that takes too long."""
     signal.setitimer(signal.ITIMER_PROF, MOST_SECONDS)
     try:
         maker = Maker(random.Random("%d/%d" % (seed, place)), breaks)
@@ -75,7 +75,7 @@ def random_script(seed, place, breaks):
 
 
 class Cutting:
-    """Finds a smaller script that docd and the model answer in two ways."""
+    """Finds a smaller script that docd and the model answer differently."""
 
     def __init__(self, program):
         self.program, self.tries = program, 0
@@ -87,7 +87,7 @@ class Cutting:
         return answer(self.program, lines) != wanted_answer(lines)
 
     def cut(self, cut, plain):
-        """A small script, made of either of these, which bring the same messages."""
+        """A smaller script, made from one of these two, which have the same messages."""
         lines = fewer(plain if self.is_bad(plain) else cut, self.is_bad)
         for place, line in enumerate(lines):
             front, fields = message_of(line)
@@ -97,7 +97,7 @@ class Cutting:
         return lines
 
     def cut_fields(self, fields, is_bad):
-        """A document's fields, as few as are bad still, each cut down itself."""
+        """As few of a document's fields as are still bad, each of them cut down too."""
         fields = fewer(fields, is_bad)
         for at, (name, value) in enumerate(fields):
             fields[at] = name, self.cut_value(value, lambda new: is_bad(fields[:at] + [(name, new)] + fields[at + 1:]))
@@ -116,7 +116,7 @@ class Cutting:
 
 
 def fewer(items, is_bad):
-    """Fewer of the items, which are bad still."""
+    """Fewer of the items, which are still bad."""
     items, size = list(items), len(items)
     while size:
         start = 0
@@ -131,7 +131,7 @@ def fewer(items, is_bad):
 
 
 def message_of(line):
-    """A line's session with its message's header, and the message's fields; these are None where there are none."""
+    """A line's session with its message's header, and the message's fields, which are None if none can be read."""
     session, _, digits = line.partition(b" ")
     try:
         data = bytes.fromhex(digits.decode())
@@ -146,13 +146,13 @@ def line_of(front, fields):
 
 
 def readable(line):
-    """A line's message or reply as text, where it is one."""
+    """A line's message or reply as text; empty if the line has none."""
     front, fields = message_of(line)
     return "" if fields is None else " " * 8 + shown((DOCUMENT, fields))[:4_000]
 
 
 def tell(program, lines):
-    """Prints a script that docd and the model answer in two ways, and both answers."""
+    """Prints a script that docd and the model answer differently, and both answers."""
     for line in lines:
         print(line.decode(errors="replace") if len(line) < 4_000 else "%s.. (%d bytes)" % (line[:200].decode(), len(line)))
         print(readable(line))
@@ -164,8 +164,8 @@ def tell(program, lines):
 
 
 def is_right(program, name, lines, wanted, plain=None):
-    """Whether docd answers a script as it should. What it answers otherwise is printed: of a smaller script, where plain lines bring the
-    same messages, which can be cut down."""
+    """Whether docd answers a script as it should. If not, the difference is printed: that of a smaller script if there are plain
+    lines with the same messages, which can be cut down."""
     said = answer(program, lines)
     if said == wanted:
         return True
@@ -178,7 +178,7 @@ def is_right(program, name, lines, wanted, plain=None):
 
 
 def count_replies(output, seen):
-    """Counts what the replies tell: documents found, documents written, codes."""
+    """Counts what the replies say: documents found, documents written, codes."""
     for line in output.splitlines():
         _, fields = message_of(line)
         reply = dict(fields or [])
@@ -205,7 +205,7 @@ def main():
     options = argparse.ArgumentParser(description=__doc__, formatter_class=argparse.RawDescriptionHelpFormatter)
     options.add_argument("--seed", type=int, default=1)
     options.add_argument("--count", type=int, default=2_000, help="how many random scripts")
-    options.add_argument("--start", type=int, default=0, help="the first one's number")
+    options.add_argument("--start", type=int, default=0, help="the number of the first script")
     options.add_argument("--broken", type=int, default=0, help="how many scripts of a hundred have broken messages")
     options.add_argument("--without-limits", action="store_true", help="leave out the scripts at the limits")
     given = parsed(options, "compare")

@@ -1,4 +1,4 @@
-"""What broken_connections.py sends, and a client's end of a connection, which sends and takes bytes as it likes."""
+"""What broken_connections.py sends, and a client's end of a connection, which sends and receives any bytes."""
 import socket
 import struct
 
@@ -27,7 +27,7 @@ def pong(request=1):
 
 
 def large_ping():
-    """One of nearly as many bytes as a message may have, in a list of documents."""
+    """A ping of nearly as many bytes as a message may have, most of them in a list of documents."""
     one = spelled([(b"t", text(b"x" * MEGABYTE))])
     body = spelled([(b"ping", number(1)), (b"$db", text(b"t"))])
     return joined([section(None, [body]), section(b"list", [one] * (LARGEST // len(one) - 1))], 1, 0)
@@ -55,7 +55,7 @@ class Connection:
         self.socket.sendall(data)
 
     def taken(self, count):
-        """So many bytes, or those in front of the end."""
+        """The next `count` bytes, or fewer if the end comes before."""
         data = b""
         while len(data) < count and (piece := self.socket.recv(min(count - len(data), MEGABYTE))):
             data += piece
@@ -67,7 +67,7 @@ class Connection:
         return head and head + self.taken(int.from_bytes(head, "little") - 4)
 
     def is_at_end(self):
-        """Whether it is closed at the other end too, and soon."""
+        """Whether the other end is closed, or is closed soon."""
         self.socket.settimeout(SOON)
         try:
             return self.socket.recv(1) == b""

@@ -1,11 +1,11 @@
-"""What trust.py and figures.py share: reads the contracts of crates/*/src, the clauses of public functions and laws,
-the ghost members of public traits and of what implements them, and what the values of public types are in clauses (`Value` and
+"""Shared by trust.py and figures.py: reads the contracts of crates/*/src. These are the clauses of public functions and laws,
+the ghost members of public traits and of their implementations, and what the values of public types are in clauses (`Value` and
 `view` of a `Model`)."""
 import pathlib
 import re
 from collections import namedtuple
 
-# A clause: where it stands, and its text with the `ghost use` lines that it is read under.
+# A clause: its file, the name of its function or member, its text, and the `ghost use` lines that apply to it.
 Clause = namedtuple("Clause", "file what text imports")
 
 BLOCK = re.compile(r"^(?P<pub>pub )?(?P<kind>impl|trait)\b(?P<head>[^{]*)\{", re.M)
@@ -40,7 +40,7 @@ def plain(text):
 
 
 def clauses_behind(text, at):
-    """The clauses of the function whose head begins at a place."""
+    """The clauses of the function whose name ends at a place."""
     found, start = [], at
     while True:
         place = next((it for it in range(start, len(text)) if text[it] in "([{;"), len(text))

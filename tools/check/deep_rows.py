@@ -2,16 +2,17 @@
 """Sends rows about as deep as rows can be through each stage, with two megabytes of stack.
 
 A stored document has at most 100 levels, and a stage wraps a value in at most 96 documents. But each of a pipeline's 16 stages
-may wrap it again, a view may stand on seven others, and an aggregate on the highest. What goes down such a row by calls takes
-stack for each of its levels, and a program whose stack ends is killed. Here rows of some 14,000 levels are matched, projected,
-unwound, sorted, grouped, looked up, compared by a view that is kept, refused as a reply, and dropped: each by a docd of its own,
-which has to answer what is told here, and to end well. A case that doesn't is printed, and then the exit status is 1. Over fewer views
-the rows are less deep, in less stack: as much for a level, and a run takes a fraction of the time.
+may wrap it again, a view may be over seven others, and an aggregate over the highest. Code that goes down such a row by recursive
+calls takes stack for each of its levels, and a program that runs out of stack is killed. Here rows of up to some 13,800 levels are
+matched, projected, unwound, sorted, grouped, looked up, compared by a live view, refused as a reply, and dropped. Each case has a
+docd of its own, which has to give the answers that are written here, and to end with status 0. A case that doesn't is printed, and
+then the exit status is 1. Over fewer views the rows are less deep and have less stack, but as much for each level, and a run takes
+a fraction of the time.
 
 Needs the built program (./docd run < /dev/null).
 
     python3 tools/check/deep_rows.py
-    python3 tools/check/deep_rows.py --measure --cases "sort,group"      prints how much stack they take at least, and that for a level
+    python3 tools/check/deep_rows.py --measure --cases "sort,group"      prints the least stack that they need, and that for a level
     python3 tools/check/deep_rows.py --stack 1024 --program crates/docd/out/docd
     python3 tools/check/deep_rows.py --views 4                           rows half as deep, with half as much stack
 """
@@ -31,19 +32,20 @@ from model.values import DOCUMENT, spelling
 from program import named, parsed
 from spelled import joined, section
 
-VIEWS, STAGES = 8, 16  # how many views stand over one another, and how many stages a pipeline has
+VIEWS, STAGES = 8, 16  # how many views are over one another, and how many stages a pipeline has
 STORED = 98  # documents around a number, or an array of numbers, in a stored document
 WRAPPED = 96  # documents in which a stage wraps a value
 STACK = 256  # kilobytes for each of the views
-MOST, STEP = 4 << 10, 8  # kilobytes that are tried to measure what is taken, and how exact that is
-SECONDS = 60  # that a run may take
+MOST, STEP = 4 << 10, 8  # kilobytes of stack: the most that a measurement tries, and how exact it is
+SECONDS = 60  # of processor time that a run may take
 
-# Stages, by the path to the deepest value and the view that they read; the rows that they leave, of an aggregate and of a view
-# behind some writes; what stands at the end of a document, by its number; whether stages that wrap it come in front.
+# The stages, as a function of the path to the deepest value and of the view that they read; the rows of an aggregate with them;
+# those of a view with them, after some writes; the deepest value of a document, as a function of its number; whether stages that
+# wrap it come before.
 Probe = namedtuple("Probe", "stages asked kept end wrapped", defaults=[lambda number: number, True])
 # A command's name and bytes, and what it has to be answered.
 Asked = namedtuple("Asked", "name data wanted")
-# What is asked one after the other; how many levels the deepest row has; whether it is measured to the end of docd, too, when all
+# What is asked one after the other; how many levels the deepest row has; whether a measurement includes the end of docd, when all
 # that it has is dropped.
 Case = namedtuple("Case", "asked levels to_end", defaults=[False])
 
@@ -65,7 +67,7 @@ def grouped(key, **accumulators):
 
 
 def by(key):
-    """Counts the rows under each key, which no reply may have."""
+    """Counts the rows under each key, and leaves out the key, which a reply may not have."""
     return lambda path, view: [grouped(key, n={"$sum": 1}), project(_id=0, n=1)]
 
 
@@ -75,7 +77,7 @@ def gathering(accumulator):
 
 
 def gathering_documents(accumulator):
-    """An accumulator of the documents around them, and what it leaves of it: no reply may have more."""
+    """An accumulator of the documents around the deepest values, and a projection to these: a reply may not have the documents."""
     return lambda path, view: [grouped(None, m={accumulator: "$a"}), project(n="$m" + path[1:])]
 
 
@@ -98,8 +100,8 @@ def pairs(first, second, of=lambda value: value):
     return [{"_id": first[0], "n": of(first[1])}, {"_id": second[0], "n": of(second[1])}]
 
 
-# An aggregate's documents have the numbers 6 and 5 at their ends; behind the writes the first has 8, the second is gone, and a
-# third has 7.
+# The documents of an aggregate have the numbers 6 and 5 in their deepest values. After the writes the first has 8, the second is
+# removed, and a third has 7.
 PROBES = {
     "nothing else": Probe(lambda path, view: [], identities(1, 2), identities(1, 3)),
     "a match": Probe(lambda path, view: [{"$match": {path: {"$in": [6, 7]}}}], identities(1), identities(3)),
@@ -136,14 +138,14 @@ PROBES = {
 
 
 def nested(value, levels):
-    """The value in so many documents, among other fields in each."""
+    """The value in this many documents, among other fields in each."""
     for _ in range(levels):
         value = {"b": "x", "a": value, "c": "x"}
     return value
 
 
 def path_of(levels):
-    """The path to what stands in so many documents, each under `a`."""
+    """The path to a value in this many documents, each under `a`."""
     return ".".join(["a"] * levels)
 
 
@@ -152,7 +154,7 @@ def bytes_of(document):
 
 
 def asked(command, wanted, *documents):
-    """A command and its answer. Documents stand beside its body, where each may have as many levels as it is stored with."""
+    """A command and its answer. Documents are in a section next to its body: there each may have as many levels as a stored one."""
     sections = [section(None, [bytes_of({**command, "$db": "t"})])]
     if documents:
         sections.append(section(b"documents", map(bytes_of, documents)))
@@ -176,7 +178,7 @@ def find(view, wanted, **others):
 
 
 class Tower:
-    """So many views over one another, whose stages each wrap what documents have under `a` in so many documents."""
+    """`height` views over one another. Each of their stages wraps what is under `a` in `width` documents."""
 
     def __init__(self, width, height):
         self.width, self.height = width, height
@@ -189,15 +191,15 @@ class Tower:
         return asked({"create": "v%d" % (below + 1), "viewOn": "v%d" % below if below else "c", "pipeline": stages}, "ok")
 
     def levels(self, stages):
-        """Of a row behind so many stages that wrap, and the components of the path to what is in all of them."""
+        """The levels of a row after this many wrapping stages, and the components of the path to its deepest value."""
         return 1 + STORED + self.width * stages
 
     def begun(self, height, end=lambda number: number):
-        """Two documents, and so many views over one another."""
+        """The commands that make two documents, and this many views over one another."""
         return [put(1, end(6)), put(2, end(5)), *self.wrapping[:height]]
 
     def staged(self, probe, below, behind):
-        """The stages of a probe over so many views, with so many behind it, and how many levels come to it."""
+        """A probe's stages over this many views, with room for `behind` stages more; and the levels of the rows that reach it."""
         count = STAGES - behind - len(probe.stages("a", "")) if probe.wrapped else 0
         levels = self.levels(STAGES * below + count)
         return [*self.wraps(count), *probe.stages(path_of(levels), "v%d" % below)], levels
@@ -207,7 +209,7 @@ class Tower:
         return Case([*self.begun(self.height, probe.end), aggregate("v%d" % self.height, [*stages, project(n=1)], probe.asked)], levels)
 
     def in_a_view(self, probe):
-        """The highest one, behind one write of each kind."""
+        """The probe in the highest view, after one write of each kind."""
         top = "v%d" % self.height
         stages, levels = self.staged(probe, self.height - 1, 0)
         changed = {"q": {"_id": 1}, "u": {"$set": {path_of(STORED + 1): probe.end(8)}}}
@@ -216,7 +218,7 @@ class Tower:
         return Case([*self.begun(self.height - 1, probe.end), self.view(self.height - 1, stages), *writes, *shown], levels)
 
     def cases(self):
-        """All, by their names."""
+        """All cases, by their names."""
         levels = self.levels(STAGES * self.height)
         path, top, begun = path_of(levels), "v%d" % self.height, self.begun(self.height)
         drops = [asked({"drop": name}, "ok") for name in [*("v%d" % place for place in range(self.height, 0, -1)), "c"]]
@@ -235,7 +237,7 @@ class Tower:
 
 
 def told(reply):
-    """What a reply tells: the code of a refusal, a view's state, the rows, or that all went well."""
+    """What a reply says: the code or codes of a refusal, a view's state, the rows, or that all went well."""
     if "writeErrors" in reply:
         return [error["code"] for error in reply["writeErrors"]]
     if "cursor" in reply:
@@ -244,7 +246,7 @@ def told(reply):
 
 
 def answered(docd, data):
-    """What docd answers to a message; nothing where it has ended."""
+    """What docd answers to a message; None if it has ended."""
     try:
         docd.stdin.write(data)
         docd.stdin.flush()
@@ -257,7 +259,7 @@ def answered(docd, data):
 
 
 def wrong(program, case, kilobytes, to_end=True):
-    """What is wrong with a case where docd has so much stack; nothing where all is right, perhaps but for its end."""
+    """What is wrong with a case if docd has this much stack; None if all is right. How docd ends counts only with `to_end`."""
     words = ["sh", "-c", 'ulimit -t %d && ulimit -s %d && exec "$0" run' % (SECONDS, kilobytes), program]
     found, docd = None, subprocess.Popen(words, stdin=subprocess.PIPE, stdout=subprocess.PIPE)
     for name, data, wanted in case.asked:
@@ -271,7 +273,7 @@ def wrong(program, case, kilobytes, to_end=True):
 
 
 def least(program, case):
-    """The kilobytes of stack that a case takes; nothing where more than are tried."""
+    """The kilobytes of stack that a case takes; None if it takes more than are tried."""
     low, high = 0, MOST
     while low + STEP < high:
         middle = (low + high) // 2
@@ -283,7 +285,7 @@ def least(program, case):
 
 
 def measured(program, name, deep, flat):
-    """What a case takes, and what it does for a level: the difference to a case whose rows aren't so deep."""
+    """The stack that a case takes, and that for a level: by the difference to a case whose rows aren't so deep."""
     took, less = least(program, deep), least(program, flat)
     if took is None or less is None:
         return "%s: over %d KB at %d levels" % (name, MOST, deep.levels)
@@ -293,10 +295,10 @@ def measured(program, name, deep, flat):
 
 def main():
     options = argparse.ArgumentParser(description=__doc__, formatter_class=argparse.RawDescriptionHelpFormatter)
-    options.add_argument("--cases", default="", help="words, joined by commas, of which the names of the cases have one")
-    options.add_argument("--views", type=int, default=VIEWS, help="how many views stand over one another")
+    options.add_argument("--cases", default="", help="words, joined by commas: run the cases whose name has one of them")
+    options.add_argument("--views", type=int, default=VIEWS, help="how many views are over one another")
     options.add_argument("--stack", type=int, help="the kilobytes of stack, %d for each of the views if it is left out" % STACK)
-    options.add_argument("--measure", action="store_true", help="print the stack that is used instead")
+    options.add_argument("--measure", action="store_true", help="instead of the checks, print how much stack is used")
     given = parsed(options, "deep_rows")
     deep = Tower(WRAPPED, given.views).cases()
     names = named("deep_rows", given.cases, deep)

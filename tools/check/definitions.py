@@ -1,5 +1,5 @@
-"""What trust.py and figures.py share: reads definitions, the files of crates/*/specs, the items in them, and which other items each
-of them names."""
+"""Shared by trust.py and figures.py: reads the files of definitions in crates/*/specs, the items in them, and which other items
+each item names."""
 import functools
 import pathlib
 import re
@@ -18,8 +18,8 @@ Module = namedtuple("Module", "crate name")
 
 
 class Item:
-    """A definition, a type or a lemma, with the comment above it: its names (those of a `mutual` block or of a type's
-    constructors too), those that it begins with, its lines, and the words in them. A section (`module _`) is an item of items."""
+    """A definition, a type or a lemma, with the comment above it: its names (with those in a `mutual` block and of a type's
+    constructors), the names of its heads, its lines, and the words in them. A section (`module _`) is an item of items."""
 
     def __init__(self, kind, names, heads, first, lines, inside=()):
         self.kind, self.names, self.heads, self.first, self.lines, self.inside = kind, names, heads, first, lines, inside
@@ -45,7 +45,7 @@ class Item:
 
 
 def head_of(line):
-    """What a line declares, if it begins an item: a match of HEAD, or True of a section, a `mutual` block and a fixity."""
+    """What a line declares, if it begins an item: a match of HEAD, or True for a section, a `mutual` block or a fixity."""
     if SECTION.match(line) or MUTUAL.match(line) or line.startswith("infix"):
         return True
     match = HEAD.match(line)
@@ -58,7 +58,7 @@ def without_comments(text, mark="--"):
 
 
 def words_of(text, mark="--"):
-    """The words of a text without its comments: of a path `a.b` the path and `a`, of a field `.b` of something nothing."""
+    """The words of a text without its comments. A path `a.b` counts as `a.b` and `a`; a field `.b` doesn't count."""
     found = set()
     for word in WORD.findall(without_comments(text, mark)):
         if not word.startswith("."):
@@ -68,7 +68,7 @@ def words_of(text, mark="--"):
 
 
 def spoken(name):
-    """The words by which a name is written: an operator's are what stands between its arguments, too."""
+    """The words by which a name is written. Those of an operator are also its parts between the arguments."""
     return {name, *(part for part in name.split("◌") if part)} if "◌" in name else {name}
 
 
@@ -85,7 +85,7 @@ def use_lines(text):
 
 
 def below(path):
-    """The crate of a path of a `use` line, if it leads to one of a crate's definitions, and the names of its module and in that."""
+    """For the path of a `use` line, if it leads to a crate's definitions: the crate, and the names of the module and in it."""
     if len(path) < 3 or not path[0].startswith("dv_") or path[1] != "specs" or path[2] == "declared":
         return None
     names = path[2:]
@@ -116,7 +116,7 @@ class Definitions:
         return lines
 
     def _items(self):
-        """Each item. What stands above it at the same depth (comments, `unfolding` lines) is its own."""
+        """Each item. What is above it at the same depth (comments, `unfolding` lines) belongs to it."""
         start = next((at for at, line in enumerate(self.lines) if line and not line.startswith(("--", "use ", "pub use "))), len(self.lines))
         while start > 0 and self.lines[start - 1].startswith("--"):
             start -= 1
@@ -156,14 +156,14 @@ class Definitions:
             above = at = behind
 
     def _end(self, at, end, indent):
-        """The line behind a head and what is deeper below it, without the comments of the next item."""
+        """The line after a head and the deeper lines below it, without the comments of the next item."""
         at += 1
         while at < end and (not self.lines[at] or self.lines[at].startswith((indent + " ", indent + "}", indent + ")"))):
             at += 1
         return at
 
     def _with_clauses(self, at, end, indent):
-        """The line behind the clauses of a declaration, which stand at its own depth, as do `unfolding` lines before them."""
+        """The line after the clauses of a declaration. They are at its own depth, and so are the `unfolding` lines before them."""
         while at < end:
             behind = at
             while behind < end and (not self.lines[behind].strip() or self.lines[behind][len(indent):].startswith(("--", "unfolding "))):

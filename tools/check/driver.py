@@ -1,8 +1,9 @@
-"""Connections to a docd that serves on this machine by libmongoc, MongoDB's own driver for C (Debian: apt-get install
-libmongoc-1.0-0), which Python's ctypes calls: one by itself, or those of a pool.
+"""Connections to a docd that serves on this machine, by libmongoc, MongoDB's own driver for C (Debian: apt-get install
+libmongoc-1.0-0), which Python's ctypes calls: a single connection, or those of a pool.
 
-Documents are handed to the driver and taken from it as BSON bytes. How it greets, which messages its calls become, which ones
-ask for a cursor's next rows and which end it, is the driver's. Why it is set up so, examples/client.c and examples/pool.c say.
+Documents are passed to the driver and returned by it as BSON bytes. The driver decides how it greets docd, which messages its calls
+become, and which messages ask for a cursor's next rows or end the cursor. examples/client.c and examples/pool.c say why it is set
+up as it is.
 """
 import ctypes
 import functools
@@ -12,9 +13,9 @@ from extended_json import json_of, value_of
 from model.values import DOCUMENT, int32, read_fields, spelling
 
 API_OF_VERSION_ONE = 0
-ONE_LOOK = b"&heartbeatFrequencyMS=86400000"  # for a pool: one look for the server a day
+ONE_LOOK = b"&heartbeatFrequencyMS=86400000"  # for a pool: one check of the server a day
 ALIGNMENT = 128  # of a bson_t, and its size
-TOP_LEVEL = -2  # of what the driver hands out: a reply has three levels above its rows
+TOP_LEVEL = -2  # of what the driver returns: a reply has three levels above its rows
 
 
 class Error(ctypes.Structure):
@@ -23,7 +24,7 @@ class Error(ctypes.Structure):
 
 
 class DriverFault(ConnectionError):
-    """The driver's call failed, and not for a statement that docd refused."""
+    """A call of the driver failed, and not because docd refused a statement."""
 
     def __init__(self, error):
         super().__init__("the driver says: %s" % error.message.decode())
@@ -68,7 +69,7 @@ CALLS = {
 
 @functools.cache
 def opened_library():
-    """The driver. It finds libbson's calls too, on which it stands."""
+    """The driver. libbson's calls are found in it too, because it uses libbson."""
     library = ctypes.CDLL("libmongoc-1.0.so.0")
     for name, (gives, takes) in CALLS.items():
         call = getattr(library, name)
@@ -97,7 +98,7 @@ class Given:
 
 
 class Cursor:
-    """The rows of a find or an aggregate, in order, which the driver brings."""
+    """The rows of a find or an aggregate, in order, as the driver returns them."""
 
     def __init__(self, connection, cursor):
         self.library, self.cursor, self.opened = connection.library, cursor, connection.opened_cursors
@@ -120,14 +121,14 @@ class Cursor:
 
 
 def json_at(library, document):
-    """What a document of the driver's holds, as json makes it."""
+    """A document of the driver, as a dict like those that json makes."""
     data = library.bson_get_data(document)
     length = int32(ctypes.string_at(data, 4), 0)
     return json_of(DOCUMENT, read_fields(ctypes.string_at(data, length), 0, length, TOP_LEVEL, is_array=False))
 
 
 def set_up(making, setting_api, port, options=b""):
-    """What the driver makes for a port of this machine, with a version of the Stable API."""
+    """A client or a pool of the driver, for a port of this machine, with a version of the Stable API."""
     library, error = opened_library(), Error()
     uri = library.mongoc_uri_new_with_error(b"mongodb://127.0.0.1:%d/?directConnection=true%s" % (port, options), byref(error))
     api, made = library.mongoc_server_api_new(API_OF_VERSION_ONE), making(uri)
@@ -139,7 +140,7 @@ def set_up(making, setting_api, port, options=b""):
 
 
 class Client:
-    """A client of the driver's, at work in a database. Commands and rows are dicts, as those of served.py."""
+    """A client of the driver, which works in one database. Commands and rows are dicts, like those of served.py."""
 
     def __init__(self, client, database):
         self.library, self.client = opened_library(), client
@@ -153,7 +154,7 @@ class Client:
         return self.collections[name]
 
     def ask(self, command):
-        """The reply to a command, in docd's words: inserts, updates and deletes go by the driver's own calls for those."""
+        """The reply to a command, with docd's names. Inserts, updates and deletes are sent by the driver's own calls for them."""
         if "insert" in command:
             return self.insert(command["insert"], command["documents"], command["ordered"])
         if "update" in command:
@@ -184,7 +185,7 @@ class Client:
             return counted(self.told(call, self.collection(name), *given, None), n="deletedCount")
 
     def told(self, call, *operands):
-        """What a call tells. A statement that docd refuses is no fault of the call."""
+        """The reply to a call. A statement that docd refuses is no fault of the call."""
         error = Error()
         is_well = call(*operands, self.reply, byref(error))
         told = json_at(self.library, self.reply)
@@ -205,7 +206,7 @@ class Client:
             return Cursor(self, self.library.mongoc_collection_aggregate(collection, 0, *given, None))
 
     def close(self):
-        """Ends the cursors that are open, which the driver asks for before a client goes."""
+        """Ends the open cursors, which the driver requires before a client is closed."""
         for cursor in list(self.opened_cursors):
             cursor.close()
         for one in self.collections.values():
@@ -225,23 +226,23 @@ class Driven(Client):
 
 
 class Pool:
-    """Clients of the driver's that threads share, each with a connection of its own, and one more that looks for the server."""
+    """Clients of the driver that threads share, each with a connection of its own. One more connection checks the server."""
 
     def __init__(self, port, options=b""):
         self.library = library = opened_library()
         self.pool = set_up(library.mongoc_client_pool_new, library.mongoc_client_pool_set_server_api, port, ONE_LOOK + options)
 
     def client(self, database):
-        """A client that nobody else has; waits for one where as many as may be are out."""
+        """A client that nobody else has. Waits for one if as many as are allowed are in use."""
         return Pooled(self, database)
 
     def close(self):
-        """Ends all connections. Every client has to be back."""
+        """Ends all connections. Every client has to be closed before."""
         self.library.mongoc_client_pool_destroy(self.pool)
 
 
 class Pooled(Client):
-    """A client out of a pool, which goes back where it is closed."""
+    """A client out of a pool, which returns to it when it is closed."""
 
     def __init__(self, pool, database):
         super().__init__(pool.library.mongoc_client_pool_pop(pool.pool), database)
@@ -253,6 +254,6 @@ class Pooled(Client):
 
 
 def counted(told, **names):
-    """A write's reply in docd's words, of what the driver tells; the names are docd's and the driver's."""
+    """A write's reply with docd's names, made from the driver's reply. `names` has the driver's name for each of docd's."""
     errors = {"writeErrors": told["writeErrors"]} if told.get("writeErrors") else {}
     return {**{of_docd: told[of_driver] for of_docd, of_driver in names.items()}, **errors, "ok": 1}

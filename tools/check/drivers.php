@@ -1,17 +1,17 @@
 <?php
-/* What MongoDB's driver for PHP finds at a docd that serves at a port of this machine, compared with what it has written: a line
- * for each that is wrong, and how many are right and wrong. `tools/check/drivers.py` runs it.
+/* Compares what MongoDB's driver for PHP reads from a docd that serves at a port of this machine with what it has written. Prints
+ * a line for each wrong result, and how many are right and wrong. `tools/check/drivers.py` runs it.
  *
  *     php tools/check/drivers.php 27017
  *
- * The version of the Stable API makes the driver's first message, and each later look for the server, an OP_MSG, which is all
- * that docd takes. The heartbeat is short, so that there is a second look.
+ * The version of the Stable API makes the driver's first message, and each later check of the server, an OP_MSG. docd accepts
+ * nothing else. The heartbeat is short, so that there is a second check.
  */
 use MongoDB\Driver\{BulkWrite, Command, Manager, Query, ServerApi};
 use MongoDB\Driver\Exception\{BulkWriteException, CommandException};
 
 const NAMESPACE_OF_ITEMS = 'php.items';
-const HEARTBEAT = 500; // milliseconds, which is the least
+const HEARTBEAT = 500; // milliseconds, the least that is allowed
 const DUPLICATE_KEY = 11000;
 const NAMESPACE_NOT_FOUND = 26;
 
@@ -81,19 +81,19 @@ $write->update(['_id' => 4], ['kind' => 'other']);
 $write->delete(['pence' => ['$lt' => 10]], ['limit' => 0]);
 $write->delete(['kind' => 'lamp'], ['limit' => 1]);
 $result = $manager->executeBulkWrite(NAMESPACE_OF_ITEMS, $write);
-// 83 are soap. Below ten pence are those whose _id ends by one of ten pairs of digits: 10 and 10, and 6 from 200 on.
+// 83 are soap. Below ten pence are those whose _id ends in one of ten pairs of digits: 20 below 200, and 6 from 200 on.
 same('updates that match', $result->getMatchedCount(), 1 + 83 + 1);
 same('updates that modify', $result->getModifiedCount(), 1 + 83 + 1);
 same('deletes', $result->getDeletedCount(), 26 + 1);
 same('an updated document', found($manager, ['_id' => 3]), [['_id' => 3, 'kind' => 'tea', 'pence' => 1021, 'tags' => [1, 'x', 'y']]]);
 same('a replaced document', found($manager, ['_id' => 4]), [['_id' => 4, 'kind' => 'other']]);
-// Of the 83 below ten pence were 1, 43, 58, 100, 115, 172, 187, 229 and 244, and 4 is another now.
+// Of the 83, nine were below ten pence (1, 43, 58, 100, 115, 172, 187, 229 and 244), and 4 was replaced.
 same('documents updated together', count(found($manager, ['seen' => true])), 83 - 9 - 1);
 
 same('a view that is made', asked($manager, ['create' => 'kinds', 'viewOn' => 'items', 'pipeline' => [
     ['$match' => ['_id' => ['$lt' => 10]]], ['$group' => ['_id' => '$kind', 'all' => ['$push' => '$_id']]],
 ]]), [['ok' => 1]]);
-same('the view', rows($manager->executeQuery('php.kinds', new Query([], ['batchSize' => 1]))), [ // 0, 1 and 2 are gone
+same('the view', rows($manager->executeQuery('php.kinds', new Query([], ['batchSize' => 1]))), [ // 0, 1 and 2 are deleted
     ['_id' => 'lamp', 'all' => [5, 8]], ['_id' => 'other', 'all' => [4]], ['_id' => 'soap', 'all' => [7]],
     ['_id' => 'tea', 'all' => [3, 6, 9]],
 ]);

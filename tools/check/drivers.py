@@ -1,15 +1,15 @@
 #!/usr/bin/python3
-"""Tries MongoDB's own drivers, as they come, at a docd that serves many connections.
+"""Tries MongoDB's own drivers, unchanged, with a docd that serves many connections.
 
 Needs the built program (./docd run < /dev/null). What each driver finds is compared with what it has written; every connection
-has to end without a fault, so that all of a driver's messages are such as docd takes. A driver that isn't installed is left out,
-which is told.
+has to end without a fault, which shows that docd accepts all of a driver's messages. If a driver isn't installed, it is left out,
+and a line says that.
 
-- MongoDB's driver for C (`apt-get install libmongoc-1.0-0`), by `tools/check/driver.py`: a pool of eight clients, on which ten threads
-  insert, find, update and delete, go through cursors while others write, make views and run pipelines, each in a collection of
-  its own, and write to one document and one view together.
-- MongoDB's driver for PHP (`apt-get install php-cli php-mongodb`), by `tools/check/drivers.php`: inserts, finds, updates, deletes, a
-  view, an aggregate, cursors over several batches, refusals, and a second look for the server.
+- MongoDB's driver for C (`apt-get install libmongoc-1.0-0`), by `tools/check/driver.py`: a pool of eight clients, with which ten
+  threads insert, find, update and delete, read cursors while others write, make views and run pipelines, each in a collection of
+  its own. Together they update one document, which a view reads.
+- MongoDB's driver for PHP (`apt-get install php-cli php-mongodb`), by `tools/check/drivers.php`: inserts, finds, updates, deletes,
+  a view, an aggregate, cursors over several batches, refusals, and a second check of the server.
 
     python3 tools/check/drivers.py
     python3 tools/check/drivers.py --program crates/docd/out/docd
@@ -31,7 +31,7 @@ DATABASE = "t"
 THREADS = 10
 CLIENTS = 8  # in the pool, fewer than threads
 DOCUMENTS = 300
-STEPS = 50  # of the shared document's count, by each thread
+STEPS = 50  # of the shared document's count, twice by each thread
 A_SCRIPT = 120  # seconds that one may take
 SCRIPT = os.path.join(ROOT, "tools", "check", "drivers.php")
 
@@ -45,7 +45,7 @@ class Worker:
         self.held = [{"_id": at, "n": (at * 37 + place) % 100, "group": at % 7} for at in range(DOCUMENTS)]
 
     def work(self):
-        """Each step by a client that is taken out of the pool for it."""
+        """Does each step with a client that is taken out of the pool for it."""
         for step in self.insert, self.count, self.find, self.update, self.delete, self.look, self.count:
             client = self.pool.client(DATABASE)
             try:
@@ -66,13 +66,13 @@ class Worker:
         self.held.append({"_id": DOCUMENTS})
 
     def count(self, client):
-        """Writes to what all threads share."""
+        """Writes to the document that all threads share."""
         for _ in range(STEPS):
             told = client.ask({"update": "shared", "updates": [{"q": {"_id": "count"}, "u": {"$inc": {"n": 1}}}]})
             self.same(told, {"n": 1, "nModified": 1, "ok": 1}, "a step")
 
     def find(self, client):
-        """A find with a sort; and one whose rows stay as they were when all documents change behind its first batches."""
+        """A find with a sort; and one whose rows stay as they were when all documents change after its first batches."""
         wanted = sorted((one for one in self.held if one.get("n", 0) >= 30), key=lambda one: (-one["n"], one["_id"]))
         command = {"find": self.name, "filter": {"n": {"$gte": 30}}, "sort": {"n": -1}, "batchSize": 7}
         self.same(rows(client.opened(command)), wanted, "a find")
@@ -150,13 +150,13 @@ def share_pool(docd, tell):
 
 
 def told_fates(docd, count, tell):
-    """So many connections have to have come, and each has to have ended by itself."""
+    """Checks that this many connections arrived, and that each ended without a fault."""
     fates = docd.fates_of(count)
     tell(fates == ["ended"] * count, "the connections end by %r" % fates)
 
 
 def try_php(program):
-    """The script, which prints what it finds."""
+    """Runs the script, which prints what it finds."""
     with Listening(program) as docd:
         done = subprocess.run(["php", SCRIPT, str(docd.port)], timeout=A_SCRIPT)
         return done.returncode or status_of("drivers", lambda tell: told_fates(docd, 1, tell))

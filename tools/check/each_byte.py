@@ -3,15 +3,14 @@
 
 Needs the built program (./docd run < /dev/null).
 
-- All worked examples (tools/check/worked_examples.txt) but the largest are brought byte by byte: the answers are those that are
-  written.
-- Of some examples each line is cut in two behind each of its bytes, in a run for each: the answers are those of the model of
-  `tools/check/machine.py` to what isn't cut.
-- Of three messages each byte is 00, 7f and ff in turn. Each of these is brought whole, and cut in two behind each byte, and
-  then it is looked what is stored: the answers are the model's to what isn't cut.
+- All worked examples (tools/check/worked_examples.txt) except the largest are sent byte by byte: the answers must be those that
+  are written.
+- Of some examples each line is cut in two after each of its bytes, in a run for each: the answers must be those of the model of
+  `tools/check/machine.py` to the whole lines.
+- In three messages each byte is replaced by 00, 7f and ff in turn. Each of these messages is sent whole, and cut in two after each
+  byte, and then a find reads what is stored: the answers must be the model's to the whole message.
 
-What is answered otherwise is printed, and then the exit status is 1. So it is where docd doesn't end within the seconds that a
-run has.
+Each wrong answer is printed, and then the exit status is 1. The exit status is also 1 if a run of docd doesn't end in time.
 
     python3 tools/check/each_byte.py
     python3 tools/check/each_byte.py --examples "t:,cursors:" --program crates/docd/out/docd
@@ -27,7 +26,7 @@ from spelled import document, lines_of, text
 from worked_examples import answered_otherwise, examples, scripts
 
 A_RUN = 20  # seconds
-MOST_BYTES = 2_000_000  # of a script that is brought byte by byte
+MOST_BYTES = 2_000_000  # of a script that is sent byte by byte
 MOST_CUTS = 2_000  # of an example
 BYTES = ["00", "7f", "ff"]
 
@@ -76,7 +75,7 @@ class Look:
         self.program, self.runs, self.wrong = program, 0, 0
 
     def every_cut(self, name, lines):
-        """Runs the lines whole and cut in each way. How often it was run."""
+        """Runs the lines whole and cut in each way. Returns the number of runs."""
         (output, error), before = machine.run(script_of(lines)), self.runs
         wanted = 1 if error else 0, output, error
         for one in [lines, *cut_in_two(lines)]:
@@ -95,7 +94,7 @@ class Look:
         return done.returncode, done.stdout, done.stderr
 
     def examples_byte_by_byte(self):
-        """Runs the examples byte by byte. How many there were."""
+        """Runs the examples byte by byte. Returns how many there were."""
         count = 0
         for script in scripts():
             if sum(len(line) for example in script for step in example.steps for line in step.lines) > MOST_BYTES:
@@ -114,7 +113,8 @@ def script_of(lines):
 
 def main():
     options = argparse.ArgumentParser(description=__doc__, formatter_class=argparse.RawDescriptionHelpFormatter)
-    options.add_argument("--examples", default="t:,cursors:,killed:,turns:,by_turns:", help="how titles begin, joined by commas")
+    options.add_argument("--examples", default="t:,cursors:,killed:,turns:,by_turns:",
+                         help="how the titles of the examples that are cut in two begin, joined by commas")
     given = parsed(options, "each_byte")
     look = Look(given.program)
     print("%d examples byte by byte" % look.examples_byte_by_byte(), flush=True)

@@ -1,15 +1,15 @@
 #!/usr/bin/python3
-"""Counts what makes the sources harder to read: long clauses, laws in disguise, names with several meanings, what is there twice,
+"""Counts what makes the sources harder to read: long clauses, laws in disguise, names with several meanings, what exists twice,
 and how many files a new stage or command touches by the tables of CONTRIBUTING.md.
 
-Prints a line for each count, to be compared with that of an earlier commit. The crates of tests are left out. Names are looked for as
-words, so a word that is used for something else too may hide what nothing uses.
+Prints a line for each count, to be compared with that of an earlier commit. The crates of tests are left out. Names are looked for
+as words, so a name that nothing uses is missed if the same word is used for something else.
 
-In the end it checks the tables of CONTRIBUTING.md and docs/ARCHITECTURE.md: each file that they name has to be there, and the map has
+In the end it checks the tables of CONTRIBUTING.md and docs/ARCHITECTURE.md: each file that they name has to exist, and the map has
 to show what each crate uses. What is wrong is printed, and then the exit status is 1.
 
     tools/check/figures.py             the counts
-    tools/check/figures.py --lines     also where each of what is counted is, below crates/
+    tools/check/figures.py --lines     also where each thing that is counted is, below crates/
     tools/check/figures.py --tables    only the check of the tables
 """
 import argparse
@@ -23,21 +23,21 @@ from definitions import Definitions, Module, ROOT
 CRATES = ROOT / "crates"
 CASES, MAP = ROOT / "CONTRIBUTING.md", ROOT / "docs" / "ARCHITECTURE.md"
 LONG, TOO_LONG = 160, 220  # characters of a clause
-SHARED = 120  # characters from which on equal lemmas are counted
+SHARED = 120  # characters that equal lemmas must have to be counted
 CLAUSE = re.compile(r"\b(?:requires|ensures)(?: \w+)? *\{")
 TYPE = re.compile(r"^(?:pub(?:\([^)]*\))? )?(?:struct|enum|trait) (\w+)", re.M)
 LAW = re.compile(r"^ *(?:pub(?:\([^)]*\))? )?fn (\w+)(?:<[^>]*>)?\((?:(?!mut )[^()])*\)\s*(?:requires|ensures)", re.M)
 DROPPED = re.compile(r"^ *let _ = [\w.]+\.len\(\);", re.M)
 BY_PLACE = re.compile(r"for place in [\w.]+\.\.\w+\.len\(\) \{\s*(?:let|if let|match)[^;{]*\.(?:entry|field)\(place\)")
 LISTED = re.compile(r"`([^`]+)`(:?)")
-# Types that two crates have for one thing: what a group holds, evaluated and kept live (CASES has a table of these names).
+# Types that two crates have for one thing, what a group holds: evaluated in one, kept live in the other (CASES lists these names).
 ONE_MEANING = {"AccumulatorState", "GroupState", "SumState"}
 # Rows of the tables in CASES whose files are neither code nor definitions nor proofs of the product.
 OUTSIDE = {"tests", "the model", "the model and notation", "the prompt", "what makes and tries scripts", "bench", "documents"}
 
 
 class Sources:
-    """The sources of all crates that are no tests, without comments and texts."""
+    """The sources of all crates, without comments and texts; `own` has those of the crates that are no tests."""
 
     def __init__(self):
         self.texts = {path: contracts.plain(path.read_text()) for path in sorted(CRATES.glob("*/src/**/*.rt"))}
@@ -48,7 +48,7 @@ class Sources:
         return [at(path, text, match.start()) for path, text in self.own.items() for match in pattern.finditer(text)]
 
     def clauses(self, least):
-        """Clauses with more characters than these."""
+        """Clauses with more than this many characters."""
         return [at(path, text, match.start()) for path, text in self.own.items() for match in CLAUSE.finditer(text)
                 if len(" ".join(text[match.end():contracts.partner(text, match.end() - 1)].split())) > least]
 
@@ -83,7 +83,7 @@ def crate_of(path):
 
 
 def at(path, text, place):
-    """A place in a file: its line, and the next one where the place is the end of a line."""
+    """A place as file and line. White space at the place is skipped, so that the end of a line counts as the next line."""
     place += len(text[place:]) - len(text[place:].lstrip())
     return "%s:%d" % (path.relative_to(CRATES), text.count("\n", 0, place) + 1)
 
@@ -113,7 +113,7 @@ def lists_of_commands():
 
 
 def named_files(cell):
-    """The files that a cell of a table names: (the folder in front of it, if any, its name). What is in brackets is no file."""
+    """The files that a cell of a table names: (the folder named before it, if any, its name). What is in brackets is no file."""
     folder = ""
     for name, is_folder in LISTED.findall(re.sub(r"\([^)]*\)", "", cell)):
         if is_folder:
@@ -123,7 +123,7 @@ def named_files(cell):
 
 
 def files_of_tables():
-    """The files that the tables of CASES and MAP name: where, and whether they are there. One that is to be made has no folder."""
+    """The files that the tables of CASES and MAP name: where, and whether they exist. A file still to be made has no folder."""
     for page in (CASES, MAP):
         is_table = False
         for number, line in enumerate(page.read_text().split("\n"), 1):
@@ -136,7 +136,7 @@ def files_of_tables():
 
 
 def reached(uses, crate):
-    """The crates that a crate uses, also by way of others, from the crates that each one names."""
+    """The crates that a crate uses, also through others; `uses` has the crates that each crate names."""
     found, left = set(), list(uses[crate])
     while left:
         name = left.pop()
@@ -191,7 +191,7 @@ def main():
 
 
 def show(is_long):
-    """Prints the counts, and where each of what is counted is."""
+    """Prints the counts, and if asked where each thing that is counted is."""
     sources = Sources()
     for what, found in [
         ("clauses over %d characters" % TOO_LONG, sources.clauses(TOO_LONG)),

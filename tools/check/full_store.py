@@ -1,16 +1,16 @@
 #!/usr/bin/python3
-"""Fills docd until it has no memory for more documents, and checks that it can be emptied then.
+"""Fills docd until it has no memory for more documents, and checks that it can then be emptied.
 
-Needs the built program (./docd run < /dev/null). Once docd has answered a ping, it may have so many megabytes more than it has by
-then. Documents are inserted, fewer and fewer at a time, until one alone is refused: over two indexes and under two views, or not.
-Then in one run a document is deleted by its `_id`, and all others by deletes that are sent again until none is cut, each of which
-has to take out some; in another one an index, a cursor and the collection go. Behind both documents are inserted again: as many as
-before, less a twentieth.
+Needs the built program (./docd run < /dev/null). After docd has answered a ping, it may take as many megabytes more than it has
+then as `--megabytes` says. Documents are inserted, fewer and fewer at a time, until one alone is refused: with two indexes and two
+views, or without. Then in one run a document is deleted by its `_id`, and the others by a delete of all documents. If that is cut
+short, it has to have removed some, and is sent again. In another run a cursor, an index and the collection are removed. After both,
+documents are inserted again: as many as before, less a twentieth.
 
-Where memory ends, a document is stored and a view that finds none is stale; the documents that come then stand where its rows
-stood. So under views as many are inserted again as there were when all views were live last, less a twentieth. A stale view has to
-be live once it is read in the empty store, and to stay so until that many are there; then each view has to show what its aggregate
-does.
+If memory runs out, a document is still stored, and a view that gets no memory becomes stale; documents that are inserted later take
+the memory of its rows. So under views as many documents are inserted again as there were when all views were last live, less a
+twentieth. A stale view has to be live once it is read in the empty store, and to stay live until that many documents are stored.
+Then each view has to show the rows of its aggregate.
 
     python3 tools/check/full_store.py
     python3 tools/check/full_store.py --megabytes 15,500 --program crates/docd/out/docd
@@ -34,7 +34,7 @@ class Wrong(Exception):
 
 
 class Store:
-    """A docd of little memory, and how many documents it has."""
+    """A docd with little memory, and how many documents it has."""
 
     def __init__(self, docd, megabytes, rich):
         self.docd, self.count, self.views = docd, 0, VIEWS if rich else {}
@@ -46,21 +46,21 @@ class Store:
                 self.ask('{create: "%s", viewOn: "c", pipeline: %s}' % (name, pipeline))
 
     def told(self, line):
-        """What a command is answered."""
+        """The reply to a command."""
         reply = self.docd.reply_to(message(spelling(command_of(line, "t")[1])))
         if not reply:
             raise Wrong("no reply to %s" % line[:60])
         return reply
 
     def ask(self, line):
-        """The same, which may not be refused."""
+        """The reply to a command that may not be refused."""
         reply = self.told(line)
         if not reply["ok"]:
             raise Wrong("%s: %s" % (line[:60], reply))
         return reply
 
     def insert(self, count):
-        """Whether so many documents more are stored, all of them."""
+        """Inserts this many more documents. Whether all of them are stored."""
         places = range(self.count, self.count + count)
         documents = ['{_id: %d, a: %d, l: [1, 2, %d], t: "%s"}' % (it, it % 20, it % 50, "x" * 100) for it in places]
         reply = self.told('{insert: "c", documents: [%s]}' % ", ".join(documents))
@@ -68,7 +68,7 @@ class Store:
         return reply.get("n") == count
 
     def fill(self):
-        """Inserts until one document is refused. How many there were when all views were live last."""
+        """Inserts until a single document was refused five times. Returns how many there were when all views were last live."""
         most = 0
         for count in 1000, 100, 10, 1:
             missed = 0
@@ -78,7 +78,7 @@ class Store:
         return most
 
     def stale(self):
-        """The names of the views that are."""
+        """The names of the views that are stale."""
         return [name for name in self.views if self.ask('{viewStats: "%s"}' % name)["state"] == "stale"]
 
     def delete_all(self):
@@ -125,7 +125,7 @@ def drop_all(store, cursor, rich):
 
 
 def tried(program, *how):
-    """What is told of one run, behind which docd has to end well."""
+    """What one run reports. After it docd has to end with status 0."""
     docd = Docd(program)
     try:
         told = fill_and_empty(docd, *how)
@@ -157,7 +157,7 @@ def fill_and_empty(docd, megabytes, rich, drops):
 
 def main():
     options = argparse.ArgumentParser(description=__doc__, formatter_class=argparse.RawDescriptionHelpFormatter)
-    options.add_argument("--megabytes", default="15,30,60", help="how much more it may have, in turn")
+    options.add_argument("--megabytes", default="15,30,60", help="how much more memory docd may take, each in turn")
     given, wrong = parsed(options, "full_store"), 0
     for megabytes in map(int, given.megabytes.split(",")):
         for rich in False, True:

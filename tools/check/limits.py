@@ -1,12 +1,12 @@
 #!/usr/bin/python3
-"""What docd takes at the limits: the largest and the deepest that each command may bring, at half of that and at all of it.
+"""What docd takes at the limits: the largest and the deepest input that each command may have, at half of that and at all of it.
 
-Needs the built program (./docd run < /dev/null). Each case in tools/check/cases is a session's messages for a size and for twice that
-size, up to what is allowed. They are run with 8 GB of address space and a stack of 8 MB, for a minute of processor time at
+Needs the built program (./docd run < /dev/null). Each case in tools/check/cases is a session's messages for a size and for twice
+that size, up to what is allowed. They are run with 8 GB of address space and a stack of 8 MB, for a minute of processor time at
 most. For both sizes the processor time and the most memory that was resident are printed, with their ratios, and what was
-answered: a ratio above 2.5 stands out, as more than the size grows. So does a run that doesn't end well, and then the exit
-status is 1. Of some views it is told what one write takes, of all that come behind the making: the difference of runs with
-them and without, where it is greater than two runs differ.
+answered. A ratio above 2.5 stands out, since the size only doubles. A run that doesn't end with status 0 stands out too. If
+anything stands out, the exit status is 1. For some views the time of one of the writes that follow all else is printed too: it is
+the difference of runs with these writes and without, if that is greater than the difference of two runs without.
 
     python3 tools/check/limits.py
     python3 tools/check/limits.py --cases "unwind,lookup" --part 10 --program crates/docd/out/docd
@@ -37,14 +37,14 @@ from spelled import message, spelled
 ADDRESSES = 8 << 30
 STACK = 8 << 20
 MOST_SECONDS = 60
-MOST_RUNS = 3  # of what stands out: other programs on the machine disturb some
+MOST_RUNS = 3  # of a case whose ratio stands out: other programs on the machine disturb some runs
 STANDS_OUT = 2.5
-SMALL_TIME, SMALL_MEMORY = 0.1, 64 << 20  # below these a ratio tells nothing
+SMALL_TIME, SMALL_MEMORY = 0.1, 64 << 20  # below these a ratio says nothing
 
 
 def write(make, words, path):
-    """Writes the bytes of a case to a file, in a process of its own: what this one holds counts for the program that it runs.
-    The words are the case's size, and how many writes it makes where these are timed."""
+    """Writes the bytes of a case to a file, in a process of its own: the memory of this process counts for the program that it
+    runs. The words are the case's size, and how many writes it makes if these are timed."""
     child = os.fork()
     if not child:
         with open(path, "wb") as file:
@@ -62,7 +62,7 @@ def limited():
 
 
 def run(program, is_script, given, answer):
-    """What a run took: seconds, bytes, and its exit status, below 0 where a signal ended it."""
+    """What a run took: seconds, bytes, and its exit status, below 0 if a signal ended it."""
     words = [program, "run"] + ["--hex"] * is_script
     with open(given, "rb") as messages, open(answer, "wb") as replies:
         docd = subprocess.Popen(words, stdin=messages, stdout=replies, stderr=replies, preexec_fn=limited)
@@ -78,7 +78,7 @@ def kind(reply):
 
 
 def answered(path):
-    """What the replies in a file tell: how many there are, and how many refusals of each code."""
+    """What the replies in a file say: how many there are, and how many refusals of each code."""
     seen, at = Counter(), 0
     with open(path, "rb") as file:
         while len(header := file.read(4)) == 4 and 26 <= (length := struct.unpack("<i", header)[0]):
@@ -94,7 +94,7 @@ Took = namedtuple("Took", "seconds memory status")
 
 
 def measured(program, name, part, folder):
-    """Prints a case's line, and tells whether nothing in it stands out. What stands out is run again, and the least counts."""
+    """Prints a case's line. Returns whether all is well. If a ratio stands out, the case is run again; the fastest run counts."""
     make, most, writes = CASES[name]
     sizes, more = (most // part // 2, most // part), [] if writes is None else [writes]
     given, answer, best = os.path.join(folder, "given"), os.path.join(folder, "answer"), []
@@ -117,8 +117,8 @@ def measured(program, name, part, folder):
 
 
 def of_one_write(program, make, size, writes, folder):
-    """What one of so many writes of a case takes, by the least of some runs with them and without, which come in turn. It isn't
-    told where the runs without them differ by as much among themselves."""
+    """What one of this many writes of a case takes, by the fastest of some runs with them and without, made in turn. No time is
+    given if the runs without them differ by as much among themselves."""
     answer, took = os.path.join(folder, "answer"), {0: [], writes: []}
     for count in took:
         write(make, [size, count], os.path.join(folder, str(count)))
@@ -138,8 +138,8 @@ def stands_out(took, ratios):
 
 def main():
     options = argparse.ArgumentParser(description=__doc__, formatter_class=argparse.RawDescriptionHelpFormatter)
-    options.add_argument("--cases", default="", help="words, joined by commas, of which the names of the cases have one")
-    options.add_argument("--part", type=int, default=1, help="take so-manieth parts of the sizes, to be quicker")
+    options.add_argument("--cases", default="", help="words, joined by commas: run the cases whose name has one of them")
+    options.add_argument("--part", type=int, default=1, help="divide the sizes by this, to be quicker")
     given = parsed(options, "limits")
     names = named("limits", given.cases, CASES)
     with tempfile.TemporaryDirectory() as folder:

@@ -1,4 +1,4 @@
-"""A docd that serves many connections at a free port, and what it prints; and what Linux tells of a process's memory."""
+"""A docd that serves many connections at a free port, and what it prints; and what Linux says of a process's memory."""
 import atexit
 import re
 import resource
@@ -9,25 +9,25 @@ import time
 from served import free_port
 
 LINE = re.compile(r"connection (\d+) (.*)\n")
-PATIENCE = 20  # seconds that are waited for lines at most
+PATIENCE = 20  # seconds to wait for lines at most
 
 
 def let_open_many():
-    """Lets this process, and those that it starts from now on, open as many files as may be."""
+    """Lets this process, and those that it starts from now on, open as many files as are allowed."""
     _, most = resource.getrlimit(resource.RLIMIT_NOFILE)
     resource.setrlimit(resource.RLIMIT_NOFILE, (most, most))
 
 
 def memory_of(process, word="VmRSS"):
-    """How many bytes a running process has resident, or what else of its memory Linux tells by this word."""
+    """How many bytes of a running process are resident, or what else Linux says of its memory under this word."""
     with open("/proc/%d/status" % process.pid) as lines:
         said = dict(line.split(":", 1) for line in lines)
     return int(said[word].split()[0]) << 10
 
 
 class Listening:
-    """A running docd. Its lines are read as they come, so that it never waits for a reader of them. It ends with this process, if it
-    isn't ended before."""
+    """A running docd. Its lines are read as they are printed, so that it never waits for a reader. It ends with this process, if
+    it isn't ended before."""
 
     def __init__(self, program, *words, **how):
         self.port, self.fates = free_port(), {}
@@ -51,14 +51,14 @@ class Listening:
             self.fates[int(number)] = fate
 
     def fates_of(self, count):
-        """How so many connections ended, in the order in which they came; those that haven't soon are missing."""
+        """How connections ended, in the order in which they arrived, once this many did; fewer if they don't end soon."""
         end = time.monotonic() + PATIENCE
         while len(self.fates) < count and time.monotonic() < end:
             time.sleep(0.01)
         return [fate for _, fate in sorted(self.fates.items())]
 
     def status(self):
-        """With which exit status it has ended, the number of a signal below zero; None where it runs."""
+        """The exit status with which it has ended, or minus the number of the signal that ended it; None if it runs."""
         return self.process.poll()
 
     def seconds(self):

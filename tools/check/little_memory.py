@@ -1,10 +1,10 @@
 #!/usr/bin/python3
 """Gives docd little memory and commands that name large sizes: none of them may be refused as out of memory.
 
-Needs the built program (./docd run < /dev/null). Once docd has answered a ping, it may have so many megabytes more than it has by
-then. The commands have a text that counts 2,147,483,647 bytes, `$set`s of a place in an array that is too far, and `$in`s of
-100,000 members. Each has to be answered by the fault or the rows that the manual says. Another answer is printed, and then
-the exit status is 1.
+Needs the built program (./docd run < /dev/null). After docd has answered a ping, it may take as many megabytes more than it has
+then as `--megabytes` says. The commands have a text that claims 2,147,483,647 bytes, `$set`s of a place too far beyond an array's
+end, and `$in`s of 100,000 members. Each has to be answered by the fault or the rows that the manual says. Another answer is
+printed, and then the exit status is 1.
 
     python3 tools/check/little_memory.py
     python3 tools/check/little_memory.py --megabytes 20 --program crates/docd/out/docd
@@ -35,7 +35,7 @@ class Docd:
         self.process = subprocess.Popen([program, "run"], stdin=subprocess.PIPE, stdout=subprocess.PIPE)
 
     def reply_to(self, data):
-        """What a message is answered; nothing where docd has ended."""
+        """The reply to a message; empty if docd has ended."""
         try:
             self.process.stdin.write(data)
             self.process.stdin.flush()
@@ -47,18 +47,18 @@ class Docd:
         return json_of(DOCUMENT, answer(length + self.process.stdout.read(struct.unpack("<i", length)[0] - 4)))
 
     def bound(self, more):
-        """Lets it have so many bytes of address space more than it has."""
+        """Lets it take this many bytes of address space more than it has."""
         most = memory_of(self.process, "VmSize") + more
         resource.prlimit(self.process.pid, resource.RLIMIT_AS, (most, most))
 
     def end(self):
-        """Its exit status."""
+        """Ends it, and returns its exit status."""
         self.process.communicate()
         return self.process.returncode
 
 
 def told(reply):
-    """What a reply tells: the code of a refusal, those of write errors, the `_id`s of rows, or that all went well."""
+    """What a reply says: the code of a refusal, those of write errors, the `_id`s of rows, or that all went well."""
     if "code" in reply:
         return reply["code"]
     if "writeErrors" in reply:
@@ -85,7 +85,7 @@ def cases():
 
 def main():
     options = argparse.ArgumentParser(description=__doc__, formatter_class=argparse.RawDescriptionHelpFormatter)
-    options.add_argument("--megabytes", type=int, default=50, help="how much more it may have")
+    options.add_argument("--megabytes", type=int, default=50, help="how much more memory docd may take")
     given = parsed(options, "little_memory")
     docd, wrong = Docd(given.program), 0
     docd.reply_to(message(spelled([(b"ping", ONE), DATABASE])))

@@ -3,9 +3,9 @@
 
 It reads a script on standard input and prints each reply, closing and end as docd must print them. It shares no code
 with docd: it has its own reader of BSON and its own filters, updates and pipelines (in tools/client/model), keeps each
-collection as a sorted list, scans for every find and runs a view's pipeline anew each time. The work that a view counts
-is what its stages make of all their rows otherwise behind each change. Memory is never wanting here. `tools/check/compare.py`
-runs random scripts through both.
+collection as a sorted list, scans for every find and runs a view's pipeline again each time. To count a view's work, it
+evaluates each stage over all rows before each change and after it, and counts the differences. Memory never runs out here.
+`tools/check/compare.py` runs random scripts through both.
 
     python3 tools/check/machine.py < examples/inserts.hex
 """
@@ -37,7 +37,7 @@ class Machine:
         self.store, self.sessions = Store(), {}
 
     def line(self, text):
-        """What one line of a script prints, as a list of lines, or None: it is bad."""
+        """What one line of a script prints, as a list of lines, or None if the line is bad."""
         form = LINE.fullmatch(text)
         if len(text) > LONGEST_LINE or not form:
             return None
@@ -47,7 +47,7 @@ class Machine:
         return self.end(number) if form[2] else self.feed(number, bytes.fromhex(form[3].decode()))
 
     def load(self, place, document):
-        """Inserts a document in front of the script, beside any session."""
+        """Inserts a document before the script, outside any session."""
         self.store.change(place, done_to(self.store.collection(place), insert_one, document).changes)
 
     def session(self, number):
@@ -55,14 +55,14 @@ class Machine:
         return self.sessions.setdefault(number, Session())
 
     def end(self, number):
-        """Ends a session, and gives the line that tells of it."""
+        """Ends a session, and returns the line that is printed for that."""
         session = self.session(number)
         del self.sessions[number]
         self.store.cursors.end(session)
         return [b"%s end %d" % (number, 0 if session.is_closed else len(session.stream))]
 
     def feed(self, number, data):
-        """The lines that a session is answered to its next bytes."""
+        """The lines that answer a session's next bytes."""
         session, said = self.session(number), []
         if session.is_closed:
             return said

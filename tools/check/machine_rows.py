@@ -1,7 +1,7 @@
 #!/usr/bin/python3
 """Checks the model of `tools/check/machine.py` against worked examples, whose answers were written by hand: those of
-tools/check/worked_examples.txt, and a few documents as bytes. Behind each answer the rows of the views that are kept by changes,
-which are counted by their positions, are looked at too: without positions they are what the pipeline makes.
+tools/check/worked_examples.txt, and a few documents as bytes. After each answer it also checks the live views' rows at positions,
+from which work is counted: without the positions they must be the rows of the pipeline.
 
     python3 tools/check/machine_rows.py
 """
@@ -27,7 +27,7 @@ def check_examples(tell):
 
 
 def are_placed(store, title):
-    """Whether the rows of an example's views stand where the pipelines have them."""
+    """Whether the rows of an example's live views, without their positions, are those of the pipelines."""
     database = title.partition(":")[0].partition(",")[0].encode()
     views = [(place, view) for place, view in store.views.items() if view.is_live and place.startswith(database + b".")]
     return all(documents_of(store.placer()(place)) == store.reader()(place) for place, view in views)

@@ -1,10 +1,10 @@
 #!/usr/bin/python3
-"""Runs the examples of docs/MANUAL.md through docd and through the model of `tools/check/machine.py`, and compares the replies; and the
-scripts examples/*.hex, whose comments tell of replies (tools/check/told_replies.py).
+"""Runs the examples of docs/MANUAL.md through docd and through the model of `tools/check/machine.py`, and compares the replies;
+also the scripts examples/*.hex, whose comments say some replies (tools/check/told_replies.py).
 
-Needs the built program (./docd run < /dev/null). In a fenced block a line `> COMMAND` is sent, of session 0, or of another one as
-`1> COMMAND`, and the line behind it is its reply; each heading begins with an empty store. These lines are read as
-`tools/client/lines.py` reads them, and the replies are what it prints. A line `$ WORDS` is typed in a shell, and the lines behind it
+Needs the built program (./docd run < /dev/null). In a fenced block a line `> COMMAND` is sent in session 0, a line `1> COMMAND` in
+session 1, and the line after it is its reply; each heading begins with an empty store. These lines are read as
+`tools/client/lines.py` reads them, and the replies are what it prints. A line `$ WORDS` is typed in a shell, and the lines after it
 are what is printed; each heading begins with a folder that has `docd`, `tools` and `examples` and nothing else.
 
     python3 tools/check/manual.py
@@ -49,7 +49,7 @@ def replies(output):
 
 
 def sent(program, examples):
-    """For each example what was sent, what is written of it, and what docd and the model say."""
+    """For each example: what was sent, the reply that is written, and the replies of docd and of the model."""
     lines = [line for number, (asked, _) in enumerate(examples, 1) for line in lines_of_command(number, asked, "t")]
     script = "".join(line + "\n" for line in lines).encode()
     done = subprocess.run([program, "run", "--hex"], input=script, capture_output=True, timeout=60)
@@ -60,7 +60,7 @@ def sent(program, examples):
 
 
 def typed(program, examples):
-    """For each line that is typed what is written of it, and what is printed."""
+    """For each line that is typed: the line, the output that is written, and what is printed."""
     with tempfile.TemporaryDirectory() as folder:
         os.symlink(os.path.abspath(program), os.path.join(folder, "docd"))
         for name in "tools", "examples":
@@ -72,7 +72,7 @@ def typed(program, examples):
 
 
 def examples_in_manual(program):
-    """For each example its heading, what is asked, what is written of the reply, and what is said."""
+    """For each example: its heading, what is asked, the answer that is written, and the answers that are given."""
     with open(MANUAL, encoding="utf-8") as file:
         text = file.read()
     for heading, blocks in sections(text):

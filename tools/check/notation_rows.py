@@ -1,6 +1,6 @@
 #!/usr/bin/python3
-"""Checks the notation of `tools/client/notation.py` against texts and values that were written by hand, and that every value is read
-back as what it was: of random documents too.
+"""Checks the notation of `tools/client/notation.py` against texts and values that were written by hand, and that every value, also
+of random documents, is read back as it was.
 
     python3 tools/check/notation_rows.py
 """
@@ -17,7 +17,7 @@ from notation import Unfinished, document_of, shown
 DOCUMENTS = 2_000
 ID = bytes.fromhex("507f1f77bcf86cd799439011")
 
-# A value, how it is printed, and other texts that are read as it.
+# A value, how it is printed, and other texts that are read as this value.
 ROWS = [
     ((TEXT, b'say "a"\n\0\\'), r'"say \"a\"\n\u0000\\"', r'"say \"a\"\n\0\\"', r'"\u0073ay \"a\"\u000a\u0000\u005c"'),
     ((TEXT, "é😀".encode()), '"é😀"', r'"\u00e9\ud83d\ude00"'),
@@ -48,7 +48,7 @@ ROWS = [
     ((MAX_KEY, None), "MaxKey", '{"$maxKey": 1}'),
 ]
 
-# Texts that are no document, each with the column and a word of what is told.
+# Texts that are no document, each with the column and a word of the message.
 FAULTS = [
     ("", 1, "begins with {"), ("[1]", 1, "begins with {"), ("find", 1, "begins with {"), ("{a: 1} {b: 2}", 8, "one a line"),
     ("{a: 1", 6, "}"), ("{a: [1", 7, "]"), ('{a: "x', 5, "double quote"), ("{a: 1 b: 2}", 7, "comma"), ("{a: [1,]}", 8, "value is missing"),

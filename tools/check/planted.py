@@ -2,18 +2,18 @@
 """Tries the wrong bodies in planted/CRATE/NAME.edit: the prover has to refuse each of them.
 
 They have the form of the edits in crates/*/must-fail, which each gate tries, and are tried by the same engine, that of the
-kit's `rt must-fail`, over the work that the crate's last proof kept. Whoever changes a crate runs this for that crate.
+kit's `rt must-fail`, with the work that the crate's last proof kept. Whoever changes a crate runs this for that crate.
 
-Edits of different functions are planted together, and each has to leave a goal of its own function open; one whose function
-has none is tried once more, alone. It prints what refused each, and ends with 1 where one wasn't refused, or can't be
-applied any more.
+Edits of different functions are planted together, and each has to leave a goal of its own function open. An edit whose function
+has no open goal is tried once more, alone. The tool prints what refused each edit. The exit status is 1 if one wasn't refused, or
+can't be applied any more.
 
     tools/check/planted.py                        all crates, lowest first
     tools/check/planted.py dv_coll dv_index       these
     tools/check/planted.py --alone dv_coll        each edit alone
-    tools/check/planted.py --after-ci 30          those that docs/TESTING.md lists as bodies that must be refused, over the libraries that
-                                                  `rt ci` built; begins with no crate after 30 minutes
-    tools/check/planted.py --look                 only looks whether each edit, also those that `rt ci` tries, can be applied
+    tools/check/planted.py --after-ci 30          those that docs/TESTING.md lists as bodies that must be refused, with the
+                                                  libraries that `rt ci` built; starts no crate after 30 minutes
+    tools/check/planted.py --look                 only checks whether each edit, also those that `rt ci` tries, can be applied
     tools/check/planted.py --list                 only lists the edits that `rt ci` tries
 """
 import argparse
@@ -33,11 +33,11 @@ ROOT = pathlib.Path(__file__).resolve().parent.parent.parent
 FUNCTION = re.compile(r"\s*(?:pub(?:\(\w+\))? )?(?:const )?(?:unsafe )?fn (\w+)")
 PAGE, SECTION = ROOT / "docs" / "TESTING.md", "### Wrong bodies that must be refused"
 OF_CRATE = re.compile(r"- `(\w+)`: ")  # a line of that section that names edits of one crate
-STARRED = re.compile(r"`(?:(\w+)/)?(\w+)`\*")  # an edit in planted/, with its crate where the line names none
+STARRED = re.compile(r"`(?:(\w+)/)?(\w+)`\*")  # an edit in planted/, with its crate if the line names none
 OPEN_GOAL = re.compile(r"note: (src/\S+\.rt):(\d+):\d+: it is not proved (.*)")
 
-# An edit: its file, the texts of the crate's files with it, and the functions that it changes, each as a file and the line
-# that the function begins at.
+# An edit: its file, what it replaces (as `pairs_of` returns it), and the functions that it changes, each as a file and the line
+# at which the function begins.
 Edit = namedtuple("Edit", "path pairs functions")
 
 
@@ -55,13 +55,13 @@ def pairs_of(path):
 
 
 def function_at(text, line):
-    """The line, from 1, of the function around a line of a file's text, or 0."""
+    """The line, from 1, at which the function around a line of a file's text begins; 0 if there is none."""
     lines = text.split("\n")[:line]
     return next((at + 1 for at in reversed(range(len(lines))) if FUNCTION.match(lines[at])), 0)
 
 
 def read_edit(path, crate):
-    """The edit, or None where one of its texts doesn't stand once in its file."""
+    """The edit, or None if a text that it replaces isn't in its file exactly once."""
     texts, functions = {}, set()
     for file, old, new in pairs_of(path):
         source = pathlib.Path(crate.folder, file)
@@ -76,7 +76,7 @@ def read_edit(path, crate):
 
 
 def planted_together(edits):
-    """Parts of the edits, so that no two of a part change the same function."""
+    """The edits in parts, so that no two edits of a part change the same function."""
     parts = []
     for edit in edits:
         part = next((it for it in parts if not any(edit.functions & other.functions for other in it)), None)
@@ -87,7 +87,7 @@ def planted_together(edits):
 
 
 def texts_with(edits, crate):
-    """The texts of the crate's files with all these edits, or None where one is in another's way."""
+    """The texts of the crate's files with all these edits, or None if two of them conflict."""
     texts = {}
     for edit in edits:
         for file, old, new in edit.pairs:
@@ -99,7 +99,7 @@ def texts_with(edits, crate):
 
 
 def refusals(engine, crate, edits, kept, jobs):
-    """For each of these edits, planted together, why it is refused; one that is missing has to be tried alone."""
+    """For each of these edits, planted together, why it is refused. An edit that the result lacks has to be tried alone."""
     texts = texts_with(edits, crate)
     if texts is None or len(edits) < 2:
         return {}
@@ -115,7 +115,7 @@ def refusals(engine, crate, edits, kept, jobs):
 
 
 def refused_by(engine):
-    """What the engine answers for an edit that is refused: a word of its own, or True where its kit has none."""
+    """What the engine returns for an edit that is refused: values of its own, or True if its kit has none."""
     return [getattr(engine, it) for it in ("REFUSED", "AT_LIMIT") if hasattr(engine, it)] or [True]
 
 
@@ -166,7 +166,7 @@ def listed(crates):
 
 
 def read_edits(crate, paths):
-    """The edits of a crate that can be applied, and how many can't, each of which is named."""
+    """Returns the edits of a crate that can be applied, and how many can't. Prints the name of each that can't."""
     edits = {path: read_edit(path, crate) for path in paths}
     bad = [path for path, edit in edits.items() if edit is None]
     for path in bad:
@@ -175,8 +175,8 @@ def read_edits(crate, paths):
 
 
 def look(crates):
-    """Looks whether each edit can be applied, and whether those that the page lists are there. How many were looked at, and how many
-    are wrong."""
+    """Checks whether each edit can be applied, and whether those that the page lists are there. Returns how many were checked, and
+    how many are wrong."""
     paths = {crate: [*planted(crate), *of_rt_ci(crate)] for crate in crates}
     gone = [it for it in must_be_refused() if not it.is_file()]
     for path in gone:
@@ -186,8 +186,8 @@ def look(crates):
 
 
 def try_all(engine, crates, alone, jobs):
-    """Tries all edits in planted/ of these crates, over libraries that it builds where they aren't. How many were tried, and how many
-    weren't refused."""
+    """Tries all edits in planted/ of these crates, with libraries that it builds if they aren't there. Returns how many were tried,
+    and how many weren't refused."""
     tried = failed = 0
     for crate in crates:
         edits, bad = read_edits(crate, planted(crate))
@@ -205,8 +205,8 @@ def try_all(engine, crates, alone, jobs):
 
 
 def is_ready(crate):
-    """Whether the libraries that a crate uses are there, all of one run: that of `rt ci`, which writes no stamp, or one that proved
-    the present sources."""
+    """Whether the libraries that a crate uses are there, all from one run: a run of `rt ci`, which writes no stamp, or one that
+    proved the present sources."""
     below = crate.below()
     if any(os.path.exists(f"{it.folder}/out/rlib/stamp") for it in below):
         return all(it.is_built() for it in below)
@@ -214,8 +214,8 @@ def is_ready(crate):
 
 
 def try_after_ci(engine, crates, minutes, jobs):
-    """Tries the edits that the page lists, lowest crates first, as long as there is time. Says why the others aren't tried. How many
-    were tried, as a text, and how many weren't refused."""
+    """Tries the edits that the page lists, lowest crates first, as long as there is time. Prints why the others aren't tried.
+    Returns how many were tried, as a text, and how many weren't refused."""
     tried = failed = 0
     begun, wanted = time.monotonic(), set(must_be_refused())
     for crate in crates:
@@ -235,8 +235,9 @@ def main():
     words = argparse.ArgumentParser(description=__doc__, formatter_class=argparse.RawDescriptionHelpFormatter)
     words.add_argument("crates", nargs="*", metavar="CRATE")
     words.add_argument("--alone", action="store_true", help="try each edit by itself, which takes longer")
-    words.add_argument("--after-ci", type=float, metavar="MINUTES", help="try the bodies that must be refused, begun within this time")
-    words.add_argument("--look", action="store_true", help="only look whether each edit can be applied")
+    words.add_argument("--after-ci", type=float, metavar="MINUTES",
+                       help="try the bodies that must be refused; start no crate after this time")
+    words.add_argument("--look", action="store_true", help="only check whether each edit can be applied")
     words.add_argument("--list", action="store_true", help="only list the edits that rt ci tries")
     words.add_argument("--jobs", type=int, default=2, help="processors for a check")
     given = words.parse_args()

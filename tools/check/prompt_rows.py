@@ -1,9 +1,9 @@
 #!/usr/bin/python3
-"""Checks what the prompt of `tools/client/lines.py` says against the documents and the model of `tools/check/machine.py`, and what it does
-against rows that were written by hand.
+"""Checks what the prompt of `tools/client/lines.py` says against the documents and the model of `tools/check/machine.py`, and what
+it does against rows that were written by hand.
 
-The codes that docs/MANUAL.md lists, and the commands that it names behind them, must be those that the model refuses commands
-with: in tools/check/worked_examples.txt, and in random scripts.
+The codes that docs/MANUAL.md lists, and the commands that it names in brackets after them, must be those with which the model
+refuses commands: in tools/check/worked_examples.txt, and in random scripts.
 
     python3 tools/check/prompt_rows.py
 """
@@ -26,11 +26,11 @@ from random_scripts import Maker
 from worked_examples import answers, scripts
 
 SCRIPTS, DOCUMENTS = 150, 500
-ANY = {refusals.WANT_OF_MEMORY, refusals.INVALID_BSON, refusals.COMMAND_NOT_FOUND}  # told of any command, or of none
-RARE = {("find", refusals.TOO_LARGE)}  # of a view's rows beyond 16,777,216 bytes, which are in neither
+ANY = {refusals.WANT_OF_MEMORY, refusals.INVALID_BSON, refusals.COMMAND_NOT_FOUND}  # of any command, or of a name that is none
+RARE = {("find", refusals.TOO_LARGE)}  # of a view's row of over 16,777,216 bytes: no example and no random script has one
 NAMES = ["orders", "spent"]
 
-# What is typed, with a bar where the word that Tab completes begins, and what may stand there.
+# What is typed, with a bar where the word that Tab completes begins, and what Tab offers for it.
 COMPLETED = [
     ("|fin", []), ("{|fin", ["find: "]), ('{find: "|o', ["orders"]), ("{find: |", ['"orders"', '"spent"']), ('{find: "spent"|', []),
     ('{find: "c", |s', ["sort: ", "skip: ", "singleBatch: "]), ('{find: "c", filter: {a: {|$gt', ["$gt: ", "$gte: "]),
@@ -42,14 +42,14 @@ COMPLETED = [
     ('{create: "v", viewOn: "|sp', ["spent"]), ('{insert: "c", documents: [{|a', []), ('{find: "c", filter: {a: "|o', []),
 ]
 
-# What help is asked of, and what it tells among others.
+# A topic of help, and a part of what help says about it.
 TOLD = [
     ("$min", "the least"), ("$max", "the greatest value"), ("$literal", "is that value"), ("$each", "appends a value"), ("$push", "appends"),
     ("$in", "one of the list"), ("lookup", "into each row"), ("more", "the next rows"), ("insert", "by their _id"), ("$x", "no operator"),
     ("view", "Views over views"), ("indexes", "Unique indexes"), ("quokka", "type help for the commands"),
 ]
 
-# A command that is refused, with which code and for which statement, and a word of what may be wrong in it.
+# A command that is refused, the code, the index of the refused statement or None, and a part of what the prompt says is wrong.
 SUSPECTED = [
     ('{fnid: "c"}', 59, None, "find may be meant"), ('{find: "c", fliter: {}}', 9, None, "filter may be meant"),
     ('{find: "c", skip: -1}', 2, None, "skip: -1"), ('{find: "c", skip: "x"}', 14, None, 'skip: "x"'), ('{find: "$c"}', 2, None, '"$c"'),

@@ -1,8 +1,8 @@
-"""Makes random scripts, for `tools/check/compare.py` and `tools/check/broken_input.py`.
+"""Makes random scripts, for `compare.py`, `broken_input.py` and `prompt_rows.py` in tools/check.
 
 Values, filters, updates, pipelines and commands are made by the classes in tools/check/making. Filters, sorts and updates are made
-along the documents that are stored at the moment, which the model of the machine tells, so that they find something: a path is
-walked through one of them, and an operand is what stands there, or stands near it.
+from the documents that are stored at the moment, which the model of the machine knows, so that they find something: a path leads
+through one of these documents, and an operand is the value there, or near it.
 """
 import struct
 
@@ -16,31 +16,31 @@ from spelled import Broken, PIECE, array, boolean, data_of, document, joined, me
 
 
 def interleaved(rng, runs):
-    """The lines, or what else there is, of some runs, each run's in their order."""
+    """The lines (or other items) of some runs, mixed at random. The items of each run stay in their order."""
     order = [place for place, one in enumerate(runs) for _ in one]
     rng.shuffle(order)
     left = [iter(one) for one in runs]
     return [next(left[place]) for place in order]
 
 
-ALL = number(2**31 - 1)  # as many rows in a first batch as its bytes let
+ALL = number(2**31 - 1)  # a batchSize: as many rows in a first batch as its bytes allow
 
 
 def nested(levels, value):
-    """A document of so many levels around a value."""
+    """A value inside this many nested documents."""
     for _ in range(levels):
         value = document([(b"a", value)])
     return value
 
 
 class Maker(Commands):
-    """Makes scripts, and counts their messages, half of which are broken where it breaks any."""
+    """Makes scripts, and counts their messages. If it breaks messages at all, it breaks half of them."""
 
     def __init__(self, rng, breaks=False):
         super().__init__(rng)
         self.messages, self.breaker = 0, Breaker(rng) if breaks else None
         self.is_crowded = False  # whether there are many documents
-        self.is_large = False  # whether there are some hundred
+        self.is_large = False  # whether there are several hundred
 
     def first(self, name=b"c", count=None):
         """An insert of some documents into a collection, so that something is there."""
@@ -48,7 +48,7 @@ class Maker(Commands):
         return self.asked([(b"insert", text(name)), (b"documents", documents), (b"ordered", boolean(False))])
 
     def carried_out(self, data):
-        """The same message, which the model's store has carried out."""
+        """Has the model's store carry out a message, and returns the same message."""
         try:
             taken = messages.take_message(data)
             if taken:
@@ -58,8 +58,8 @@ class Maker(Commands):
         return data
 
     def views(self):
-        """Views of what is there, in some scripts, and another collection into which they may look; and towers of views, over few
-        documents alone, since their lookups may give each row all others."""
+        """In some scripts, views of what is there, and another collection that they may join; and towers of views, but only over
+        few documents, since their `$lookup`s may give each row all others."""
         names = [] if self.is_large else [b"v", b"w", b"x"][:self.rng.choice([0, 1, 2, 3])]
         made = ([self.first(b"d")] if names else []) + [self.asked(self.view(name)) for name in names]
         return made + ([self.asked(self.of_tower(*one)) for one in enumerate(self.tower())]
@@ -70,24 +70,24 @@ class Maker(Commands):
         return [self.view(stage[1:], [[stage.decode()]]) for stage in STAGES]
 
     def asked_twice(self, view):
-        """For the command of a view: what it tells of itself, a find of all its rows, and an aggregate that makes them anew."""
+        """For the command that makes a view: its viewStats, a find of all its rows, and an aggregate that computes them again."""
         (_, name), (_, source), pipeline = view
         return [self.asked(command) for command in (
             [(b"viewStats", name)], [(b"find", name), (b"batchSize", ALL)],
             [(b"aggregate", source), pipeline, (b"cursor", document([(b"batchSize", ALL)]))])]
 
     def shown(self):
-        """For each view that is there, in any order, what it tells of itself, and a find of all its rows."""
+        """For each view that is there, in any order, its viewStats and a find without a filter."""
         names = self.rng.sample(self.standing, len(self.standing))
         return [self.asked([(command, text(name))]) for name in names for command in (b"viewStats", b"find")]
 
     def taken_down(self):
-        """Drops of views that are read or not, as often as there are any, and of the collection."""
+        """Drops of views at random, whether others read them or not, about as many as there are views, and of the collection."""
         names = [self.rng.choice(self.standing) for _ in self.standing] + [b"c"]
         return [self.asked([(b"drop", text(name))]) for name in names if self.often(0.9)]
 
     def written(self):
-        """A write, and what the views show in front of it and behind it."""
+        """A write, with what the views show before and after it."""
         return [*self.shown(), self.write(), *self.shown()]
 
     def write(self):
@@ -95,7 +95,7 @@ class Maker(Commands):
         return self.asked(self.rng.choice([self.insert, self.update_command, self.delete])())
 
     def asked(self, fields):
-        """The message of a command, which the model's store has carried out."""
+        """The message of a command, after the model's store has carried it out."""
         return self.carried_out(message(spelled([*fields, (b"$db", text(b"t"))])))
 
     def message(self):
@@ -107,7 +107,7 @@ class Maker(Commands):
         if self.breaker and self.often(0.5):
             data = self.breaker.broken(data)
         elif self.often(0.03):
-            # A byte of the fields, mostly, since one in front of them closes the session.
+            # Mostly a byte of the fields, since a wrong byte before them closes the session.
             place = self.rng.randrange(25 if self.often(0.9) else 0, len(data) - 1)
             byte = self.rng.choice([0, 1, 3, 4, 0x7f, 0xff, self.rng.randrange(256)])
             data = data[:place] + bytes([byte]) + data[place + 1:]
@@ -117,11 +117,11 @@ class Maker(Commands):
         return self.carried_out(data)
 
     def whole(self, flags):
-        """A message of a command, whose bytes are as they should be."""
+        """A message of a command, before any of its bytes is broken."""
         return joined(self.sections(self.command()), self.rng.randint(-2**31, 2**31 - 1), flags)
 
     def sections(self, fields):
-        """The sections of a message of these fields: a list of documents may stand beside the body."""
+        """The sections of a message of these fields: a list of documents may be next to the body."""
         lists = []
         if self.often(0.4):
             at = next((at for at, (_, (kind, held)) in enumerate(fields)
@@ -152,7 +152,7 @@ class Maker(Commands):
         return [stream[start:end] for start, end in zip(ends, ends[1:])]
 
     def script(self):
-        """The lines of a script, and lines that bring the same messages, each as a line of its own."""
+        """The lines of a script, and lines that send the same messages, each in a line of its own."""
         interleaves = self.often(0.7)
         numbers = self.rng.sample([0, 7, 255, 999], 4) if interleaves else [self.rng.choice([0, 0, 7, 999]) for _ in range(4)]
         runs = [self.run(number) for number in numbers[:self.rng.randint(1, 4)]]
@@ -185,7 +185,7 @@ class Maker(Commands):
                 self.asked([(b"createIndexes", text(b"c")), (b"indexes", array([document(entry)]))])]
 
     def large(self):
-        """Some hundred small documents, and a view with a `$push` over one group of them or two, in a few scripts."""
+        """Several hundred small documents, and a view with a `$push` over one or two groups of them, in a few scripts."""
         if self.often(0.96):
             return []
         self.is_crowded = self.is_large = True
@@ -201,8 +201,8 @@ class Maker(Commands):
         return made[::-1] if self.often(0.3) else made
 
     def deep(self):
-        """Some documents of nearly the most levels, and a view that puts them still deeper, in a few scripts: the model takes a second
-        for one."""
+        """Some documents of nearly the most levels, and a view that nests them deeper still, in a few scripts: the model takes a
+        second for one."""
         if self.often(0.98):
             return []
         rows = [document([(b"_id", number(2_000 + place)), (b"a", nested(self.rng.randint(90, 98), number(place // 2)))])
@@ -218,7 +218,7 @@ class Maker(Commands):
         return [self.asked(view), self.asked([(b"insert", text(b"c")), (b"documents", array(rows))])]
 
     def run(self, number):
-        """The lines of one session, cut anywhere, and a message in each."""
+        """The lines of one session: first with messages cut anywhere, then with a message in each line."""
         self.session = object()
         made = [] if self.made else [*self.unique(), self.first(), *self.unique(), *self.many(), *self.large(), *self.deep(),
                                      *self.views()]
@@ -226,7 +226,7 @@ class Maker(Commands):
             made.append(self.message())
             made += self.written() if self.often(0.1) else []
         made += self.taken_down() if self.often(0.2) else []
-        made += [self.asked([(b"find", text(b"c"))]), *self.shown()]  # what stands in the end
+        made += [self.asked([(b"find", text(b"c"))]), *self.shown()]  # the state at the end
         if self.often(0.5):
             made.append(self.asked([(b"createIndexes", text(b"c")), (b"indexes", array([]))]))  # how many indexes there are
         ends = [b"%d end" % number] * self.often(0.97)

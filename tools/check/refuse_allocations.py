@@ -1,23 +1,24 @@
 #!/usr/bin/python3
 """Makes each of docd's allocations fail in turn, and checks that every reply is one that is allowed then.
 
-Needs the kit and the built program (`./docd run < /dev/null` builds one). For each script of `tools/check/refused_scripts.py` docd runs again and
-again, with the first, second, .. request refused, until a run meets no refusal. What a run prints must be what the model of
-`tools/check/machine.py` prints, but that want of memory may show in one of these ways:
+Needs the kit and the built program (`./docd run < /dev/null` builds one). docd runs each script of `tools/check/refused_scripts.py`
+again and again, with the first, second, .. request for memory refused, until a run meets no refusal. What a run prints must be
+what the model of `tools/check/machine.py` prints, except that running out of memory may show in one of these ways:
 
 - the script ends with `docd: no memory`, and what was printed before is right;
 - a command is refused with code 900 and changes nothing;
-- a write ends at a statement with a write error of code 900, whose `done` tells how many of that statement's changes were
-  made, fewer than all, and what the statements before it did stands;
-- a session is closed with 6: its last command has come to any of these ends, or to its usual one;
-- a view is stale behind a write, as viewStats tells, and is made anew before it is read. So are the views that read one like that,
-  and all that read a collection which is dropped.
+- a write ends at a statement with a write error of code 900, whose `done` says how many of that statement's changes were
+  made, fewer than all, and what the statements before it did remains;
+- a session is closed with 6: its last command has ended in one of these ways, or as usual;
+- a view is stale after a write, as viewStats reports, and is recomputed before it is read. So are the views that read such a view.
+  A drop may make all views stale that read the dropped collection.
 
-The finds of a later session show what stands then, each view beside an aggregate of its pipeline, and each index beside a
+The finds of a later session show the state then: each view next to an aggregate of its pipeline, and each index next to a
 scan. In a run that meets no refusal every view is live at the end.
 
-Where a view is stale by a refusal, each later request is refused as well, in turn: so those of making it anew are too. One that
-is read while memory is wanting for it may stay stale, and one that was made anew stays so where the command is refused then.
+If a refusal makes a view stale, each later request is refused as well, in turn, so those for recomputing the view are refused
+too. If memory runs out while a view is recomputed for a read, it may stay stale. A view that was recomputed stays live if the
+command is then refused.
 
     python3 tools/check/refuse_allocations.py
     python3 tools/check/refuse_allocations.py --scripts "index,cursor"
@@ -43,8 +44,8 @@ MOST_CHANGES = 10  # more than a statement of these scripts makes
 
 
 def without_memory(store, usual, step):
-    """The ends that a command may come to where memory is wanting, in place of the usual one: the reply, and the store then.
-    Of a command that is refused no more stands than that views were made anew, older ones first."""
+    """How a command may end if memory runs out, instead of as usual: the reply, and the store then. A command that is refused may
+    have recomputed views, older ones first, and nothing else."""
     yield refused(WANT_OF_MEMORY), store
     after = store
     for place, view in store.views.items():
@@ -64,8 +65,8 @@ def without_memory(store, usual, step):
 
 
 def without_rows(store, after, step):
-    """The stores behind a command in which one view has found no memory for a change, or where a drop found none to tell of a
-    document that goes, and no view to which that comes has rows."""
+    """The stores after a command in which one view ran out of memory for a change, or after a drop that ran out of memory for
+    passing on the removal of a document, so that no view that the removal reaches has rows."""
     taken = [place for place, view in after.views.items()
              if place in store.views and store.views[place].is_live and store.views[place].ticks != view.ticks]
     for places in [[place] for place in taken] + [taken] * (read_document(body(step))[0][0] == b"drop"):
@@ -76,7 +77,7 @@ def without_rows(store, after, step):
 
 
 def lose(store, place):
-    """Has a view stale, and each that reads it."""
+    """Makes a view stale, and each view that reads it."""
     view = store.views[place]
     if view.is_live:
         view.lose()
@@ -85,13 +86,13 @@ def lose(store, place):
                 lose(store, name)
 
 
-# What a command may come to: its reply, the store then, whether it was refused or cut for want of memory, and how often memory
-# was wanting.
+# An outcome of a command: its reply, the store then, whether it was refused or cut because memory ran out, and how often memory
+# ran out.
 Outcome = namedtuple("Outcome", "reply after is_refused wants")
 
 
 def outcomes(store, step, wants):
-    """What a command may come to where memory is wanting so often at most."""
+    """The outcomes that a command may have if memory runs out this often at most."""
     usual = copy.deepcopy(store)
     reply = execute(usual, body(step), session=step.session)
     yield Outcome(reply, usual, False, 0)
@@ -106,8 +107,8 @@ def outcomes(store, step, wants):
 
 
 def fits(steps, said, store, is_cut, wants):
-    """Whether the lines are what the steps may print, where the script is cut or comes to its end, and want of memory
-    shows so often at most."""
+    """Whether the lines are what the steps may print, if the script is cut or runs to its end, and memory runs out this often
+    at most."""
     if not said and is_cut and wants:
         return True
     if not steps:
@@ -119,7 +120,7 @@ def fits(steps, said, store, is_cut, wants):
         return said[:1] == [b"%d end 0" % step.session] and fits(rest, said[1:], after, is_cut, wants)
     for one in outcomes(store, step, wants):
         line = [b"%d %s" % (step.session, messages.message(7, one.reply).hex().encode())] * (not step.flags & 2)
-        # Where no reply is sent, that a command was refused for want of memory is told by the end of the session alone.
+        # If no reply is sent, only the end of the session shows that a command was refused because memory ran out.
         is_told = not one.is_refused or not step.flags & 2
         if is_told and said[:len(line)] == line and fits(rest, said[len(line):], one.after, is_cut, wants - one.wants):
             return True
@@ -132,7 +133,7 @@ def fits(steps, said, store, is_cut, wants):
 
 
 class Trial:
-    """A script, each of whose requests is refused, and how want of memory showed."""
+    """A script whose requests are refused in turn, and how running out of memory showed."""
 
     def __init__(self, docd, name, steps):
         self.docd, self.name, self.steps = docd, name, steps
@@ -148,7 +149,7 @@ class Trial:
         print("%s: refused %s: status %d, %r, %r" % (self.name, numbers, ran.status, ran.told, ran.said))
 
     def refuse_each(self, first=()):
-        """Refuses each request behind the first that are refused, until a run meets no refusal more; how many these were."""
+        """Refuses each request after those in `first`, which are refused too, until a run has no such request. Returns how many."""
         start = number = sum(first) + 1
         while (ran := self.docd.run(self.script, [*first, number])).requests >= number:
             is_ended = (ran.status, ran.told) in ((0, b""), (1, b"docd: no memory\n"))
@@ -163,14 +164,14 @@ class Trial:
         return number - start
 
     def is_allowed(self, ran, wants):
-        """Whether a run may print what it did. Most refusals show in the ways of others, which are looked at once."""
+        """Whether a run may print what it did. Most runs print what another one printed, which is checked once."""
         printed = tuple(ran.said), ran.status == 1, wants
         if printed not in self.known:
             self.known[printed] = fits(self.steps, ran.said, Store(), ran.status == 1, wants)
         return self.known[printed]
 
     def kind(self, ran):
-        """How want of memory shows."""
+        """How running out of memory shows in a run."""
         if ran.status == 1:
             return "no memory"
         if any(line.endswith(b" closed 6") for line in ran.said):
@@ -186,14 +187,14 @@ STALE_VIEW = "a view stale"
 
 
 def has(line, text):
-    """Whether a line has these bytes in front of a zero."""
+    """Whether a line has these bytes followed by a zero."""
     return (text + b"\0").hex().encode() in line
 
 
 def main():
     options = argparse.ArgumentParser(description=__doc__, formatter_class=argparse.RawDescriptionHelpFormatter)
-    options.add_argument("--scripts", default="", help="words, joined by commas, of which the names of the scripts have one")
-    options.add_argument("--part", default="1/1", help="the first script and how many further on the next is, as 1/4")
+    options.add_argument("--scripts", default="", help="words joined by commas: the scripts whose names have one of them")
+    options.add_argument("--part", default="1/1", help="the first script, and how many further the next one is, such as 1/4")
     given = parsed(options, "refuse_allocations")
     wrong = refused_in_all = 0
     first, step = map(int, given.part.split("/"))

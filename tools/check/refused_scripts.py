@@ -5,7 +5,7 @@ from extended_json import value_of
 from model.values import spelling
 from spelled import message, script_lines
 
-# A message of a session, with the fields of its body, in pieces of so many bytes where that isn't 0; and its end.
+# A message of a session, with the fields of its body, sent in pieces of `piece` bytes unless that is 0; and the end of a session.
 Message = namedtuple("Message", "session fields flags piece", defaults=(0, 0))
 End = namedtuple("End", "session")
 
@@ -32,14 +32,14 @@ def insert(name, documents, ordered=True):
 
 
 def then(*commands):
-    """Commands on collections of which one is there already, and what they hold afterwards."""
+    """Commands on two collections, of which one is there already, and what both hold afterwards."""
     there = Message(0, insert("c", [{"_id": 2}, {"_id": 4, "x": "four"}]))
     finds = [Message(1, {"find": name, "$db": "t"}) for name in ("c", "d")]
     return [there, *commands, End(0), *finds, End(1)]
 
 
 def three(*commands):
-    """Commands on a collection of three documents and more, and what it holds afterwards."""
+    """Commands on a collection of five documents, and what it holds afterwards."""
     there = [{"_id": place, "n": 7 - place, "tags": ["t%d" % place, "all"], "in": {"a": place}} for place in range(1, 6)]
     return [Message(0, insert("c", there)), *commands, End(0), Message(1, {"find": "c", "$db": "t"}), End(1)]
 
@@ -56,8 +56,8 @@ THREE = [{"_id": place, "n": 7 - place, "tags": ["t%d" % place, "all"]} for plac
 
 
 def under(views, *commands, sources=(), there=THREE):
-    """Commands on two collections of which the first has these views, or a view that is named as one's source, and what these
-    tell and all hold afterwards."""
+    """Commands on a collection under these views, each over the collection or over the view that `sources` names for it; and
+    afterwards the viewStats and rows of the views, the collection's documents, and the views' pipelines as aggregates."""
     over = {**dict.fromkeys(views, "c"), **dict(sources)}
     made = [Message(0, {"create": name, "viewOn": over[name], "pipeline": stages, "$db": "t"}) for name, stages in views.items()]
     told = [Message(1, {"viewStats": name, "$db": "t"}) for name in views]
@@ -72,7 +72,7 @@ def viewed(*commands):
 
 
 def gathered(*commands):
-    """Commands under two views, one that groups and one that looks into another collection."""
+    """Commands under two views, one that groups and one that joins another collection."""
     fields = {"_id": "$tags", "n": {"$sum": "$n"}, "all": {"$push": "$_id"}, "least": {"$min": "$n"}}
     looked = {"from": "d", "localField": "n", "foreignField": "_id", "as": "d"}
     return under({"v": [{"$unwind": "$tags"}, {"$group": fields}], "w": [{"$lookup": looked}, {"$match": {"d.x": {"$exists": True}}}]},
@@ -80,7 +80,7 @@ def gathered(*commands):
 
 
 def summed(*commands):
-    """Commands under two views that add up, one of them all rows together."""
+    """Commands under two views that add up, one of them over all rows together."""
     return under({"v": [{"$group": {"_id": None, "t": {"$sum": "$n"}}}],
                   "w": [{"$unwind": "$tags"}, {"$group": {"_id": "$tags", "n": {"$sum": 1}, "most": {"$max": "$n"}}}]}, *commands)
 
@@ -92,7 +92,7 @@ def narrowed(*commands):
 
 
 def parents(*commands):
-    """Commands under a view that puts to each document those of the same collection that it names."""
+    """Commands under a view that joins each document with those of the same collection that it names."""
     looked = {"from": "c", "localField": "p", "foreignField": "_id", "as": "o"}
     return under({"v": [{"$lookup": looked}]}, *commands, there=[{"_id": 1, "p": 3}, {"_id": 2, "p": 1}])
 
@@ -104,14 +104,14 @@ def first_two(*commands):
 
 
 def itself(*commands):
-    """Commands under two views, one that looks into its own collection, and one of the first elements in order."""
+    """Commands under two views, one that joins its collection with itself, and one of the first elements in order."""
     looked = {"from": "c", "localField": "n", "foreignField": "_id", "as": "o"}
     return under({"v": [{"$lookup": looked}],
                   "w": [{"$unwind": "$tags"}, {"$sort": {"tags": 1, "n": -1}}, {"$limit": 2}]}, *commands)
 
 
 def stacked(*commands):
-    """Commands under three views, of which one is over the first, and one looks into it."""
+    """Commands under three views: the second is over the first, and the third joins its collection with the first."""
     looked = {"from": "v", "localField": "tags", "foreignField": "_id", "as": "o"}
     return under({"v": [{"$unwind": "$tags"}, {"$group": {"_id": "$tags", "n": {"$sum": "$n"}}}],
                   "w": [{"$match": {"n": {"$gte": 5}}}, {"$sort": {"n": -1}}], "x": [{"$lookup": looked}]},
@@ -122,8 +122,8 @@ BY_INDEX = {"n": {"$gte": 0}}, {"tags": "all"}, {"tags": {"$gte": ""}}
 
 
 def indexed(*commands):
-    """Commands on a collection with two indexes, and what a scan and finds by each of them show afterwards. What explains these
-    tells how many documents an index has there."""
+    """Commands on a collection with two indexes, and what a scan and finds by each index show afterwards. An explain of each
+    find by an index reports how many documents the index has there."""
     there = [{"_id": place, "n": 7 - place, "tags": ["t%d" % place, "all"]} for place in range(1, 4)]
     entries = [{"key": {name: 1}, "name": name + "_1"} for name in ("n", "tags")]
     made = {"createIndexes": "c", "indexes": entries, "$db": "t"}
@@ -134,7 +134,7 @@ def indexed(*commands):
 
 
 def unique(*commands):
-    """Commands on a collection with a unique index under a view, and what a scan, a find by the index and the view show."""
+    """Commands on a collection with a unique index and a view, and what a scan, a find by the index and the view show."""
     there = [{"_id": place, "n": [place, place + 3]} for place in range(1, 4)]
     made = {"createIndexes": "c", "indexes": [{"key": {"n": 1}, "name": "n_1", "unique": True}], "$db": "t"}
     view = {"create": "v", "viewOn": "c", "pipeline": [{"$unwind": "$n"}], "$db": "t"}

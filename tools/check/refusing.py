@@ -1,5 +1,5 @@
-"""Runs docd while its requests for memory are counted, and some of them are refused. Needs the kit, whose compiler and C library
-make what is loaded into docd."""
+"""Runs docd while its requests for memory are counted, and some of them are refused. Needs the kit: its compiler and C library
+make the library that is loaded into docd."""
 import os
 import subprocess
 import sys
@@ -8,8 +8,8 @@ from collections import namedtuple
 
 from kit import part
 
-# Counts the requests, and refuses those whose numbers REFUSE gives. It writes into the file COUNTED how many there were, those
-# that were refused among them: at each refusal, since a program that crashes of one writes nothing more, and at the end.
+# Counts the requests, and refuses those whose numbers REFUSE gives. It writes into the file COUNTED how many there were, with
+# those that were refused: at each refusal, since a program that crashes because of it writes nothing more, and at the end.
 SHIM = r"""
 /* The kit has no headers. */
 typedef unsigned long size_t;
@@ -59,13 +59,13 @@ void *realloc(void *old, size_t size) {
 }
 """
 
-# The exit status, standard output's lines, standard error, and how many requests there were; where a signal ended the program, how
+# The exit status, standard output's lines, standard error, and how many requests there were; if a signal ended the program, how
 # many up to the last refusal.
 Ran = namedtuple("Ran", "status said told requests")
 
 
 class Refusing:
-    """A program, and the folder that has what is loaded into it. It is given up at the end of a `with` block."""
+    """A program, and the folder with the library that is loaded into it. The folder is removed at the end of a `with` block."""
 
     def __init__(self, program):
         self.program, self.folder = program, tempfile.TemporaryDirectory()
@@ -84,7 +84,7 @@ class Refusing:
         self.folder.cleanup()
 
     def run(self, script, numbers=()):
-        """Runs a script of which the requests of these numbers are refused: none, one, or two in rising order."""
+        """Runs a script and refuses the requests with these numbers: none, one, or two in ascending order."""
         open(self.counted, "w", encoding="ascii").close()
         env = dict(os.environ, LD_PRELOAD=self.shim, REFUSE=" ".join(map(str, numbers)), COUNTED=self.counted)
         done = subprocess.run([self.program, "run", "--hex"], input=script, capture_output=True, env=env)

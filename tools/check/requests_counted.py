@@ -2,11 +2,11 @@
 """Counts the allocations of one insert under a view of a thousand rows, and of one find on such a view: a stage that recomputes all
 its rows makes too many.
 
-Needs the kit and the built program (`./docd run < /dev/null` builds one). A collection has the documents {_id: i, k: i}, i from 1 to 1,000,
-under one view. docd runs with a last insert of {_id: 1001, k: 1001} and without it, and then also with a find of one row of the
-view. The least number of a request that a run doesn't meet may be 500 higher with the insert, and with the find. So a stage
-that makes all its rows anew for one change stands out, and so does a find that does. What each run shows last is that the view
-is live, with as many rows as it has to have; else the exit status is 1 too.
+Needs the kit and the built program (`./docd run < /dev/null` builds one). A collection has the documents {_id: i, k: i}, i from 1
+to 1,000, under one view. docd runs with a last insert of {_id: 1001, k: 1001} and without it, and then also with a find of one row
+of the view. The insert may add at most 500 requests for memory to a run, and so may the find. So a stage that recomputes all its
+rows for one change is detected, and so is a find that does. At its end each run has to show that the view is live, with as many
+rows as it has to have. If not, or if there are too many requests, the exit status is 1.
 
     python3 tools/check/requests_counted.py
     python3 tools/check/requests_counted.py --program crates/docd/out/docd
@@ -27,7 +27,7 @@ ROWS = 1_000
 MOST = 500  # requests that one command may take
 JOINED = {"from": "c", "localField": "k", "foreignField": "_id", "as": "o"}
 
-# The stages of a view, how many rows they leave of so many, and what a find of one of them asks.
+# The stages of a view, how many rows they make of a number of documents, and the fields of a find of one of these rows.
 View = namedtuple("View", "stages rows find", defaults=[{"limit": 1}])
 
 VIEWS = {
@@ -48,7 +48,7 @@ def insert(documents):
 
 
 def lines(commands):
-    """The lines of a script that bring these commands, and at the end one that asks how the view stands."""
+    """The lines of a script that send these commands, and a viewStats at the end."""
     asked = [*commands, {"viewStats": "v"}]
     bodies = [spelling(value_of({**one, "$db": "t"})[1]) for one in asked]
     return b"".join(line + b"\n" for body in bodies for line in script_lines(0, message(body)))
@@ -64,8 +64,8 @@ class Under:
         self.inserted = [*self.begin, insert([row(ROWS + 1)])]
 
     def least_unmet(self, commands, rows):
-        """The least number of a request that a run of the commands doesn't meet; none where the view isn't live with what it
-        has to have of so many rows."""
+        """The least number of a request that a run of the commands doesn't make; None if the view isn't live, with the rows that it
+        must have over this many documents."""
         ran = self.docd.run(lines(commands))
         told = json_of(DOCUMENT, answer(bytes.fromhex(ran.said[-1].split()[1].decode()))) if ran.said else {}
         shown = told.get("state"), told.get("rows")
@@ -73,7 +73,7 @@ class Under:
         return ran.requests + 1 if is_right else None
 
     def taken(self):
-        """What each last command takes, by what it is: its requests."""
+        """How many requests each last command makes, by what it is; None if a run went wrong."""
         steps = [("without", self.begin, ROWS), ("an insert", self.inserted, ROWS + 1),
                  ("a find", [*self.inserted, {"find": "v", **self.view.find}], ROWS + 1)]
         least = [self.least_unmet(commands, rows) for _, commands, rows in steps]

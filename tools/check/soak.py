@@ -1,27 +1,27 @@
 #!/usr/bin/python3
-"""Lets a docd work for fifty clients at once, for an hour, and checks that its views stay right and its memory bounded.
+"""Has a docd serve fifty clients at once, for an hour, and checks that its views stay right and its memory bounded.
 
-Needs the built program (./docd run < /dev/null), and Linux, which tells a process's memory in /proc. The clients, each on a
+Needs the built program (./docd run < /dev/null), and Linux, whose /proc says how much memory a process has. The clients, each on a
 thread and a connection of its own, insert, update and delete at random in two collections with indexes, one of them unique,
-under views of every stage and views over these, and read between (`tools/check/making/orders.py`). They are of few lines, or with
-`--driver` MongoDB's driver for C (`tools/check/driver.py`), whose own calls write and go through cursors. The number of documents
-stays between bounds.
+under views of every stage and views over these, and read in between (`tools/check/making/orders.py`). They are a few lines of
+Python, or with `--driver` MongoDB's driver for C (`tools/check/driver.py`), whose own calls write and read cursors. The number of
+documents stays between bounds.
 
-While they write, four others compare views that no write has come to in between: each sends in one piece a viewStats, a find, an
-aggregate of the view's pipeline and a viewStats. Where both tell the same ticks, the find and the aggregate have to give the
-same rows, and so many as viewStats tells. Behind every thousand writes or so all clients rest, and
+While they write, four others compare views: each sends in one piece a viewStats, a find, an aggregate of the view's pipeline and a
+viewStats. If both viewStats report the same ticks, no write has reached the view in between. Then the find and the aggregate have
+to return the same rows, as many as viewStats reports. After every thousand writes or so all clients rest, and
 
 - each view's rows, by a find and all its batches, have to be those of an aggregate of the same pipeline;
-- viewStats has to tell `live` and so many rows, in front of the find and behind it;
-- a find by each index has to give what a `$match` gives;
-- no two documents share a key of the unique index;
-- a view that none reads is dropped and made anew, at times a collection too, and some clients connect anew.
+- viewStats has to report `live` and as many rows, before and after the find;
+- finds by indexes have to return what a `$match` returns;
+- no two documents may share a key of the unique index;
+- a view that no other view reads is dropped and made again, at times a collection too, and some clients connect again.
 
-Every reply has to be right, but for an `_id` or a key of the unique index that is there, and every connection has to end without
-a fault. The greatest memory that is resident in the last quarter of the time may be 5 % over that of the second. The first
-difference is printed, and the exit status is 1. So it is where memory grew.
+Every reply has to report success, except for an `_id` or a key of the unique index that is there already, and every connection
+has to end without a fault. The greatest memory that is resident in the last quarter of the time may be 5 % above that in the
+second. The first difference is printed, and the exit status is then 1. It is 1 too if memory grew.
 
-With `--documents` there are so many orders, and the requests are those of a day's traffic (`tools/check/traffic.py`).
+With `--documents` there are as many orders as it says, and the requests are those of a day's traffic (`tools/check/traffic.py`).
 
     python3 tools/check/soak.py
     python3 tools/check/soak.py --driver --clients 20 --seconds 600 --seed 7 --program crates/docd/out/docd
@@ -47,12 +47,12 @@ from traffic import Traffic, table
 A_ROUND = 1_000  # writes of all clients from one rest to the next
 COMPARERS = 4  # that compare while the clients write
 MOST_CURSORS = 15  # of a client
-SOME_ROWS = [1, 11, 102, 300]  # of a cursor, in batches of which some end in front of the last of these
+SOME_ROWS = [1, 11, 102, 300]  # read of a cursor; some batches end just before the last of these rows
 GROWN = 1.05
-FEW = 10  # looks at its memory in a quarter, with fewer of which it tells nothing
+FEW = 10  # measurements of its memory in a quarter; fewer say nothing
 MOST_SHOWN = 20_000  # characters of a difference
 QUARTERS = 4
-A_TURN = 0.0005  # seconds that a thread of this program goes on while others wait
+A_TURN = 0.0005  # seconds that a thread of this program runs while others wait
 
 
 class Worker(Client):
@@ -79,7 +79,7 @@ class Worker(Client):
         self.seen["updates refused"] += "update" in command and "writeErrors" in reply
 
     def read(self):
-        """Reads some rows, and keeps the cursor; where there are many, they go."""
+        """Reads some rows, and keeps the cursor. If there are too many cursors, all are closed."""
         with self.lock:
             command, most = self.orders.read(), self.orders.rng.choice(SOME_ROWS)
         cursor = self.client.opened(command)
@@ -93,7 +93,7 @@ class Worker(Client):
 
 
 class Few(Soak):
-    """Clients at work over few documents, with rests for comparisons of all."""
+    """Clients at work on few documents, with rests for comparisons of all."""
 
     client_type = Worker
 
@@ -103,7 +103,7 @@ class Few(Soak):
         self.comparers = [Comparer(docd.port, itertools.cycle(views[at:] + views[:at])) for at in range(COMPARERS)]
 
     def work(self, seconds):
-        """Writes, reads and comparisons for so many seconds; the memory at each rest, by quarters of them."""
+        """Writes, reads and compares for this many seconds. Returns the memory at each rest, by quarters of this time."""
         start, memory = time.monotonic(), [[] for _ in range(QUARTERS)]
         with ThreadPoolExecutor(len(self.workers) + COMPARERS) as threads:
             while (passed := time.monotonic() - start) < seconds:
@@ -114,7 +114,7 @@ class Few(Soak):
         return memory
 
     def work_together(self, threads):
-        """So many writes of all clients, beside comparisons."""
+        """A round of writes of all clients, while others compare."""
         is_over, writes = threading.Event(), -(-A_ROUND // len(self.workers))
         comparing = [threads.submit(one.work, is_over) for one in self.comparers]
         try:
@@ -128,10 +128,10 @@ class Few(Soak):
     def compare(self):
         """Compares all while nobody writes."""
         for view, (source, pipeline) in self.orders.views.items():
-            self.told(view)
+            before = self.told(view)
             rows = self.first.rows({"find": view})
             self.same(view, rows, {"aggregate": source, "pipeline": pipeline, "cursor": {}})
-            if self.told(view) != len(rows):
+            if {before, self.told(view)} != {len(rows)}:
                 raise Difference("viewStats counts other rows of %s than its %d" % (view, len(rows)))
         for _ in range(5):
             query = self.orders.query_by_index()
@@ -150,7 +150,7 @@ class Few(Soak):
             raise Difference("%s: %r, but %r" % (name, rows, others))
 
     def begin_anew(self):
-        """A view is made anew, and at times a collection; some clients connect anew, whose sessions have no cursors yet."""
+        """Makes a view again, and at times a collection. Some clients connect again; their sessions have no cursors yet."""
         self.make_view_anew()
         if self.orders.often(0.3):
             collection = self.orders.rng.choice(list(INDEXES))
@@ -162,19 +162,19 @@ class Few(Soak):
 
 
 def has_grown(memory):
-    """Whether the last quarter took more memory than the second; not told where there were few looks at it."""
+    """Whether the last quarter took more memory than the second; False if there were few measurements."""
     return min(map(len, memory)) >= FEW and max(memory[1]) * GROWN < max(memory[3])
 
 
 def soak_few(docd, given):
-    """Works over few documents; the memory by quarters of the time, and what was seen."""
+    """Works on few documents. Returns the memory by quarters of the time, and how much was done."""
     client = Driven if given.driver else Plain
     soak = Few(docd, lambda: client(docd.port, DATABASE), given.clients, Orders(given.seed))
     return soak.work(given.seconds), soak.close()
 
 
 def soak_many(docd, given):
-    """The same over many documents. Prints how long each kind of request took."""
+    """The same on many documents. Prints how long each kind of request took."""
     pool = Pool(docd.port, b"&maxPoolSize=%d" % given.clients) if given.driver else None
     connecting = (lambda: pool.client(DATABASE)) if pool else (lambda: Plain(docd.port, DATABASE))
     traffic = Traffic(docd, connecting, given.clients, Requests(given.seed, given.documents), pool)
@@ -189,10 +189,10 @@ def soak_many(docd, given):
 def main():
     options = argparse.ArgumentParser(description=__doc__, formatter_class=argparse.RawDescriptionHelpFormatter)
     options.add_argument("--seed", type=int, default=1)
-    options.add_argument("--seconds", type=float, default=3_600, help="how long they work")
-    options.add_argument("--clients", type=int, default=50, help="how many")
+    options.add_argument("--seconds", type=float, default=3_600, help="how long the clients work")
+    options.add_argument("--clients", type=int, default=50, help="how many clients")
     options.add_argument("--driver", action="store_true", help="the clients are MongoDB's driver for C; with --documents its pool")
-    options.add_argument("--documents", type=int, help="so many orders, and a day's traffic")
+    options.add_argument("--documents", type=int, help="how many orders there are; the requests are then a day's traffic")
     options.add_argument("--every", type=float, default=60, help="seconds of traffic from one comparison of all to the next")
     given = parsed(options, "soak")
     let_open_many()

@@ -1,5 +1,5 @@
-"""What `soak.py` and `traffic.py` share: clients at work on one docd under views, how right replies are told, and comparisons of
-views with their pipelines while clients write."""
+"""What `soak.py` and `traffic.py` share: clients at work on one docd under views, checks of replies, and comparisons of views with
+their pipelines while clients write."""
 import struct
 import threading
 from collections import Counter
@@ -12,13 +12,13 @@ from model.values import DOCUMENT, int32
 from served import Served
 
 DUPLICATE_KEY = 11000
-ALL = 2**31 - 1  # as many rows in a batch as its bytes let
+ALL = 2**31 - 1  # as many rows in a batch as its bytes allow
 DATABASE = "t"
 BATCH = b"Batch\0"  # how the name of a batch ends
-CURSOR = b"\x12id\0"  # the name of the cursor, behind it
-A_PAUSE = 0.02  # seconds from one comparison beside writes to the next
+CURSOR = b"\x12id\0"  # the type and name of the cursor, which follows the batch
+A_PAUSE = 0.02  # seconds from one comparison during writes to the next
 AROUND = 500  # bytes of a batch that are shown around a difference
-END = {"$numberLong": "0"}  # the cursor where no rows are left
+END = {"$numberLong": "0"}  # the cursor if no rows are left
 
 
 class Difference(Exception):
@@ -26,7 +26,7 @@ class Difference(Exception):
 
 
 class Plain(Served):
-    """A connection of few lines: it asks for each batch of rows itself."""
+    """A simple connection: it asks for each batch of rows itself."""
 
     def __init__(self, port, database):
         super().__init__(port)
@@ -67,14 +67,14 @@ class Cursor:
 
 
 def right(command, reply):
-    """A reply, which has to be a right one."""
+    """Returns a reply, which has to report success; only duplicate keys may be refused in it."""
     if reply["ok"] != 1 or any(error["code"] != DUPLICATE_KEY for error in reply.get("writeErrors", [])):
         raise Difference("%r is answered %r" % (command, reply))
     return reply
 
 
 def rows_told(stats):
-    """How many rows viewStats tells of a view, which has to be live."""
+    """How many rows viewStats reports of a view, which has to be live."""
     if stats["state"] != "live":
         raise Difference("a view is not live: viewStats returns %r" % stats)
     return int(stats["rows"]["$numberLong"])
@@ -93,7 +93,7 @@ def span_of_batch(reply):
 
 
 def batch_in(reply):
-    """The bytes of that array."""
+    """The bytes of the array of rows in such a reply."""
     start, end = span_of_batch(reply)
     return reply[start:end]
 
@@ -108,7 +108,7 @@ def rows_in(batch):
 
 
 def batches(ask, name, command):
-    """The bytes of each batch of all rows of a find or an aggregate from what has this name. `ask` gives a reply's bytes."""
+    """The bytes of each batch of all rows of a find or an aggregate over what has this name. `ask` returns a reply's bytes."""
     while command:
         reply = ask(command)
         start, end = span_of_batch(reply)
@@ -122,12 +122,12 @@ def find_all(view):
 
 
 def make_all(source, pipeline):
-    """The command that makes all rows of a pipeline anew."""
+    """The command that computes all rows of a pipeline again."""
     return {"aggregate": source, "pipeline": pipeline, "cursor": {"batchSize": ALL}}
 
 
 def same_rows(ask, view, source, pipeline):
-    """How many rows a view has, which have to be those of its pipeline. Nobody may write meanwhile."""
+    """How many rows a view has. They have to be those of its pipeline. Nobody may write meanwhile."""
     count = 0
     for found, made in zip_longest(batches(ask, view, find_all(view)), batches(ask, source, make_all(source, pipeline)), fillvalue=b""):
         if found != made:
@@ -140,14 +140,14 @@ def same_rows(ask, view, source, pipeline):
 
 
 class Client:
-    """A client, which works while others do. The orders are made under a lock."""
+    """A client that works while others do. All share `orders`, under a lock."""
 
     def __init__(self, connecting, orders, lock):
         self.connecting, self.orders, self.lock, self.seen = connecting, orders, lock, Counter()
         self.connect()
 
     def connect(self):
-        """Connects at once, where a driver would wait for the first command."""
+        """Connects at once: without the ping, a driver would wait for the first command."""
         self.client = self.connecting()
         self.ask({"ping": 1})
 
@@ -167,8 +167,8 @@ class Client:
 
 
 class Comparer:
-    """Compares rows of views with what their pipelines make, while others write. Each turn of `pairs` gives a view, a find in it,
-    and the aggregate that has to give the same rows."""
+    """Compares rows of views with what their pipelines make, while others write. Each element of `pairs` is a view, a find in it,
+    and the aggregate that has to return the same rows."""
 
     def __init__(self, port, pairs):
         self.client, self.pairs, self.seen = Plain(port, DATABASE), pairs, Counter()
@@ -189,7 +189,7 @@ class Comparer:
 
 
 class Soak:
-    """Clients at work on a docd under views, and what was seen of it. They come out of a pool, or connect one by one."""
+    """Clients at work on a docd under views, and how much was done. They are taken from a pool, or connect one by one."""
 
     client_type = Client
 
@@ -205,13 +205,13 @@ class Soak:
         return rows_told(self.first.ask({"viewStats": view}))
 
     def make_view_anew(self):
-        """Makes a view anew that none reads."""
+        """Drops a view that no other view reads, and makes it again."""
         view = self.orders.rng.choice([one for one in self.orders.views if one not in READ])
         self.first.ask({"drop": view})
         self.first.ask(self.orders.making(view))
 
     def connect_anew(self):
-        """Some clients connect anew."""
+        """Has some clients close and connect again."""
         for worker in self.orders.rng.sample(self.workers, -(-len(self.workers) // 10)):
             worker.client.close()
             worker.connect()
@@ -219,13 +219,13 @@ class Soak:
         self.look_at_ends()
 
     def look_at_ends(self):
-        """All connections that were closed have to have ended by that."""
+        """Checks that all connections that were closed ended without a fault."""
         fates = self.docd.fates_of(self.closed)
         if fates != ["ended"] * self.closed:
             raise Difference("connections end so: %s" % Counter(fates))
 
     def close(self):
-        """Ends all connections, and gives what was seen. A pool has one more than clients, which looks for the server."""
+        """Ends all connections, and returns how much was done. A pool has one more than clients, to look for the server."""
         for one in [*self.workers, *self.comparers]:
             one.client.close()
             self.closed += 1

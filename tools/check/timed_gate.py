@@ -1,13 +1,13 @@
 #!/usr/bin/python3
-"""Times the proofs: runs `rt ci`, and notes the processor time of each crate's proof and edits in tools/proof_seconds.txt, from which
-tools/build.py forecasts, and in the table of docs/GATE.md. The proof of a crate with tests includes theirs. It is to run alone on
-the machine, or the figures are too high. A gate that fails notes nothing.
+"""Times the proofs: runs `rt ci`, and writes the processor time of each crate's proof and edits to tools/proof_seconds.txt, from
+which tools/build.py forecasts, and to the table of docs/GATE.md. The proof of a crate with tests includes theirs. Run it alone on
+the machine, or the figures are too high. A gate that fails changes no file.
 
-What the gate says goes to its own standard output as it comes. Needs Linux, which tells in /proc what a process and its
-children took; it is looked at each second, so that at most the last second of a process is lost.
+The gate's output goes to this tool's standard output as it comes. Needs Linux, whose /proc says how much processor time a process
+and its children took. It is read each second, so at most the last second of a process is lost.
 
     tools/check/timed_gate.py > /tmp/gate.txt
-    tools/check/timed_gate.py --table             only writes the table anew, with the lines that the crates have now
+    tools/check/timed_gate.py --table             only writes the table again, with the lines that the crates have now
 """
 import argparse
 import os
@@ -24,7 +24,7 @@ ROOT = pathlib.Path(__file__).resolve().parent.parent.parent
 A_LOOK = 1  # seconds from one look at the processes to the next
 TICKS = os.sysconf("SC_CLK_TCK")
 EDITS, TESTS, PROOF = "edits", "tests", "proof"
-TAKES_EDITS = "rt-edits-"  # in the words of a check of an edit: the folder in which a crate's edits share their work
+TAKES_EDITS = "rt-edits-"  # in the command line of a check of an edit: the folder in which a crate's edits share their work
 SECONDS = ROOT / "tools" / "proof_seconds.txt"
 PAGE = ROOT / "docs" / "GATE.md"
 LINE = "| `%s` | %s | %s | %s | %s | %s | %s |"
@@ -55,7 +55,7 @@ def words_of(number):
 
 
 def task_of(words):
-    """The crate and the part of the gate that a check of these words is for, or None."""
+    """The crate and the part of the gate that a check with this command line is for, or None."""
     if "--crate-name" not in words:
         return None
     crate = words[words.index("--crate-name") + 1]
@@ -71,7 +71,7 @@ class Looks:
         self.gate, self.tasks, self.seconds = gate, {}, {}
 
     def look(self):
-        """Notes what each of the gate's children took up to now, those that it started in turn among it."""
+        """Notes how much each of the gate's children took up to now, with the processes that it started in turn."""
         seen = processes()
         below = {}
         for number, process in seen.items():
@@ -84,7 +84,7 @@ class Looks:
             self.seconds[key] = max(self.seconds.get(key, 0), taken(child, seen, below))
 
     def by_task(self):
-        """The seconds of each crate's proof, tests and edits; what belongs to none stands under None."""
+        """The seconds of each crate's proof, tests and edits; what belongs to none is under None."""
         sums = Counter()
         for key, seconds in self.seconds.items():
             sums[self.tasks.get(key)] += seconds
@@ -97,7 +97,7 @@ def taken(number, seen, below):
 
 
 def lines_in(crate, part):
-    """How many lines that aren't empty stand below a folder of a crate."""
+    """How many lines the files below a folder of a crate have, without empty ones."""
     files = [it for it in (ROOT / "crates" / crate / part).rglob("*") if it.suffix in (".rt", ".antt")]
     return sum(1 for it in files for line in it.read_text().splitlines() if line.strip())
 
@@ -108,13 +108,13 @@ def names():
 
 
 def known():
-    """The seconds of each crate's proof and of its edits, as they are noted."""
+    """The seconds of each crate's proof and of its edits, as tools/proof_seconds.txt has them."""
     lines = SECONDS.read_text().splitlines() if SECONDS.exists() else []
     return {name: (int(proof), int(edits)) for name, proof, edits in map(str.split, lines)}
 
 
 def note(sums):
-    """Notes the seconds of a gate. A crate that it took over from an earlier run, and so didn't prove, keeps its figures."""
+    """Writes the seconds of a gate. A crate that the gate took over from an earlier run, and so didn't prove, keeps its figures."""
     figures = known()
     for name in names():
         if sums[name, PROOF]:
@@ -133,14 +133,14 @@ def table():
 
 
 def write_table():
-    """Puts the table into the page in the place of the one there."""
+    """Replaces the table in the page."""
     rows = re.compile(re.escape(HEAD[0]) + r"\n(\|.*\n)+")
     PAGE.write_text(rows.sub(lambda _: "\n".join(table()) + "\n", PAGE.read_text()))
 
 
 def main():
     options = argparse.ArgumentParser(description=__doc__, formatter_class=argparse.RawDescriptionHelpFormatter)
-    options.add_argument("--table", action="store_true", help="only write the table anew")
+    options.add_argument("--table", action="store_true", help="only write the table again")
     if options.parse_args().table:
         return write_table()
     if not shutil.which("rt"):

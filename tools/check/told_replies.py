@@ -1,7 +1,7 @@
-"""The replies that comments in examples/*.hex tell, beside those of docd and of the model.
+"""The replies that comments in examples/*.hex state, next to those of docd and of the model.
 
-Above a message stands `the reply is {..}.`, or `the reply, {..}, ..`, or `the reply's documents are:` with these behind it. What else is
-told of a reply is not looked at.
+The comment above a message says `the reply is {..}.`, or `the reply, {..}, ..`, or `the reply's documents are:` followed by the
+documents. What else it says of a reply is not checked.
 """
 import glob
 import os
@@ -31,7 +31,7 @@ def documents_in(fields):
 
 
 def told_of(comment):
-    """What a comment tells of a reply, and what of the reply that has to be; nothing where it tells neither."""
+    """The reply or documents that a comment states, and what takes these from a reply; None if it states neither."""
     if found := WHOLE.search(comment):
         return whole(fields_of(found[1] or found[2])), whole
     if found := DOCUMENTS.search(comment):
@@ -40,7 +40,7 @@ def told_of(comment):
 
 
 def comments_in(script):
-    """For each line that brings something the comment above it."""
+    """For each line that is neither empty nor a comment, the comment above it."""
     comment = []
     for line in script.splitlines():
         if line.startswith("#"):
@@ -52,13 +52,13 @@ def comments_in(script):
 
 
 def read(line, part):
-    """A part of a reply that was printed, or the line where there is no reply."""
+    """A part of a reply that was printed, or the line itself if it is no reply."""
     digits = line.partition(" ")[2]
     return part(answer(bytes.fromhex(digits))) if re.fullmatch("[0-9a-f]{52,}", digits) else line
 
 
 def replies_told(program):
-    """For each reply that is told, its script, its number there, what is told, and what docd and the model say."""
+    """For each reply that is stated: its script, its number there, what is stated, and what docd and the model return."""
     for path in sorted(glob.glob(SCRIPTS)):
         with open(path, "rb") as file:
             script = file.read()

@@ -1,20 +1,20 @@
-"""A day's traffic over many documents, for `soak.py`: fifty clients at once insert, update and delete, go by pages through the
-orders and views by `_id`, run pipelines over a few documents, and read views by key (`tools/check/making/requests.py`).
+"""A day's traffic over many documents, for `soak.py`: fifty clients at once insert, update and delete, read the orders and views
+page by page in the order of `_id`, run pipelines over a few documents, and read views by key (`tools/check/making/requests.py`).
 
-So many orders are inserted first, under indexes and all views of `tools/check/making/orders.py`, and about so many stay. While the
-clients work, one more compares a few rows of views with what their pipelines make of the orders with the same `_id`s. Each minute
-(`--every`) all rest, and
+First as many orders as `--documents` says are inserted, under indexes and all views of `tools/check/making/orders.py`, and their
+number stays about the same. While the clients work, one more compares a few rows of views with what their pipelines make of the
+orders with the same `_id`s. Each minute (`--every`) all rest, and
 
-- all rows of each view, by a find and all its batches, have to be those of an aggregate of its pipeline, byte for byte, and so many
-  as viewStats tells of the view, which has to be live;
-- there have to be so many orders as were inserted and not deleted, as the replies told, and no two may share a key of the unique
-  index;
-- pages have to be what one find of all of them gives;
-- a view that none reads is dropped and made anew, and some clients connect anew.
+- all rows of each view, by a find and all its batches, have to be those of an aggregate of its pipeline, byte for byte, and as many
+  as viewStats reports of the view, which has to be live;
+- there have to be as many orders as were inserted and not deleted according to the replies, and no two may share a key of the
+  unique index;
+- pages have to be what one find of all of them returns;
+- a view that no other view reads is dropped and made again, and some clients connect again.
 
-At the end a table tells of each kind of request how many there were, and how long a client waited, in milliseconds. That is the
-time for which other clients are served too, and the time that Python takes to write the command and read the reply: a ping takes
-that and nothing else. Those of the comparisons come one at a time, with nothing beside them.
+At the end a table says for each kind of request how many there were, and how long a client waited, in milliseconds. That includes
+the time in which other clients are served, and the time that Python takes to write the command and read the reply: a ping takes
+that and nothing else. Requests of the comparisons are sent one at a time, while nothing else runs.
 """
 import itertools
 import sys
@@ -27,10 +27,10 @@ from making.orders import UNIQUE
 from making.requests import A_FILLING, A_PAGE, IN_ORDER
 from soaking import Client, Comparer, Difference, Soak, batches, find_all, make_all, rows_in, same_rows
 
-# How often each comes.
+# The kinds of requests, and how often each is chosen.
 KINDS = {"write": 10, "go_through": 1, "aggregate": 3, "by_key": 5, "ping": 1}
-PAGES = 5  # that are gone through at once
-LOOKS = 10  # at its memory while it is filled
+PAGES = 5  # that a client reads one after the other
+LOOKS = 10  # measurements of docd's memory while it is filled
 PARTS = {"median": 0.5, "99 %": 0.99, "slowest": 1}
 
 
@@ -48,14 +48,14 @@ class Timer:
 
 
 class Worker(Client):
-    """A client, with what its requests took."""
+    """A client, with how long its requests took."""
 
     def __init__(self, connecting, orders, lock):
         self.timer = Timer()
         super().__init__(connecting, orders, lock)
 
     def made(self, make, *operands):
-        """A command, which the orders make."""
+        """A command that `orders` makes."""
         with self.lock:
             return make(*operands)
 
@@ -71,7 +71,7 @@ class Worker(Client):
         self.seen["documents written"] += reply.get("nModified", reply.get("n", 0))
 
     def go_through(self):
-        """Some pages, one behind the other."""
+        """Reads some pages, one after the other."""
         name = self.made(self.orders.rng.choice, IN_ORDER)
         last = self.made(self.orders.identity, "orders")
         for _ in range(PAGES):
@@ -92,7 +92,7 @@ class Worker(Client):
 
 
 class Traffic(Soak):
-    """Clients at work over many documents."""
+    """Clients at work on many documents."""
 
     client_type = Worker
 
@@ -102,7 +102,7 @@ class Traffic(Soak):
         self.plain = self.comparers[0].client
 
     def load(self):
-        """Inserts the documents, and tells how much memory they take."""
+        """Inserts the documents, and prints how much memory they take."""
         for command in self.orders.filling("shelves"):
             self.first.ask(command)
         wanted, count = self.orders.wanted["orders"], 0
@@ -113,7 +113,7 @@ class Traffic(Soak):
                 print("%d orders: %d kB resident" % (count, self.docd.memory() >> 10), flush=True)
 
     def work(self, seconds, every, quarters):
-        """Traffic and comparisons for so many seconds; the memory each second, by quarters of them."""
+        """Traffic and comparisons for this many seconds. Returns the memory each second, by quarters of this time."""
         start, memory = time.monotonic(), [[] for _ in range(quarters)]
         with ThreadPoolExecutor(len(self.workers) + len(self.comparers)) as threads:
             while (passed := time.monotonic() - start) < seconds:
@@ -125,12 +125,12 @@ class Traffic(Soak):
         return memory
 
     def tell(self, seconds):
-        """Tells how far the traffic is, on standard error."""
+        """Prints how far the traffic is, on standard error."""
         print("soak: no difference in %d s, after %d requests; %d kB resident" % (
             seconds, sum(map(len, self.times().values())), self.docd.memory() >> 10), file=sys.stderr, flush=True)
 
     def work_together(self, threads, seconds, memory):
-        """Traffic for so many seconds, unless a client ends."""
+        """Traffic for this many seconds, or until a client ends."""
         is_over, end = threading.Event(), time.monotonic() + seconds
         working = [threads.submit(one.work, is_over) for one in [*self.workers, *self.comparers]]
         try:
@@ -143,7 +143,7 @@ class Traffic(Soak):
             one.result()
 
     def asked(self, command):
-        """The bytes of a reply, while nobody else is at work."""
+        """The bytes of a reply, while no other client works."""
         (reply,) = self.timer.timed("%s, alone" % next(iter(command)), self.plain.ask_together, [command])
         return reply
 
@@ -163,7 +163,7 @@ class Traffic(Soak):
             self.compare_pages(name)
 
     def count_of(self, command):
-        """How many rows a find or an aggregate over the orders gives."""
+        """How many rows a find or an aggregate over the orders returns."""
         return sum(map(rows_in, batches(self.asked, "orders", command)))
 
     def compare_pages(self, name):
@@ -185,7 +185,7 @@ class Traffic(Soak):
 
 
 def table(times):
-    """The lines that tell of each kind of request how many there were, and what they took."""
+    """The lines that say for each kind of request how many there were, and how long they took."""
     yield "%-24s %9s %s" % ("milliseconds of", "requests", " ".join("%10s" % name for name in PARTS))
     for kind, some in sorted(times.items()):
         some.sort()

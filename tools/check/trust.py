@@ -1,14 +1,15 @@
 #!/usr/bin/python3
-"""Keeps what has to be believed in crates/*/specs, and all other definitions and lemmas in crates/*/specs/Inner.
+"""Checks that crates/*/specs has what has to be believed, and crates/*/specs/Inner all other definitions and lemmas.
 
-A definition has to be believed if a contract or law that users rely on names it, or another definition that has to be believed:
+A definition has to be believed if another definition that has to be believed names it, or a contract or law that users rely on:
 a clause of a public function, a ghost member of a public trait, or what the values of a public type are. Lemmas are proved, and
 invariants and codings of types only serve proofs. tools/check/trust.txt says on which crates users rely.
 
     tools/check/trust.py                   how many files and lines are outer and inner, by crate
-    tools/check/trust.py --check           fails where an outer file imports an inner one, or a file stands in the wrong folder
+    tools/check/trust.py --check           fails if an outer file imports an inner one, a file is in the wrong folder, or
+                                           docs/DEFINITIONS.md is not what --definitions writes
     tools/check/trust.py --definitions     writes docs/DEFINITIONS.md from the comments of the outer files
-    tools/check/trust.py --why NAME        tells which contract or law makes this definition one that has to be believed
+    tools/check/trust.py --why NAME        prints the contract or law because of which this definition has to be believed
 """
 import argparse
 import pathlib
@@ -45,7 +46,7 @@ class Trust:
         return sum(count(self.parts(file)[0]) for file in self.all.files.values())
 
     def of_program(self):
-        """How many lines the user of the program alone has to believe."""
+        """How many lines a user of only the program has to believe."""
         causes, believed = self.causes, self.believed
         self.causes = {}
         self.believed = self._believed(self.given.program)
@@ -66,7 +67,7 @@ class Trust:
         return {id(self.all.owner[pair]) for pair in self.causes}
 
     def _clauses(self, doors):
-        """The clauses of these crates, and of what they pass on of others."""
+        """The clauses of these crates, and of what they re-export from others."""
         left = [(name, None) for name in self.all.crates if name in doors]
         while left:
             crate = contracts.Crate(self.all.root, *left.pop(0))
@@ -74,7 +75,7 @@ class Trust:
             left += crate.passed_on().items()
 
     def why(self, name):
-        """For each definition of a name that has to be believed, what names it, up to a contract."""
+        """For each definition of a name that has to be believed, what names it, what names that, and so on up to a contract."""
         for pair in [pair for pair in self.causes if pair[1] == name]:
             while isinstance(pair, tuple) and pair in self.causes:
                 yield "%s in %s" % (pair[1], shown(pair[0]))
@@ -97,7 +98,7 @@ def count(items):
 # ---- checking and counting
 
 def faults(trust):
-    """What stands in the wrong folder, and each outer file that imports an inner one."""
+    """What is in the wrong folder, each outer file that imports an inner one, and whether docs/DEFINITIONS.md is out of date."""
     everything = trust.all
     for module, file in everything.files.items():
         has_inner = any(it.crate == module.crate and other.is_inner for it, other in everything.files.items())
@@ -153,7 +154,7 @@ A file `View` says what types in memory represent. `Gives` says that a call retu
 
 
 def libraries(trust):
-    """The libraries beside the program whose users the page is for."""
+    """The libraries, besides the program, whose users the page is for."""
     names = ["`%s`" % name for name in trust.given.doors if name not in trust.given.program]
     return "%s and %s" % (", ".join(names[:-1]), names[-1])
 
@@ -189,7 +190,7 @@ def definitions_of(trust, module):
 
 
 def small(text):
-    """A sentence as it stands behind a colon."""
+    """A sentence as it is written after a colon."""
     return text if text[1:2].isupper() else text[:1].lower() + text[1:]
 
 
@@ -214,9 +215,9 @@ def show(trust):
 
 def main():
     options = argparse.ArgumentParser(description=__doc__.split("\n")[0])
-    options.add_argument("--check", action="store_true", help="only look for what stands in the wrong place")
+    options.add_argument("--check", action="store_true", help="only check that everything is in the right place")
     options.add_argument("--definitions", action="store_true", help="write docs/DEFINITIONS.md")
-    options.add_argument("--why", metavar="NAME", help="tell what makes a definition one that has to be believed")
+    options.add_argument("--why", metavar="NAME", help="print why a definition has to be believed")
     options.add_argument("--root", default=ROOT, help="the repository")
     given = options.parse_args()
     trust = Trust(given.root)

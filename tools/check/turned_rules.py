@@ -1,18 +1,18 @@
 #!/usr/bin/python3
 """Changes one rule of the model at a time, and checks that a worked example detects it.
 
-Each turn in tools/check/turns puts a wrong rule in the place of a right one in a copy of the model of tools/check/machine.py, which is
-kept in memory; then that model answers the examples of tools/check/worked_examples.txt, those that take long last. Where it answers
-all of them as they say, no example holds that rule: the turn is printed, and the exit status is 1. All turns take some 40
-minutes.
+Each changed rule in tools/check/turns puts a wrong rule in place of a correct one in a copy of the model of tools/check/machine.py,
+which is kept in memory. Then that model answers the examples of tools/check/worked_examples.txt, those that take long last. If it
+answers all of them as they say, no example detects the changed rule: the rule is printed, and the exit status is 1. All changed
+rules take some 40 minutes.
 
     python3 tools/check/turned_rules.py
-    python3 tools/check/turned_rules.py --only unwind     the turns whose names or files have this word
-    python3 tools/check/turned_rules.py --list            each turn, with the example that sees it first
+    python3 tools/check/turned_rules.py --only unwind     the changed rules whose names or files have this word
+    python3 tools/check/turned_rules.py --list            each changed rule, with the first example that detects it
 
-In a file of turns a line of two equals signs names the model's file. A turn is a line that says what the turned rule does,
-and below it the text that is taken out of the file (-), which stands there once, and the one that is put in its place (+).
-Further pairs apply to what the earlier ones made.
+In a file of changed rules, a line that begins with two equals signs names the model's file. A changed rule is a line that says what
+it does, and below it the text that is taken out of the file (-), which is there exactly once, and the text that is put in its place
+(+). Further pairs apply to what the earlier ones made.
 """
 import argparse
 import functools
@@ -32,16 +32,16 @@ from worked_examples import answers, scripts
 HERE = os.path.dirname(os.path.abspath(__file__))
 CLIENT = os.path.join(os.path.dirname(HERE), "client")
 TURNS = os.path.join(HERE, "turns", "*.txt")
-MOST_SECONDS = 600  # that a turned model may take for all examples
-LONG = 0.1  # seconds from which on an example takes long
+MOST_SECONDS = 600  # that a changed model may take for all examples
+LONG = 0.1  # seconds: an example that takes as many or more takes long
 
-# What a turned rule does, the file that it is turned in, and pairs of a text that stands once there and what is put in its
+# What a changed rule does, the file that it changes, and pairs of a text that is there exactly once and what is put in its
 # place.
 Turn = namedtuple("Turn", "name file changes")
 
 
 class Wrong(Exception):
-    """A turn can't be made."""
+    """Why a changed rule can't be tried."""
 
 
 def lines_of_turns():
@@ -51,7 +51,7 @@ def lines_of_turns():
 
 
 def turns():
-    """All turns, file by file."""
+    """All changed rules, file by file."""
     found, file, marks = [], None, " "
     for line in lines_of_turns():
         mark, held = line[:1], line[2:]
@@ -81,7 +81,7 @@ def sources():
 
 
 def turned(texts, turn):
-    """The model's files with a rule turned."""
+    """The model's files with a rule changed."""
     text = texts[turn.file]
     for old, new in turn.changes:
         if text.count(old) != 1 or new is None:
@@ -91,7 +91,7 @@ def turned(texts, turn):
 
 
 class Held(importlib.abc.MetaPathFinder, importlib.abc.Loader):
-    """Has Python import modules of these texts."""
+    """Has Python import modules from these texts."""
 
     def __init__(self, texts):
         self.texts = {path[:-3].replace(os.sep, "."): text for path, text in texts.items()}
@@ -109,7 +109,7 @@ def code_of(text):
 
 
 def machine_of(texts):
-    """The module of the machine whose files are these texts. It shares none with the model that is imported already."""
+    """The module of the machine whose files are these texts. It shares no module with the model that is imported already."""
     held, kept = Held(texts), dict(sys.modules)
     for name in [*held.texts, "model"]:
         sys.modules.pop(name, None)
@@ -135,7 +135,7 @@ def seconds_of(machine, script):
 
 
 def tables(texts):
-    """What the examples ask in the gate's script, first without those that take long, then all that they ask."""
+    """The examples of the gate's script, first without those that take long, then with them; and then all examples."""
     found = scripts()
     in_gate = [example._replace(steps=[one for one in example.steps if one.is_in_gate]) for example in found[0]]
     seconds = seconds_of(machine_of(texts).Machine(), in_gate)
@@ -143,8 +143,8 @@ def tables(texts):
 
 
 def seen_by(texts, table):
-    """The first example that is answered otherwise than it says, and its line; None where there is none. A model that stops
-    instead, since the turn is no rule at all, is wrong."""
+    """The first example that is answered differently than it says, and its line; None if there is none. A model that stops with
+    an error, since the change makes no rule at all, raises Wrong."""
     at = "the import"
     try:
         module = machine_of(texts)
@@ -165,7 +165,7 @@ def stop(*_):
 
 
 def told_of(texts, turn, examples):
-    """What sees a turn, whether that is in the gate's script, and what is wrong with the turn."""
+    """The example that detects a changed rule, whether it is in the gate's script, and what is wrong with the changed rule."""
     signal.alarm(MOST_SECONDS)
     try:
         texts = turned(texts, turn)

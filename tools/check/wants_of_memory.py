@@ -1,15 +1,15 @@
 #!/usr/bin/python3
 """Finds each place in the code that answers out of memory, or makes a view stale, and prints those that nobody has reviewed.
 
-A body that answers want of memory where there is memory is proved, since no contract can say that memory is there. So
-each place in crates/*/src that writes such an answer, or such a mark of a view, as a value stands in tools/check/wants_of_memory.txt, by its function,
-with how many there are and why each of them follows a failed allocation, or hands on an answer that said so. Types,
-patterns, `use` and ghost lines, comments and tests are no values.
+A body that answers out of memory although there is memory is proved, since no contract can say that there is memory. So
+tools/check/wants_of_memory.txt lists each place in crates/*/src that writes such an answer, or such a mark of a view, as a value:
+for each function how many places it has, and why: nearly always because a place follows a failed allocation, or passes on such an
+answer. Types, patterns, `use` and ghost lines, comments and tests are no values.
 
     python3 tools/check/wants_of_memory.py            prints each place that has no line, and each line that has no place
-    python3 tools/check/wants_of_memory.py --list     prints every place, with the reason beside it
+    python3 tools/check/wants_of_memory.py --list     prints every place, below its function and the reason
 
-The exit status is 1 where anything is missing or stale.
+The exit status is 1 if anything is missing or stale.
 """
 import argparse
 import collections
@@ -20,7 +20,7 @@ import sys
 HERE = pathlib.Path(__file__).resolve().parent.parent.parent
 KNOWN = HERE / "tools" / "check" / "wants_of_memory.txt"
 NAMES = {"AllocError", "AllocFailed", "Memory", "NoMemory", "NoReply", "OutOfMemory", "WantOfMemory"}
-MARKS = {"Made", "Stale"}  # of the enum Mark of dv_views
+STALE = "Stale"  # of the enum Mark of dv_views
 TOKEN = re.compile(r"""//[^\n]* | b?r?"(?:\\.|[^"\\])*" | b?'(?:\\.[^']*|[^'\\])' | '?[A-Za-z_]\w*
                        | => | -> | :: | [0-9][\w.]* | \s+ | .""", re.X | re.S)
 OPENS, CLOSES = {"(": ")", "[": "]", "{": "}"}, {")", "]", "}"}
@@ -49,7 +49,7 @@ class Code:
         return self.words[at] if 0 <= at < len(self.words) else ""
 
     def until(self, at, ends):
-        """The place of the first of these words from a place on, outside brackets that open behind it."""
+        """The place of the first of these words, at or after a place and outside brackets that open there or later."""
         while at < len(self.words) and self.words[at] not in ends:
             at = self.partner.get(at, at) + 1 if self.words[at] in OPENS else at + 1
         return at
@@ -93,13 +93,13 @@ def places(code, start, end, path):
 
 
 def after_item(code, at):
-    """The place behind an item, which ends with a block or a semicolon."""
+    """The place after an item, which ends with a block or a semicolon."""
     end = code.until(at, {"{", ";"})
     return code.partner.get(end, end) + 1
 
 
 def head(code, at, body):
-    """What names an item: of an `impl` its type, and the trait in front where it has one."""
+    """The name of an item: of an `impl` its type, with the trait if it has one."""
     if code.word(at) != "impl":
         return code.word(at + 1)
     text = re.sub(r"^<[^>]*>", "", code.text(at + 1, body)).strip()
@@ -108,7 +108,7 @@ def head(code, at, body):
 
 
 def body_of(code, at):
-    """The place of a function's body, behind its clauses; or of the semicolon, where it has none."""
+    """The place of a function's body, after its clauses; or of the semicolon, if it has no body."""
     at = code.until(at, {"{", ";", "requires", "ensures"})
     while code.word(at) in ("requires", "ensures"):
         clause = code.until(at, {"{"})
@@ -117,15 +117,15 @@ def body_of(code, at):
 
 
 def values(code, start, end):
-    """The places of the names between two places of a body, where they are values."""
+    """The places between two places of a body at which such names are values."""
     for at in range(start, end):
         if is_want(code, at) and not is_type(code, at) and not is_pattern(code, at, start, end):
             yield at
 
 
 def is_want(code, at):
-    """Whether a name is one of those that are looked for."""
-    return code.word(at) in NAMES or code.word(at) in MARKS and [code.word(at - 2), code.word(at - 1)] == ["Mark", "::"]
+    """Whether the name at a place is one of those that are looked for."""
+    return code.word(at) in NAMES or [code.word(at - 2), code.word(at - 1), code.word(at)] == ["Mark", "::", STALE]
 
 
 def path_start(code, at):
@@ -135,7 +135,7 @@ def path_start(code, at):
 
 
 def is_type(code, at):
-    """Whether a name stands in a type: behind a colon or an arrow, or between angle brackets."""
+    """Whether a name is in a type: after a colon or an arrow, or between angle brackets."""
     at, open_angles = path_start(code, at) - 1, 0
     if code.word(at) in (":", "->"):
         return True
@@ -146,7 +146,7 @@ def is_type(code, at):
 
 
 def is_pattern(code, at, start, end):
-    """Whether a name stands in front of an arm's arrow, behind a `let`, or in the pattern of `matches!`."""
+    """Whether a name is before an arm's arrow, after a `let`, or in the pattern of `matches!`."""
     first = last = at
     for opened in sorted((o for o, c in code.partner.items() if start <= o < at < c <= end), reverse=True):
         if code.word(opened) == "{":

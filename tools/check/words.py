@@ -1,8 +1,8 @@
 #!/usr/bin/python3
-"""Counts the phrases that the documents avoid, because each has a plainer name: `tells` for returns, `anew` for again.
+"""Counts the phrases that the documents avoid, because each has a plainer name, such as returns for `tells` and again for `anew`.
 
-Prints for each document how often each phrase is in its text, with sums. Code font and code blocks are not counted: words that
-formats, commands and replies fix are written so. docs/GLOSSARY.md has the names that are used.
+Prints for each document how often each phrase is in its text, with sums. Code font and code blocks are not counted: they are
+for words that formats, commands and replies fix. docs/GLOSSARY.md has the names that are used.
 
     tools/check/words.py                    README.md, CONTRIBUTING.md, docs/*.md and bench/README.md
     tools/check/words.py FILE ..            these
@@ -15,7 +15,7 @@ import re
 ROOT = pathlib.Path(__file__).resolve().parent.parent.parent
 DOCUMENTS = ["README.md", "CONTRIBUTING.md", "docs/*.md", "bench/README.md"]
 
-# The phrases by the heads of their columns: each with what finds it.
+# For the head of each column, the pattern that finds its phrases.
 PHRASES = {
     "tell": r"(?:un)?(?:tells?|told)|telling",
     "stand": r"stands?|stood|standing",
@@ -34,7 +34,7 @@ FOUND = {name: re.compile(r"(?i)\b(?:%s)\b" % phrase) for name, phrase in PHRASE
 
 
 def blanked(found):
-    """As many lines, without what is in them."""
+    """As many lines as a match has, without what is in them."""
     return "\n" * found[0].count("\n") + "`"
 
 
@@ -56,7 +56,7 @@ def lines_of(path, text):
 
 
 def named(path):
-    """A path as it is printed: below the repository where it is there."""
+    """A path as it is printed: relative to the repository if it is in there."""
     path = path.resolve()
     return str(path.relative_to(ROOT)) if path.is_relative_to(ROOT) else str(path)
 

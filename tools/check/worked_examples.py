@@ -1,14 +1,14 @@
 #!/usr/bin/python3
-"""Makes the script with which each gate runs docd, and what it must print, of the examples in tools/check/worked_examples.txt.
+"""Makes the script with which each gate runs docd, and what docd must print, from the examples in tools/check/worked_examples.txt.
 
-The examples and their replies are written by hand; this writes them as bytes. The file crates/docd/stdin has each example's
-title as a comment above the lines that it stands for. The files that are loaded lie in crates/docd/data. What the gate's
-script would be too long with is left out of it.
+The examples and their replies are written by hand; this tool writes them as bytes. The file crates/docd/stdin has each example's
+title as a comment above the example's lines. The files that are loaded are in crates/docd/data. What would make the gate's script
+too long is left out of it.
 
     python3 tools/check/worked_examples.py             writes crates/docd/stdin, stdout, args and data
-    python3 tools/check/worked_examples.py --look      says whether they are what the table gives
+    python3 tools/check/worked_examples.py --look      checks whether these files are what the examples give
     python3 tools/check/worked_examples.py --program crates/docd/out/docd
-                                                 has a program answer all examples, and tells each that it answers otherwise
+                                                 has a program answer all examples, and prints each that it answers differently
 """
 import argparse
 import os
@@ -31,7 +31,7 @@ CRATE = os.path.join(os.path.dirname(os.path.dirname(HERE)), "crates", "docd")
 SESSIONS = range(1000)
 
 # What a line of the table asks: its text, the script's lines that it stands for, what these print, the namespace and the
-# documents of a file that is loaded, and whether the gate's script has it. Where a line asks for several things there is a
+# documents of a file that is loaded, and whether the gate's script has it. If a line asks for several things, there is a
 # step for each.
 Step = namedtuple("Step", "text lines prints loaded is_in_gate", defaults=[None, True])
 Example = namedtuple("Example", "title steps is_in_gate")
@@ -48,7 +48,7 @@ COMMAND = re.compile(r"(?:(\d+)> )?(?:(first \d+ of|next \d+|rest|quietly|exactl
 SHORT = re.compile(r"([a-z]+)(?: ([a-z]+[0-9]?))?(?: on ([a-z]+[0-9]?))?(?: (?=[{[])(.*))?")
 QUIET = 2  # the flag of a message that wants no reply
 
-# The fields of a command that a line may begin with, in the order in which their values stand there.
+# For each command that a line may begin with, the fields whose values the line has, in order.
 FIELDS = {"insert": [b"documents"], "delete": [b"deletes"], "find": [b"filter", b"sort"], "aggregate": [b"pipeline"],
           "drop": []}
 EVERYTHING = b"q", (DOCUMENT, [])
@@ -83,7 +83,7 @@ def command_of(written):
 
 
 def section_of(written):
-    """A list beside a body: its name, and the documents, or the bytes of one."""
+    """A list next to a body: its name, and the documents, or the bytes of one."""
     name, _, held = written.partition(" ")
     if held.startswith("["):
         (_, documents), = values(held)
@@ -127,7 +127,7 @@ class Script:
         self.database, self.inserted = database, []
 
     def steps(self, line, printed):
-        """What a line of the table stands for. Behind a line of bytes stands what it prints."""
+        """The steps that a line of the table stands for. If it is a line of bytes, `printed` is what it prints."""
         found = BYTES.fullmatch(line)
         if found:
             self.rests.pop(found[1], None)
@@ -167,7 +167,7 @@ class Script:
         return ("%s.%s" % (self.database, name)).encode(), [fields for _, fields in values(documents)]
 
     def update(self, line):
-        """An update of a document that stands alone in a collection of its own."""
+        """An update of a document that is alone in a collection of its own."""
         written, wanted = line.split(" => ")
         outcome, _, rest = wanted.partition(" ")
         self.updated += 1
@@ -185,7 +185,7 @@ class Script:
         return lines, prints
 
     def message(self, command, how="", lists=()):
-        """A command's message and its number. The database is put behind one that has none, but where it is sent exactly."""
+        """A command's message and its number. A command without a database gets it at its end, unless it is sent exactly."""
         self.requests += 1
         fields = dict(command)
         if command[:1] == [(b"insert", text("c"))] and fields.get(b"documents", (None, None))[0] == ARRAY:
@@ -195,7 +195,7 @@ class Script:
         return joined([section(None, [body]), *lists], self.requests, QUIET if how == "quietly" else 0), self.requests
 
     def reply(self, command, wanted):
-        """The reply that is written so."""
+        """The reply that the table writes as `wanted`."""
         word, _, rest = wanted.partition(" ")
         if word == "code":
             number, _, said = rest.partition(" ")
@@ -234,7 +234,7 @@ def lines_of(line):
 
 
 def repeated(found):
-    """A text so many times, with the number of each in place of a number sign, or what it leaves where it is divided."""
+    """A text so many times. Each has its number in place of a number sign, or the number's remainder by a divisor."""
     if "#" not in found[2]:
         return found[2] * int(found[1])
     return "".join(NUMBER.sub(lambda sign: str(number % int(sign[1]) if sign[1] else number), found[2])
@@ -242,13 +242,13 @@ def repeated(found):
 
 
 def said_of_each(found):
-    """A text with each of some others in place of an at sign, and with its number in place of a number sign."""
+    """A text once for each of some others, which is put in place of an at sign, and its number in place of a number sign."""
     others = enumerate(found[1].split("|"), 1)
     return "".join(found[2].replace("@", other.strip()).replace("#", str(number)) for number, other in others)
 
 
 def bytes_lines(session, said):
-    """The lines of a script that bring these bytes, or end the session."""
+    """The lines of a script that send these bytes, or end the session."""
     if said.startswith("bytes "):
         digits = said[6:].replace(" ", "")
         parts = [digits[at:at + 2] for at in range(0, len(digits), 2)]
@@ -264,7 +264,7 @@ def printed_line(line):
 
 
 def joined_lines(table):
-    """The table's lines without comments; what is indented by more than four belongs to the line before."""
+    """The table's lines without comments; a line that is indented by more than four spaces belongs to the one before."""
     lines = []
     for line in table.splitlines():
         if line.startswith("     "):
@@ -275,7 +275,7 @@ def joined_lines(table):
 
 
 def scripts():
-    """The examples of the gate's script, and each other one, which is a script of its own."""
+    """The examples of the gate's script, and each other example as a script of its own."""
     found = examples()
     return [[one for one in found if one.is_in_gate], *([one] for one in found if not one.is_in_gate)]
 
@@ -302,7 +302,7 @@ def examples():
 
 
 def written(found, is_gate):
-    """The files, by their names in the crate, of the gate's script or of all that the examples have."""
+    """The files, by their names in the crate, of the gate's script or of all steps of the examples."""
     script, printed = ["# Made by tools/check/worked_examples.py of tools/check/worked_examples.txt."], []
     args, files = ["run", "--hex"], {}
     for example in found:
@@ -331,7 +331,7 @@ def answers(machine, script):
 
 
 def differences(found, printed):
-    """The steps whose lines aren't printed in their places, each as a text."""
+    """The steps whose lines aren't printed at their places, each as a text."""
     at = 0
     for example in found:
         for step in example.steps:
@@ -345,7 +345,7 @@ def differences(found, printed):
 
 
 def answered_otherwise(program, script):
-    """What a program answers otherwise to the examples of a script, each as a text."""
+    """What a program answers differently to the examples of a script, each as a text."""
     files = written(script, is_gate=False)
     words = [program, *files["args"].decode().split()]
     done = subprocess.run(words, cwd=os.path.join(CRATE, "data"), input=files["stdin"], capture_output=True, timeout=120)

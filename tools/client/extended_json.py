@@ -1,6 +1,6 @@
-"""Values as JSON, and JSON as values, after MongoDB's Extended JSON.
+"""Values as JSON, and JSON as values, as in MongoDB's Extended JSON.
 
-Whole numbers that fit are int32, others int64; kinds that JSON lacks are written as MongoDB's drivers write them, relaxed or
+Whole numbers that fit are int32, others int64; types that JSON lacks are written as MongoDB's drivers write them, relaxed or
 canonical:
 
     {"$numberInt": "5"}  {"$numberLong": "5"}  {"$oid": "24 hexadecimal digits"}
@@ -8,10 +8,10 @@ canonical:
     {"$timestamp": {"t": 1, "i": 2}}  {"$minKey": 1}  {"$maxKey": 1}  null
     {"$uuid": "00112233-4455-6677-8899-aabbccddeeff"}, binary data of subtype 4
 
-Kinds that docd doesn't have, as {"$numberDouble": "1.5"}, are refused.
+Types that docd doesn't have, such as {"$numberDouble": "1.5"}, are refused.
 
-Values are given as JSON with int32 as plain numbers, int64 as $numberLong and datetimes as $date with $numberLong, so that
-each kind is seen. `tools/client/notation.py` reads this as text.
+Values are written as JSON with int32 as plain numbers, int64 as $numberLong and datetimes as $date with $numberLong, so that
+each type can be seen. `tools/client/notation.py` reads this as text.
 """
 import base64
 import datetime
@@ -19,7 +19,7 @@ import re
 import sys
 import uuid
 
-if sys.version_info < (3, 10):  # before the first module that an older one can't run
+if sys.version_info < (3, 10):  # before the first import that an older Python can't run
     sys.exit("this needs Python 3.10 or newer, and runs under %d.%d" % sys.version_info[:2])
 
 from model.values import (ARRAY, BINARY, BOOLEAN, DATETIME, DOCUMENT, INT32, INT64, MAX_KEY, MIN_KEY, NULL,  # noqa: E402
@@ -30,7 +30,7 @@ MILLISECOND = datetime.timedelta(milliseconds=1)
 
 
 def value_of(held):
-    """A value as the model of the machine has it, of what JSON holds."""
+    """What JSON holds, as a value of the model."""
     if held is None:
         return NULL, None
     if isinstance(held, bool):
@@ -54,7 +54,7 @@ def integer(number):
 
 
 def extended(fields):
-    """The value that a document of JSON is: itself, or one of a kind that JSON lacks."""
+    """The value that a document of JSON is: a document, or a value of a type that JSON lacks."""
     names = tuple(name for name, _ in fields)
     if names in LACKING:
         raise ValueError("%s is of a type that docd doesn't have" % names[0].decode())
@@ -68,7 +68,7 @@ def extended(fields):
 
 
 def digits_of(value, bits):
-    """A text's whole number, of at most so many bits."""
+    """The whole number in a text, of at most `bits` bits."""
     number = int(of_kind(value, TEXT))
     if not -2**(bits - 1) <= number < 2**(bits - 1):
         raise ValueError

@@ -50,7 +50,7 @@ def printed(fields, is_json):
 
 
 def read(line, is_json=False):
-    """A line of docd, its reply as a text where it is one."""
+    """A line of docd's output; if it is a reply, with the reply as a text."""
     session, _, rest = line.partition(" ")
     if rest.startswith(("closed", "end")):
         return line
@@ -61,8 +61,8 @@ def read(line, is_json=False):
 
 
 def carry_out(lines, action):
-    """Does the action with each line that is neither empty nor a comment, and with its number among those. Ends at one that is
-    wrong."""
+    """Does the action with each line that is neither empty nor a comment, and with its number among those. Ends the tool at a wrong
+    line."""
     number = 0
     for place, line in enumerate(map(str.strip, lines), 1):
         if not line or line.startswith("#"):
@@ -116,7 +116,7 @@ def words():
     options.add_argument("--json", action="store_true", help="print replies as extended JSON")
     options.add_argument("--watch", metavar="VIEW", help="with --port: print a view's rows, and again when they change")
     options.add_argument("--every", type=seconds, default=1, metavar="SECONDS",
-                         help="with --watch: the time between two looks (default: 1)")
+                         help="with --watch: the time between two reads (default: 1)")
     given = options.parse_args()
     if given.watch and not given.port:
         options.error("--watch needs --port: the port of a docd that serves")

@@ -1,12 +1,12 @@
 """Values as people write them, and as replies are printed: `{a: 1, b: 2L, "c.d": ["x", null, true]}`.
 
-A plain number is int32, L marks int64. The other kinds that JSON lacks are written
+A plain number is int32, L marks int64. The other types that JSON lacks are written
 
     ObjectId("507f1f77bcf86cd799439011")   Date("2026-11-22T18:30:15.123Z")   Timestamp(1, 2)   Binary(0, "00ff")
     MinKey   MaxKey
 
-A date may be a number too, of milliseconds since 1970, and is printed so outside the years 1 to 9999. A timestamp has its
-seconds and its count, binary data its subtype and its bytes in hexadecimal digits. A name stands without quotes where it is a
+A date may also be a number of milliseconds since 1970, and is printed as one outside the years 1 to 9999. A timestamp has its
+seconds and its count, binary data its subtype and its bytes in hexadecimal digits. A name is written without quotes if it is a
 word of letters, digits, `_` and `$`; in JSON, which is read as well, it has them. Texts have the escapes of JSON, and `\\0`. A
 plain number that doesn't fit 32 bits is read as int64.
 
@@ -62,14 +62,14 @@ def number_of(value):
     return held
 
 
-# The kinds that are written with brackets: how they are read, and what is told where they can't be.
+# The types that are written with brackets: how they are read, and the message if they can't be.
 CALLS = {
     "ObjectId": (object_id, 'write an ObjectId with 24 hexadecimal digits: ObjectId("507f1f77bcf86cd799439011")'),
     "Date": (date, 'write a date as Date("2026-11-22T18:30:15.123Z"), or with its milliseconds since 1970: Date(0)'),
     "Timestamp": (timestamp, "write a timestamp with its seconds and its count: Timestamp(1, 2)"),
     "Binary": (binary, 'write binary data with their subtype and pairs of hexadecimal digits: Binary(0, "00ff")'),
 }
-# What is told of words of MongoDB's shell.
+# The messages for words of MongoDB's shell.
 FOREIGN = {
     "new": "leave new out", "ISODate": CALLS["Date"][1], "BinData": CALLS["Binary"][1], "UUID": CALLS["Binary"][1],
     **dict.fromkeys(["NumberInt", "NumberLong", "NumberDecimal", "Int32", "Long", "Double", "Decimal128"],
@@ -82,7 +82,7 @@ class Unfinished(ValueError):
 
 
 class Reader:
-    """Reads values one after the other. What it can't read is told with its column, and what to write."""
+    """Reads values one after the other. The error for what it can't read has the column, and says what to write."""
 
     def __init__(self, text):
         self.text, self.at = text, 0
@@ -92,7 +92,7 @@ class Reader:
         return self.at < len(self.text)
 
     def match(self, form):
-        """What stands here in this form, and nothing where nothing does. It is taken, with the space behind it."""
+        """The text here that has this form, empty if there is none. It is taken, with the space after it."""
         found = form.match(self.text, self.at)
         if not found:
             return ""
@@ -109,7 +109,7 @@ class Reader:
         raise kind("column %d: %s" % ((self.at if at is None else at) + 1, told))
 
     def lacks(self, told):
-        """Tells that something is missing here; where the text ends, another line may have it."""
+        """Fails because something is missing here; if the text ends here, another line may have it."""
         self.fail(told, kind=ValueError if self.has() else Unfinished)
 
     def value(self):

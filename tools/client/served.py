@@ -8,24 +8,24 @@ from model.messages import answer
 from model.values import DOCUMENT, spelling
 from spelled import message
 
-PATIENCE = 2  # seconds, behind which it is told that no first reply has come
+PATIENCE = 2  # seconds after which the user is told that no first reply has arrived
 LENGTHS = range(26, 48_000_001)  # of a reply
 
 
 class NotDocd(ConnectionError):
-    """What listens sends no message of docd's form."""
+    """The program that listens sends no message of docd's form."""
 
 
 class Served:
-    """A connection, which carries one command after the other. Where the first reply doesn't come soon, `tell_waiting` is
-    called: docd takes the next connection when the one before it has ended."""
+    """A connection, which carries one command after the other. If the first reply doesn't arrive soon, `tell_waiting` is called:
+    docd may have as many connections as it serves, and it takes the next one when one of these ends."""
 
     def __init__(self, port, tell_waiting=None):
         self.connection = socket.create_connection(("127.0.0.1", port))
         self.replies, self.number, self.tell_waiting = self.connection.makefile("rb"), 0, tell_waiting
 
     def ask(self, command):
-        """The reply to a command. Both are dicts, as json makes them of texts in the notation of tools/client/extended_json.py."""
+        """The reply to a command. Both are dicts, as json makes them of the texts that tools/client/extended_json.py describes."""
         _, fields = value_of(command)
         return json_of(DOCUMENT, self.reply_to(fields))
 
@@ -35,7 +35,7 @@ class Served:
         return [self.reply() for _ in commands]
 
     def reply_to(self, fields):
-        """The fields of the reply to a command of these fields, whose first name is what it does."""
+        """The fields of the reply to a command with these fields, the first of which names the command."""
         self.connection.sendall(self.message_of(fields))
         if self.tell_waiting and self.number == 1 and not select.select([self.connection], [], [], PATIENCE)[0]:
             self.tell_waiting()
@@ -54,7 +54,7 @@ class Served:
         return head + self.taken(length - 4)
 
     def taken(self, count):
-        """So many bytes of the replies."""
+        """The next `count` bytes of the replies."""
         data = self.replies.read(count)
         if len(data) < count:
             raise ConnectionError("it was closed")

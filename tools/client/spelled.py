@@ -1,4 +1,4 @@
-"""Documents and messages made of short words, whose bytes may be wrong, and the lines of scripts that bring them.
+"""Short functions that make documents and messages, whose bytes may be wrong, and the lines of scripts that send them.
 
 Values are those of `model.values`; to make broken ones, what a value holds may be `Broken` bytes.
 """
@@ -6,12 +6,12 @@ import struct
 
 from model.values import ARRAY, BOOLEAN, DOCUMENT, INT32, INT64, NULL, TEXT, payload
 
-PIECE = 65_000  # bytes of a message that come in one line at most
+PIECE = 65_000  # bytes of a message in one line at most
 NOTHING = NULL, None
 
 
 class Broken(bytes):
-    """Bytes that stand behind a value's name in place of those that its kind asks for."""
+    """Bytes that follow a value's name in place of those that its type asks for."""
 
 
 def spelled(fields):
@@ -66,15 +66,15 @@ def section(name, documents):
 
 
 def pieces(data, most):
-    """The bytes in pieces, of which each but the last has so many."""
+    """The bytes in pieces of `most` bytes; the last piece may have fewer."""
     return [data[at:at + most] for at in range(0, len(data), most)]
 
 
 def script_lines(session, data, most=PIECE):
-    """A script's lines that bring these bytes to a session."""
+    """A script's lines that send these bytes to a session."""
     return [b"%d %s" % (session, piece.hex().encode()) for piece in pieces(data, most)]
 
 
 def lines_of(session, *bodies):
-    """A script's lines that bring these commands of the database `t` to a session."""
+    """A script's lines that send these commands for the database `t` to a session."""
     return script_lines(session, b"".join(message(spelled([*body, (b"$db", text(b"t"))])) for body in bodies))

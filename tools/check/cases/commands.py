@@ -1,4 +1,4 @@
-"""The commands of which cases are made, and the table of the cases."""
+"""The commands that cases are made of, and the table of the cases."""
 from collections import namedtuple
 
 from spelled import array, document, joined, number, section, spelled, text
@@ -7,14 +7,14 @@ FULL = 16_777_216  # bytes of a document
 DATABASE = b"$db", text(b"t")
 IDENTITY = b"_id", number(1)
 ONE = number(1)
-# What gives the commands of a size, the largest size, and how many writes come behind all else, where these are timed.
+# The function that makes the commands for a size, the largest size, and how many writes follow all else, if these are timed.
 Case = namedtuple("Case", "make most writes")
 CASES = {}
 
 
 def case(most, writes=None):
-    """Marks a function that gives the commands of a size, of which this is the largest. Where a number of writes is named, it
-    is given that, or 0, behind the size."""
+    """Marks a function that makes the commands for a size; `most` is the largest size. If a number of writes is given, the
+    function gets that number, or 0, after the size."""
     def kept(make):
         CASES[make.__name__.replace("_", " ")] = Case(make, most, writes)
         return make
@@ -26,7 +26,7 @@ def command(name, *fields, of=b"c"):
 
 
 def put(*documents):
-    """An insert, whose documents stand beside the message's body, so that each may be as large as is allowed."""
+    """An insert whose documents are in a section next to the message's body, so that each may be as large as is allowed."""
     return put_bytes(map(spelled, documents))
 
 
@@ -61,13 +61,13 @@ def update(operator, *operands, **others):
 
 
 def plain(count, field=b"a"):
-    """Inserts of so many documents, with the same number in a field and under `_id`."""
+    """Inserts of `count` documents, each with the same number in a field and in `_id`."""
     for start in range(0, count, 1_000):
         yield put(*([(b"_id", number(at)), (field, number(at))] for at in range(start, min(count, start + 1_000))))
 
 
 def named(count, value=number(1), prefix=b"n"):
-    """So many fields."""
+    """`count` fields."""
     return [(b"%s%d" % (prefix, at), value) for at in range(count)]
 
 

@@ -89,7 +89,7 @@ def equal_elements_under_a_unique_index(count):
 
 @case(100_000)
 def updates_of_all_under_a_unique_index(count):
-    """The second update would break at its last document but one."""
+    """The second update would give the last document but one a key that the last one has."""
     yield indexing(b"a", unique=True)
     yield from plain(count)
     yield update(b"$inc", (b"a", number(-1)), multi=boolean(True))
@@ -99,7 +99,7 @@ def updates_of_all_under_a_unique_index(count):
 
 @case(100_000)
 def a_unique_index_over_documents(count):
-    """The first one is refused for the last document."""
+    """The first createIndexes is refused because of the last document."""
     yield from plain(count)
     yield put([(b"_id", number(count)), (b"a", number(count - 1))])
     yield indexing(b"a", unique=True)

@@ -1,4 +1,4 @@
-"""The largest messages, and the most of them and of sessions. These cases give bytes."""
+"""The largest messages, the most messages and the most sessions. These cases yield bytes."""
 import struct
 
 from cases.commands import DATABASE, ONE, case, put_bytes
@@ -29,6 +29,6 @@ def bytes_of_a_message_that_is_no_document(size):
 
 @case(1_000)
 def sessions(count):
-    """As a script: each has half a message of 30,000 bytes."""
+    """The lines of a script, in which each session gets half a message of 30,000 bytes."""
     half = message(spelled([(b"ping", (BINARY, (0, b"x" * 30_000))), DATABASE]))[:15_000].hex().encode()
     yield b"".join(b"%d %s\n" % (place, half) for place in range(count))

@@ -1,4 +1,4 @@
-"""The largest pipelines, and what their stages make the most of."""
+"""The largest pipelines, and pipelines whose stages have the most to do."""
 from cases.commands import IDENTITY, ONE, aggregate, case, named, plain, put, put_bytes, stage
 from spelled import NOTHING, array, document, number, spelled, text
 

@@ -35,7 +35,7 @@ def paths_of_unset(count):
 
 @case(100_000)
 def paths_of_unset_between_those_of_set(count):
-    """Every other field is taken away: in the order of their paths, removals and other edits alternate."""
+    """Every other field is removed: in the order of the paths, removals and other edits mostly alternate."""
     fields = named(count)
     yield put([IDENTITY, *fields])
     edits = [(b"$unset", document(fields[::2])), (b"$set", document(named(count, NOTHING)[1::2]))]
@@ -44,7 +44,7 @@ def paths_of_unset_between_those_of_set(count):
 
 @case(100_000)
 def paths_of_unset_in_a_document(count):
-    """Every other one leads a level further."""
+    """Every other path leads one level deeper."""
     fields = [field for at in range(0, count, 2) for field in [(b"n%d" % at, ONE), (b"n%d" % (at + 1), nested(1))]]
     paths = [path for at in range(0, count, 2) for path in [(b"a.n%d" % at, ONE), (b"a.n%d.d" % (at + 1), ONE)]]
     yield put([IDENTITY, (b"a", document(fields))])

@@ -1,4 +1,4 @@
-"""The largest views, and what one change of what they read makes the most of."""
+"""The largest views, and views that have the most to do for one change of what they read."""
 from cases.commands import IDENTITY, ONE, case, command, find, named, plain, put, put_bytes, stage, update
 from cases.counts import view
 from cases.pipelines import lookup
@@ -76,11 +76,11 @@ def a_drop_under_views(count):
     yield command(b"drop")
 
 
-# What one write takes of the worst views, and of what may stand in their place.
+# What one write costs under the worst views, and under views that can be used instead of them.
 
 
 def coming_and_going(writes, of=b"c", *fields):
-    """So many writes: a document comes, and goes again."""
+    """As many writes as `writes` says, which insert a document and delete it in turn."""
     identity = b"_id", number(-1)
     gone = document([(b"q", document([identity])), (b"limit", ONE)])
     for place in range(writes):
@@ -144,7 +144,7 @@ def one_element_that_is_a_document_changed(count, writes):
 
 @case(20_000, writes=50_000)
 def a_sort_by_32_paths(count, writes):
-    """All paths but the last have equal values."""
+    """All paths except the last have equal values."""
     fields = named(31)
     for start in range(0, count, 500):
         yield put(*([(b"_id", number(at)), *fields, (b"n31", number(at))] for at in range(start, start + 500)))
@@ -174,5 +174,5 @@ def eight_views_on_one_another(count, writes):
 
 
 def grouped_alone():
-    """Each row a group of its own."""
+    """Each row is a group of its own."""
     return stage(b"$group", document([(b"_id", text(b"$_id")), (b"a", document([(b"$max", text(b"$a"))]))]))

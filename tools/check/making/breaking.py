@@ -1,11 +1,11 @@
-"""Breaks messages: where their parts stand, and what can be made wrong of each."""
+"""Breaks messages: where their parts are, and what can be wrong with each."""
 import struct
 from collections import namedtuple
 
 from model.messages import BODY, Closing, take_message
 from model.values import ARRAY, BINARY, BsonFault, DOCUMENT, KINDS, SIZES, TEXT, int32, read_document
 
-# A length that stands at a place, and the bytes that it counts.
+# The place of a length, and where the bytes that it counts start and end.
 Length = namedtuple("Length", "at start end")
 
 STRANGE = [b"\0", b"\xff", b"\0\0\0\0", b"\xff\xff\xff\x7f", b"\5\0\0\0\0", b"\x10a\0\1\0\0\0", b"\2", b"a\0"]
@@ -15,8 +15,8 @@ RIGHT_UTF8 = ["é".encode(), "€".encode(), "😀".encode(), b"\xf4\x8f\xbf\xbf
 
 
 class Parts:
-    """Where the parts of a message stand, none of one that isn't right. The outer lengths are those of the message, its lists
-    and the documents that are no values, which close the session where they are wrong."""
+    """Where the parts of a message are; a message that isn't right has none. The outer lengths are those of the message, its lists
+    and the documents that are no values. If one of these is wrong, the session is closed."""
 
     def __init__(self, data):
         self.data, self.lengths, self.outer = data, [], []
@@ -98,7 +98,7 @@ class Breaker:
         self.closing = [self.wrong_header, self.wrong_section, self.joined]
 
     def broken(self, data):
-        """The message, broken in one way or some."""
+        """The message, broken in one way or in several."""
         for _ in range(self.rng.choice([1, 1, 1, 2, 3])):
             ways = self.closing if self.rng.random() < 0.01 else self.ways
             data = self.rng.choice(ways)(Parts(data)) or data
@@ -106,7 +106,7 @@ class Breaker:
         return data
 
     def replaced(self, parts, start, end, new):
-        """The bytes with others in place of these. Mostly the lengths around them are mended, sometimes the outer ones alone."""
+        """The message with other bytes in one place. Mostly the lengths around it are corrected, sometimes only the outer ones."""
         data, grown = bytearray(parts.data), len(new) - (end - start)
         data[start:end] = new
         how = self.rng.random()
@@ -119,7 +119,7 @@ class Breaker:
         return bytes(data)
 
     def span(self, parts):
-        """Some bytes behind the header: a field, a document, or any."""
+        """Where some bytes after the header are: a field, a document, a text, a name, or any bytes."""
         spans = parts.spans[self.rng.choice(["value", "value", "document", "text", "name"])]
         if spans and self.rng.random() < 0.7:
             return self.rng.choice(spans)
@@ -127,7 +127,7 @@ class Breaker:
         return start, min(len(parts.data), start + self.rng.choice([0, 1, 1, 2, 4, 5, 8, 30]))
 
     def some(self):
-        """Some bytes that come in no message, or in any."""
+        """Some strange bytes, or random ones."""
         return self.rng.choice([*STRANGE, self.rng.randbytes(self.rng.randrange(1, 20))])
 
     def changed(self, parts):
@@ -151,7 +151,7 @@ class Breaker:
         return self.replaced(parts, start, self.rng.choice([start, end]), self.some())
 
     def moved(self, parts):
-        """A part of this message, or of the one before, in place of another."""
+        """A part of this message, or of the one before, in place of another part."""
         other = Parts(self.rng.choice([parts.data, self.latest]))
         if len(other.data) < 20:
             return None
@@ -185,7 +185,7 @@ class Breaker:
         return parts.data[:start] + bytes([new]) + parts.data[end:]
 
     def wrong_name(self, parts):
-        """A name without its end, with an end in it, empty, that of another field, an operator's, or a path."""
+        """A name without its closing zero, with a zero in it, an empty one, that of another field or of an operator, or a path."""
         names = parts.spans["name"]
         if not names:
             return None
@@ -196,7 +196,7 @@ class Breaker:
         return self.replaced(parts, start, self.rng.choice([end, end, end + 1]), new)
 
     def wrong_text(self, parts):
-        """Bytes that are no UTF-8, or the last ones that are, in a name or a text."""
+        """Bytes that are no UTF-8, or valid ones such as the highest code point, in a name or a text."""
         spans = parts.spans["text"] + parts.spans["name"]
         if not spans:
             return None
@@ -205,7 +205,7 @@ class Breaker:
         return self.replaced(parts, at, at, self.rng.choice(WRONG_UTF8 * 2 + RIGHT_UTF8))
 
     def wrong_zero(self, parts):
-        """The closing zero of a document or a text is another byte, or is away."""
+        """The closing zero of a document or a text is another byte, is doubled or is missing."""
         ends = [end for _, end in parts.spans["document"]] + [end + 1 for _, end in parts.spans["text"]]
         if not ends:
             return None
@@ -222,7 +222,7 @@ class Breaker:
         return data[:at] + struct.pack("<i", self.rng.choice(new.get(at, [-1, 0, 7]))) + data[at + 4:]
 
     def wrong_section(self, parts):
-        """The kind of a section, its size, or its name; or a section more."""
+        """A section of another kind, or one section more, whose size or name may be wrong."""
         sections = parts.spans["section"]
         if not sections:
             return None
@@ -235,6 +235,6 @@ class Breaker:
         return self.replaced(parts, at, at, other)
 
     def joined(self, parts):
-        """A piece of one message in front of the next."""
+        """A piece of the last message and this one, in either order; or only the start of this one."""
         piece = self.latest[:self.rng.randrange(len(self.latest) + 1)]
         return self.rng.choice([piece + parts.data, parts.data + piece, parts.data[:self.rng.randrange(len(parts.data))]])

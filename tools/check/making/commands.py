@@ -10,7 +10,7 @@ IGNORED = [b"lsid", b"comment", b"$readPreference", b"maxTimeMS"]
 
 
 class Commands(Views):
-    """Makes commands of the database `t`. Some are of a session: its cursors are those that they ask for mostly."""
+    """Makes commands for the database `t`. Those that ask for a cursor mostly ask for one of `session`."""
 
     def __init__(self, rng):
         super().__init__(rng)
@@ -21,7 +21,7 @@ class Commands(Views):
         self.makers = [maker for maker, share in shares.items() for _ in range(share)]
 
     def readable(self):
-        """A collection, or a view that is there."""
+        """The name of a collection, or of a view that exists."""
         return text(self.rng.choice(self.standing)) if self.standing and self.often(0.2) else self.collection()
 
     def collection(self):
@@ -32,7 +32,7 @@ class Commands(Views):
                                 text(b"x" * 119), number(1)])
 
     def command(self):
-        """A command's fields, of which in some cases one is changed, too many, away or in another place."""
+        """A command's fields. In some cases one of them is changed, added or left out, or they are in another order."""
         fields = self.rng.choice(self.makers)()
         fields.append((b"$db", text(b"t" if self.often(0.97) else self.rng.choice([b"u", b"", b"t.u", b"t\0"]))))
         return self.changed(fields) if self.often(0.12) else fields
@@ -60,7 +60,7 @@ class Commands(Views):
         return fields + (others if self.often(0.7) else self.rng.sample(others, len(others)))
 
     def filter_by_index(self):
-        """A filter; where there are indexes, mostly one that begins with a path of one of them."""
+        """A filter. If there are indexes besides that on `_id`, it mostly begins with the path of an index."""
         made, indexes = self.filter(), self.indexes()
         if len(indexes) < 2 or self.often(0.4):
             return made
@@ -72,7 +72,7 @@ class Commands(Views):
         return document(distinct([condition, *made[1][1:]]))
 
     def first_by_index(self):
-        """The fields of a find of the first documents in a sort that begins with the path of an index, where there is one."""
+        """The fields of a find of the first documents in a sort. If there are indexes, the sort begins with the path of one."""
         paths, (_, parts) = [b".".join(index.path) for index in self.indexes()], self.sort()
         filters = [self.filter(), document([(b"zz", NOTHING)])]
         if paths:
@@ -86,7 +86,7 @@ class Commands(Views):
 
     def rows_by_id(self):
         """A find of a view, or an aggregate over it, that asks for rows by their `_id`s: for one, for some, for those in a range,
-        or for the first or all in their order."""
+        or for the first or all in the order of `_id`."""
         if not self.standing:
             return self.find()
         name = self.rng.choice(self.standing)
@@ -106,7 +106,7 @@ class Commands(Views):
         return [(b"aggregate", text(name)), (b"pipeline", array(pipeline + list(self.pipeline()[1]) * self.often(0.3)))]
 
     def indexes(self):
-        """Those of the collection `c`."""
+        """The indexes of the collection `c`."""
         return self.store.collections[b"t.c"].indexes if b"t.c" in self.store.collections else []
 
     def batch(self, share):
@@ -155,7 +155,7 @@ class Commands(Views):
         return self.entry(members + [(b"upsert", boolean(self.often(0.2)))] * self.often(0.05))
 
     def updating_keys(self, path):
-        """What changes keys of a unique index in several documents, in some of which they are free."""
+        """The fields of a statement that changes keys of a unique index, mostly in several documents. Some new keys are free."""
         numbers = [(path, document([(b"$gte", number(self.rng.randrange(2 * self.reach)))])),
                    (path + b".0", document([(b"$exists", boolean(False))]))]
         name, operand = self.rng.choice([
@@ -171,7 +171,7 @@ class Commands(Views):
         return document(self.rng.choice([own, [(b"$set", document(own))], [(b"a", number(1)), *own]]))
 
     def filter_along(self, fields, update):
-        """A filter of all documents, of this one, of those that have what the update begins with, or any."""
+        """A filter that matches all documents, this one, or those that have the first path of the update; or any filter."""
         how, (kind, held) = self.rng.randrange(6), update
         if how == 0:
             return document([])
@@ -221,7 +221,7 @@ class Commands(Views):
         return self.entry(fields)
 
     def path_apart(self):
-        """A path under which no two documents share a key, if one is met soon."""
+        """A path under which no two documents share a key, if one is found soon."""
         for _ in range(8):
             path = self.rng.choice([b"a", b"b", b"a.b", b"a.0", self.path()[0]] + [b"k"] * (5 * self.has_keys))
             if are_apart(path.split(b"."), self.documents):
@@ -240,12 +240,12 @@ class Commands(Views):
         return [(b"explain", held)] + [(b"verbosity", self.value(3))] * self.often(0.2)
 
     def view_stats(self):
-        """Of a view that is there, mostly."""
+        """A viewStats, mostly of a view that exists."""
         is_there = self.standing and self.often(0.7)
         return [(b"viewStats", text(self.rng.choice(self.standing)) if is_there else self.collection())]
 
     def cursor(self):
-        """The id of a cursor that is there, was there, or never was, and its collection, if it is there."""
+        """The id of a cursor that exists, existed once or never did, and the collection of that cursor if it exists, else any."""
         kept, latest = self.store.cursors.open, self.store.cursors.last
         own = [one for one in kept if kept[one].session is self.session] or list(kept)
         if own and self.often(0.8):

@@ -12,12 +12,12 @@ def insert(documents, *others):
 
 
 def sized(identity, size):
-    """A document of so many bytes."""
+    """A document of `size` bytes."""
     return document([(b"_id", number(identity)), (b"x", text(b"x" * (size - 22)))])
 
 
 def edges():
-    """Scripts at the limits: of a document, of the documents of an answer, of statements, of the longest line."""
+    """Scripts at the limits: of a document, of the documents of a reply, of statements, of a line."""
     def ping(size):
         return [(b"ping", text(b"x" * (size - 27)))]
 
@@ -45,7 +45,7 @@ def delete_edges():
 
 
 def update_edges():
-    """At a document's size and levels, at an array's last slot, at 100,000 statements."""
+    """Updates at the limits of a document's size and levels, of an array's last place, and of 100,000 statements."""
     def update(operator, path, operand):
         return [(b"update", text(b"c")), (b"updates", array([document([ALL, (b"u", document([
             (operator, document([(path, operand)]))]))])]))]
@@ -73,7 +73,7 @@ def update_edges():
 
 
 def view_edges():
-    """Views of a `$push` over groups of some hundred rows."""
+    """Views with a `$push` over groups of a few hundred rows."""
     fields = document([(b"_id", text(b"$k")), (b"all", document([(b"$push", text(b"$_id"))]))])
     view = [(b"create", text(b"v")), (b"viewOn", text(b"c")), (b"pipeline", array([document([(b"$group", fields)])]))]
     read, told = [(b"find", text(b"v"))], [(b"viewStats", text(b"v"))]
@@ -88,7 +88,8 @@ def view_edges():
 
 
 def tower_edges():
-    """Views over one with a $push over a group of some hundred rows: written below, read and told of."""
+    """Views over a view with a `$push` over a group of a few hundred rows. Commands write what they read, read them or describe
+    them."""
     for seed in range(12):
         rng = random.Random(seed)
         there = insert([document([(b"_id", number(i)), (b"k", number(i % 2))]) for i in range(rng.choice([255, 256, 257]))])
@@ -101,7 +102,7 @@ def tower_edges():
 
 
 def tie_edges():
-    """Finds of the first documents in a sort by an index in which many have the same key, some of them arrays, null or none."""
+    """Finds of the first documents in a sort by an index in which many have one key. Some have an array, null or nothing there."""
     for path, seed in [(b"k", 1), (b"k", 2), (b"k", 3), (b"k.n", 4), (b"k.n", 5)]:
         rng = random.Random(seed)
         keys, several = rng.choice([1, 3, 8]), rng.choice([0, 0.1, 0.6])
@@ -113,7 +114,7 @@ def tie_edges():
 
 
 def tied(rng, path, keys, several):
-    """The fields of a document by whose path it has one of so few keys, several of them, null or none."""
+    """The fields that give a document one of a few keys under the path, several of them, null or none."""
     def one():
         return NOTHING if rng.random() < 0.1 else number(rng.randrange(keys))
 
@@ -124,7 +125,7 @@ def tied(rng, path, keys, several):
 
 
 def first_of_tied(rng, path, keys):
-    """A find of the first documents in a sort by this path, of all or of those in a range of it, or that something else is true of."""
+    """A find of the first documents in a sort by this path: of all, of those in a range of it, or of those whose `x` is 1."""
     ends = [(operator, number(rng.randrange(keys))) for operator in rng.choice([[b"$gte"], [b"$lt"], [b"$gt", b"$lte"]])]
     filters = rng.choice([[], [], [(path, document(ends))], [(b"x", number(1))]])
     parts = [(path, number(rng.choice([1, -1]))), *rng.choice([[], [], [], [(b"x", number(-1))]])]
@@ -142,7 +143,7 @@ def looking_into(name):
 
 
 def one_of_tower(rng):
-    """A write below such views, or what reads one or tells of it."""
+    """A write to a collection that such views read, or a command that reads a view or describes it."""
     name, on = text(rng.choice([b"v", b"w", b"x", b"y", b"z", b"a"])), text(rng.choice([b"c", b"c", b"d"]))
     identity, some = document([(b"_id", number(rng.choice([-3, -2, -1, 0, 1, 2])))]), [(b"k", number(rng.randrange(3)))]
     return rng.choice([

@@ -6,10 +6,10 @@ from spelled import array, boolean, document, number, text
 
 
 class Paths(Values):
-    """Makes paths, filters and sorts along the documents."""
+    """Makes paths, filters and sorts that fit the documents."""
 
     def walked(self, among):
-        """A path that leads through one of the documents, and what stands there."""
+        """A path that leads through one of the documents, and the value at its end."""
         components, value = [], document(self.rng.choice(among) if among else [])
         while not components or self.often(0.4 if value[0] == ARRAY else 0.6):
             kind, held = value
@@ -26,7 +26,7 @@ class Paths(Values):
         return components, value
 
     def path(self, among=None):
-        """A path, as a text, and what stands there in some document."""
+        """A path, as a text, and the value at its end in some document."""
         components, value = self.walked(self.documents if among is None else among)
         if not components or self.often(0.04):
             components = [self.name() for _ in range(self.rng.randint(1, 3))]
@@ -66,7 +66,7 @@ class Paths(Values):
         return self.near(value) if self.often(0.3) else self.operators(value, depth)
 
     def bounds(self, path):
-        """One bound or two on what a path leads to: near what stands there in a document, or of any class."""
+        """One bound or two on the values of a path: near a value that a document has there, or of any class."""
         held = [one for fields in self.documents[:20] for one in whole((DOCUMENT, fields), path.split(b".")) if one]
         low, high = ((self.rng.choice(names), self.near(self.rng.choice(held)) if held and self.often(0.6) else self.identity())
                      for names in [(b"$gt", b"$gte"), (b"$lt", b"$lte")])

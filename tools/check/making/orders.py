@@ -1,19 +1,19 @@
 """Random writes and reads of two collections, orders and shelves, and the views over them.
 
-A size says how many times as many documents there are as BOUNDS says, and with them shelves, tags, numbers and slips. So a group,
-what a `$lookup` finds and what a range of an index finds have some hundred rows at most, however many documents there are: a write
-to a group under `$push` takes time for all its rows, and the row of all documents could be larger than a document may be. The few
-orders without a shelf, which are one group, stay as many too.
+A size multiplies the numbers of documents in BOUNDS, and with them those of shelves, tags, numbers and slips. So a group, what a
+`$lookup` finds and what a range of an index finds have a few hundred rows at most, however many documents there are: a write to a
+group under `$push` takes time for all its rows, and the row of all documents could be larger than a document may be. The few orders
+without a shelf are one group, and their number stays the same too.
 """
 import random
 
 SHELVES = 40
 LARGEST = 1_000  # number in an order
 TAGS = 12
-# How many documents each collection has: at least and at most, but for a moment behind a drop.
+# How many documents each collection has at least and at most, except for a moment after a drop.
 BOUNDS = {"orders": (400, 700), "shelves": (15, 35)}
 INDEXES = {"orders": ["n", "tags", "slip"], "shelves": ["floor"]}
-UNIQUE = "slip"  # the one that is
+UNIQUE = "slip"  # the index that is unique
 SLIPS = 2_000
 
 
@@ -59,7 +59,7 @@ class Orders:
         return self.rng.random() < share
 
     def identity(self, collection):
-        """One that some document may have: there are twice as many as documents."""
+        """An `_id` that some document may have: there are twice as many of these as documents."""
         return self.rng.randrange(2 * self.bounds[collection][1])
 
     def document(self, collection):
@@ -87,7 +87,7 @@ class Orders:
         return places if self.often(0.025) else places[0]
 
     def query(self, collection):
-        """One document by its identity, mostly, or a few by an index."""
+        """A query for one document by its `_id`, mostly, or for a few by an index."""
         if collection == "shelves" or self.often(0.9):
             return {"_id": self.identity(collection)}
         return self.query_by_index()
@@ -99,7 +99,7 @@ class Orders:
                                 {"tags": self.tag(), "n": {"$gt": self.size * (LARGEST - 200)}}])
 
     def change(self, collection):
-        """An update's operand; a replacement in some cases."""
+        """An update's `u`; in some cases a replacement."""
         if self.often(0.1):
             return {name: one for name, one in self.document(collection).items() if name != "_id"}
         if collection == "shelves":
@@ -113,7 +113,7 @@ class Orders:
         ] + [{"$unset": {"shelf": 1}}] * self.often(0.2 / self.size))
 
     def write(self):
-        """The collection that a write is of, and its command."""
+        """The collection of a write, and its command."""
         collection = "orders" if self.often(0.85) else "shelves"
         least, most = self.bounds[collection]
         if self.counts[collection] < least:
@@ -124,7 +124,7 @@ class Orders:
         return collection, made(collection)
 
     def insert(self, collection, count=0):
-        """Its documents count as stored at once, so that no other client makes up for the same ones."""
+        """The documents count as stored at once, so that no other client inserts documents because these are missing."""
         documents = [self.document(collection) for _ in range(count or self.rng.choice([1, 1, 1, 2, 5]))]
         self.counts[collection] += len(documents)
         return {"insert": collection, "documents": documents, "ordered": False}
@@ -148,7 +148,7 @@ class Orders:
         self.counts[collection] = 0
 
     def read(self):
-        """A find or an aggregate, whose answer may be longer than its first batch."""
+        """A find or an aggregate, whose result may be longer than its first batch."""
         batch = {"batchSize": self.rng.choice([0, 1, 10, 101])}
         if self.often(0.5):
             return {"find": self.rng.choice(list(self.views)), **batch}

@@ -43,7 +43,7 @@ class Pipelines(Updates):
         return self.value(2)
 
     def projection(self):
-        """Mostly a right one, of inclusions and expressions or of exclusions."""
+        """A projection, mostly a valid one, of inclusions and expressions or of exclusions."""
         excludes, fields = self.often(0.3), []
         for _ in range(self.rng.randint(1, 4)):
             if not excludes and self.often(0.35):

@@ -1,23 +1,23 @@
 """Random requests of a day's traffic over many orders and shelves, and the views over them."""
 from making.orders import BOUNDS, INDEXES, Orders, SLIPS, UNIQUE, joined
 
-A_FILLING = 500  # documents in an insert that comes in front of the traffic
+A_FILLING = 500  # documents in an insert before the traffic
 A_PAGE = 30  # documents
-A_SPAN = 20  # identities, of which a third have a document
+A_SPAN = 20  # `_id`s, of which about a third have a document
 MIDDLES = {name: (least + most) // 2 for name, (least, most) in BOUNDS.items()}
-IN_ORDER = ["orders", "dear", "with_shelf", "pairs"]  # what has its rows by an order's `_id`, to be gone through by pages
+IN_ORDER = ["orders", "dear", "with_shelf", "pairs"]  # whose rows have an order's `_id`, and are read page by page
 KEYED = {name: "orders" for name in IN_ORDER[1:]} | {name: "shelves" for name in ("with_orders", "shelf_sums")}
 
 
 class Requests(Orders):
-    """Makes commands over so many orders, and shelves for them. Their number stays about that."""
+    """Makes commands over `documents` orders, and shelves for them. Their numbers stay about the same."""
 
     def __init__(self, seed, documents):
         super().__init__(seed, max(documents // MIDDLES["orders"], 1))
         self.wanted = {name: documents * middle // MIDDLES["orders"] for name, middle in MIDDLES.items()}
 
     def filling(self, collection):
-        """The inserts that come first, none of which is refused: no `_id` comes twice, and no slip."""
+        """The inserts before the traffic. None of their documents is refused: no `_id` is there twice, and no slip."""
         count = self.wanted[collection]
         own = {"_id": iter(self.rng.sample(range(2 * self.bounds[collection][1]), count))}
         if UNIQUE in INDEXES[collection]:
@@ -34,7 +34,7 @@ class Requests(Orders):
         return collection, self.rng.choice([moving, self.update])(collection)
 
     def page(self, name, last):
-        """A find of the next page of orders or of a view's rows, behind an `_id`."""
+        """A find of the next page of orders or of a view's rows, after an `_id`."""
         return {"find": name, "filter": {"_id": {"$gt": last}}, "limit": A_PAGE}
 
     def by_key(self):

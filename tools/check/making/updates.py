@@ -6,7 +6,7 @@ from spelled import array, document, number
 
 
 class Updates(Paths):
-    """Makes updates, along one of the documents without its `_id`."""
+    """Makes updates that fit one of the documents without its `_id`."""
 
     def update(self, among):
         if self.often(0.03):
@@ -28,7 +28,7 @@ class Updates(Paths):
 
     def operations(self, name, among):
         if self.often(0.06):
-            # Several new fields or elements, whose order is that of the paths.
+            # Several new fields or elements, which are added in the order of the paths.
             front, names = self.path(among)[0], [b"2", b"10", b"b", b"a", b"01", b"1", b"3"]
             return document([(front + b"." + one, self.number()) for one in self.rng.sample(names, 4)])
         count = self.rng.choice([0, 1, 1, 1, 1, 1, 1, 2, 3])
@@ -39,7 +39,7 @@ class Updates(Paths):
         if self.often(0.05):
             path = self.rng.choice([path + b".9", path + b".a", b"_id", b"_id.a", b"a.$", b"a.$b.c", b"$x"])
         if self.often(0.03):
-            # Behind the ends of arrays, at the limits.
+            # Beyond the ends of arrays, at the limits.
             path += b"." + self.rng.choice([b"12", b"100001", b"9999999999", b"10000000000"])
         if self.often(0.01):
             # Deep, as deep as a document may be, or deeper.
@@ -47,7 +47,7 @@ class Updates(Paths):
         return path, self.operand(name, value)
 
     def path_to(self, kinds, among):
-        """A path that leads to a value of these kinds, if one is met soon."""
+        """A path that leads to a value of one of these types, if one is found soon."""
         found = self.path(among)
         for _ in range(5):
             if not kinds or found[1][0] in kinds:

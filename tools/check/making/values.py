@@ -6,7 +6,7 @@ from spelled import Broken, NOTHING, array, boolean, document, number, spelled, 
 
 
 def distinct(fields):
-    """The fields, of which the first of a name stays."""
+    """The fields, each name once: the first value of a name stays, in the place of the last."""
     return list({name: (name, value) for name, value in reversed(fields)}.values())[::-1]
 
 
@@ -20,13 +20,13 @@ class Values:
 
     @property
     def documents(self):
-        """Those along which paths are walked: rows where these are given, what is stored, or was made for that."""
+        """The documents that paths lead through: rows if these are given, else the stored documents, else those that were made."""
         collection = self.store.collections.get(b"t.c")
         return self.along or collection and collection.documents or self.made
 
     @property
     def standing(self):
-        """The names of the views that are there, in the order in which they were made."""
+        """The names of the views that exist, in the order in which they were created."""
         return [place.partition(b".")[2] for place in self.store.views if place.startswith(b"t.")]
 
     def often(self, share):
@@ -49,7 +49,7 @@ class Values:
         return self.rng.choice([b"a", b"a", b"a", b"b", b"b", b"c", b"x$", b"0", b"1", "é".encode(), b"_ID", b"name" * 20])
 
     def other(self):
-        """A value of a rarer kind; few of each, so that many are equal or stand beside each other."""
+        """A value of a rarer type. There are few of each, so that many are equal or next to each other."""
         small = self.rng.choice([-2**63, -1, 0, 1, 2**63 - 1])
         data = self.rng.choice([b"", b"a", b"b", b"aa", b"ab", b"\0"])
         return self.rng.choice([
@@ -107,7 +107,7 @@ class Values:
         return self.value(3) if self.often(0.5) else document([(b"a", self.number())])
 
     def document(self):
-        """A document of a shape of its own, or of that of an earlier one."""
+        """A document with fields of its own, or with fields like those of another document."""
         if self.documents and self.often(0.6):
             fields = self.like(self.rng.choice(self.documents))
         else:
@@ -122,15 +122,15 @@ class Values:
         return document(fields)
 
     def own_key(self):
-        """A value that few others equal."""
+        """A value that is equal to few others."""
         if self.often(0.1):
             return self.one_of(lambda: array(self.own_key() for _ in range(self.rng.randrange(3))), lambda: self.value(3))
         return number(self.rng.randrange(4 * self.reach), self.often(0.4))
 
-    # What stands near a value.
+    # Values near a value.
 
     def respelled(self, value):
-        """The same value, whose numbers have another width here and there."""
+        """The same value, in which some numbers may have another width."""
         kind, held = value
         if kind in NUMBERS:
             return number(held, self.often(0.5))
@@ -139,12 +139,12 @@ class Values:
         return array(map(self.respelled, held)) if kind == ARRAY else value
 
     def like(self, fields):
-        """Fields as these, but for `_id`: most of them, the same or near them."""
+        """Fields like these, except `_id`: most of them, with the same values or values near them."""
         return [(name, value if self.often(0.5) else self.near(value)) for name, value in fields
                 if name != b"_id" and self.often(0.9)]
 
     def near(self, value):
-        """A value that equals this one, stands beside it, or is a part of it; sometimes any other."""
+        """A value that equals this one, is next to it, or is a part of it; sometimes any other."""
         kind, held = value
         how = self.rng.randrange(12)
         if how < 5 or how > 9:
@@ -156,7 +156,7 @@ class Values:
         return self.other() if how == 8 else self.value(2)
 
     def part_of(self, kind, held):
-        """Fewer of its members or one more, the same in another order, or one of them."""
+        """The value with one member less or one more, or with its members in another order; or one of its members."""
         one, how = self.rng.choice(held), self.rng.randrange(4)
         if how == 0:
             return one[1] if kind == DOCUMENT else one

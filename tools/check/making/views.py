@@ -1,4 +1,4 @@
-"""Random views, whose stages have something to do at most writes, and views over views."""
+"""Random views whose stages have something to do in most writes, and views over views."""
 from making.pipelines import Pipelines
 from making.values import distinct
 from model.pipelines import pipeline_of, rows_of
@@ -6,7 +6,7 @@ from model.refusals import Refusal
 from model.values import ARRAY
 from spelled import array, boolean, document, text
 
-# The stages of views: each kind in front of and behind others.
+# The stages of views: each kind before and after others.
 CHAINS = [line.split() for line in """
     $group
     $lookup
@@ -33,7 +33,7 @@ CHAINS = [line.split() for line in """
     $sort $unwind $group $project
     $match $lookup $unwind $group $sort $limit
 """.strip().splitlines()]
-# Those of views in towers, which are to leave rows for the next ones; from the fourth on they hold hardly anything back.
+# The stages of views in towers, which have to leave rows for the next views. From the fourth view on, hardly any row is left out.
 FEW = [line.split() for line in """
     $match
     $sort
@@ -45,7 +45,7 @@ FEW = [line.split() for line in """
     $unwind $group
 """.strip().splitlines()] + [[], []]
 HARDLY = [[], [], ["$sort"], ["$sort"], ["$project"], ["$match"], ["$lookup"]]
-MOST_ROWS = 20  # along which a stage is made
+MOST_ROWS = 20  # that a stage is made to fit
 TOWER = [b"v%d" % place for place in range(1, 10)]
 
 
@@ -53,13 +53,13 @@ class Views(Pipelines):
     """Makes views."""
 
     def view(self, name, chains=CHAINS, source=None, others=()):
-        """A command that makes a view by one of these chains of stages, behind lookups into some others; mostly of the
-        collection `c`, where no source is named."""
+        """A command that creates a view with one of these chains of stages, after lookups into some others. If no source is named,
+        it is mostly the collection `c`."""
         source = source or self.rng.choice([b"c"] * 9 + [b"d"] + self.standing[-3:])
         return [(b"create", text(name)), (b"viewOn", text(source)), (b"pipeline", array(self.chain(chains, source, others)))]
 
     def chain(self, chains, source, others):
-        """Stages of which each is made along the rows that those before it make."""
+        """Stages, each of which is made to fit the rows that those before it return."""
         stages, rows = [], self.rows_under(source)
         for name in [*others, *self.rng.choice(chains)]:
             self.along = rows or None
@@ -69,11 +69,11 @@ class Views(Pipelines):
         return stages
 
     def rows_under(self, name):
-        """The rows of a view; documents, where it is none."""
+        """The rows of a view, or documents if the name is not a view's."""
         return (self.store.reader()(b"t." + name) if name in self.standing else self.documents)[:MOST_ROWS]
 
     def kept_stage(self, name, source):
-        """A stage of the view of a source: of this kind, or a lookup into what has this name."""
+        """A stage for a view over a source: of the kind `name`, or, if `name` is bytes, a lookup into what has this name."""
         if isinstance(name, bytes):
             return document([(b"$lookup", self.lookup_of_equals(name))])
         if name == "$lookup":
@@ -95,7 +95,7 @@ class Views(Pipelines):
         return document(distinct(fields))
 
     def rows_behind(self, stage, rows):
-        """What a stage makes of rows; nothing where it is none."""
+        """The rows that a stage makes of rows; none if the stage is refused."""
         try:
             functions, _ = pipeline_of([stage])
         except Refusal:
@@ -103,12 +103,13 @@ class Views(Pipelines):
         look = self.store.reader()
         return rows_of(functions, rows, lambda name: look(b"t." + name))[:MOST_ROWS]
 
-    # Views over views: for each the place of the one that it is over, and those of the ones that it looks into first. None is
-    # the collection.
+    # Views over views: for each view, the place of the view that it is over, and the places of those that it looks into first. None
+    # is the collection.
 
     def tower(self):
-        """A chain of views, up to the greatest height and past it, mostly with some that look into others; two views of one
-        collection and one that joins them, and one on top; one that reads another twice; or any."""
+        """One of these: a chain of views, up to the greatest height and past it; views that are over any of the three before them,
+        and may look into one too; two views of one collection, one that joins them, and one on top; views that each read the one
+        before twice."""
         count = self.rng.choice([2, 3, 4, 7, 8, 9, 9])
         chain = [(place - 1 if place else None, []) for place in range(count)]
         mixed = [(self.below(place), [self.below(place) for _ in range(self.rng.choice([0, 0, 1]))]) for place in range(count)]
@@ -119,7 +120,7 @@ class Views(Pipelines):
         return self.rng.choice([None, *range(place)[-3:]])
 
     def of_tower(self, place, below):
-        """A command that makes the view at a place of a tower."""
+        """A command that creates the view at a place of a tower."""
         over, looked_into = below
         source, *others = [b"c" if one is None else TOWER[one] for one in [over, *looked_into]]
         return self.view(TOWER[place], FEW if place < 3 else HARDLY, source, others)

@@ -1,4 +1,4 @@
-"""What makes collections, views and indexes, and takes them away."""
+"""Commands that create and drop collections, views and indexes, and viewStats."""
 from model.indexes import ON_ID, entry_of, with_indexes
 from model.namespaces import joined, namespace
 from model.pipelines import pipeline_of

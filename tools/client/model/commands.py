@@ -9,13 +9,13 @@ from model.writes import NoSuchCut, WRITES, write
 
 
 def execute(store, body, cut=None, session=None):
-    """Carries a command without lists beside its body out and gives its reply. A write may be cut for want of memory: at
-    which statement, and behind how many of its changes."""
+    """Carries out a command without lists next to its body, and returns its reply. A write may be cut as if memory ran out: `cut`
+    says at which statement, and after how many of its changes."""
     return answer_to(store, session, [(None, [body])], cut)
 
 
 def answer_to(store, session, sections, cut=None):
-    """Carries out the command that a message's sections bring, and gives its reply."""
+    """Carries out the command in a message's sections, and returns its reply."""
     try:
         read = {name: [read_document(one) for one in documents] for name, documents in sections}
         (body,) = read.pop(None)
@@ -52,7 +52,7 @@ def is_of_find(value):
 
 
 def put_lists(fields, lists, wanted):
-    """Puts the documents beside a body under the name of the command's list, which may not be in the body too."""
+    """Puts the documents next to a body under the name of the command's list, which may not be in the body too."""
     for name, documents in lists.items():
         if name != wanted or name in fields:
             raise Refusal(FAILED_TO_PARSE)
@@ -80,6 +80,6 @@ def hello(store, database, fields):
 COMMANDS = {b"ping": ping, b"hello": hello, b"find": find, b"aggregate": aggregate, b"create": create, b"drop": drop,
             b"createIndexes": create_indexes, b"dropIndexes": drop_indexes, b"explain": explain, b"getMore": get_more,
             b"killCursors": kill_cursors, b"viewStats": view_stats, **dict.fromkeys(WRITES)}
-OF_SESSIONS = {b"find", b"aggregate", b"getMore", b"killCursors"}  # what they answer goes by the session
-# The lists that may stand beside a body.
+OF_SESSIONS = {b"find", b"aggregate", b"getMore", b"killCursors"}  # their replies depend on the session
+# The lists that may be next to a body.
 LISTS = {name: lists for name, (lists, _) in WRITES.items()}

@@ -1,4 +1,4 @@
-"""Answers in batches, and what is left of them."""
+"""Results in batches, and the cursors that keep what is left of them."""
 from collections import namedtuple
 
 from model.refusals import CURSOR_NOT_FOUND, LIMIT_REACHED, Refusal
@@ -7,12 +7,12 @@ from model.values import MOST_BYTES, size
 MOST_CURSORS = 1_000
 FIRST_BATCH = 101
 
-# Whose it is, the namespace that it was made for, and the rows that didn't go out yet.
+# The session that has it, the namespace that it was made for, and the rows that are not yet returned.
 Cursor = namedtuple("Cursor", "session place rows")
 
 
 def split(rows, most):
-    """The rows of a batch of at most so many, None being no limit, and those behind it."""
+    """The rows of a batch of at most `most` rows (None is no limit), and those after it."""
     count, total = 0, 0
     for row in rows:
         total += size(row)
@@ -33,7 +33,7 @@ class Cursors:
             raise Refusal(LIMIT_REACHED)
 
     def keep(self, cursor):
-        """Keeps a new cursor and gives its id, 0 where it has no rows."""
+        """Keeps a new cursor and returns its id, 0 if it has no rows."""
         if not cursor.rows:
             return 0
         self.last += 1
@@ -44,7 +44,7 @@ class Cursors:
         return identity in self.open and self.open[identity][:2] == (session, place)
 
     def more(self, identity, session, place, most):
-        """The next rows of a cursor, and its id, 0 where it has no more."""
+        """The next rows of a cursor, and its id, 0 if it has no more."""
         if not self.has(identity, session, place):
             raise Refusal(CURSOR_NOT_FOUND)
         batch, rest = split(self.open[identity].rows, most)
@@ -55,7 +55,7 @@ class Cursors:
         return batch, 0
 
     def kill(self, identities, session, place):
-        """Takes these out, and gives those that were there and those that weren't."""
+        """Removes these cursors, and returns the ids of those that were there and of those that weren't."""
         killed, missing = [], []
         for identity in identities:
             is_there = self.has(identity, session, place)

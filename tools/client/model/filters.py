@@ -1,7 +1,7 @@
 """Filters: a filter's document becomes a test of documents, or is refused with BadValue.
 
-A condition is a test of the candidates of a path (see `paths.whole`). That of an element of an array gets the element
-alone, as the one candidate and the one leaf.
+A condition is a test of the candidates of a path (see `paths.whole`). A condition on an element of an array gets only the
+element, as the one candidate and the one leaf.
 """
 from model.paths import MISSING, as_null, components_of, leaves, whole
 from model.refusals import BAD_VALUE, Refusal
@@ -48,7 +48,7 @@ def documents_of(operand):
 
 
 def condition_of(operand):
-    """A document that begins with an operator is a list of these; anything else is to be equal."""
+    """A document that begins with an operator is a list of operators; any other operand is what a leaf has to equal."""
     kind, held = operand
     return operators_of(held) if kind == DOCUMENT and begins_with_operator(held) else equal_to(operand)
 
@@ -66,7 +66,7 @@ def equal_to(operand):
 
 
 def member_of_list(members):
-    """Some leaf is one of the members, what is missing being null."""
+    """Some leaf is one of the members; a missing one is null."""
     keys = {key(member) for member in members}
     return lambda candidates, leaves: any(key(as_null(leaf)) in keys for leaf in leaves)
 
@@ -81,7 +81,7 @@ def list_of(operand):
 
 
 def denied(made):
-    """A condition that holds where the one that is made of the operand doesn't."""
+    """A condition that holds if the one that is made of the operand doesn't."""
     def make(operand):
         condition = made(operand)
         return lambda candidates, leaves: not condition(candidates, leaves)
@@ -89,7 +89,7 @@ def denied(made):
 
 
 def ranged(compares):
-    """A condition that some leaf is of the operand's class and compares so."""
+    """A condition that some leaf is of the operand's class, and that `compares` is true of the two."""
     def make(operand):
         bound, rank = key(operand), RANKS[operand[0]]
         return lambda candidates, leaves: any(

@@ -1,6 +1,6 @@
-"""Indexes: the entries that make them, which of them a filter is answered by, and how many documents that one covers.
+"""Indexes: the entries that create them, which of them a filter uses, and how many documents that index covers.
 
-An index is its name, its path and whether it is unique; what it would hold is never kept.
+An index is its name, its path and whether it is unique; its keys are never kept.
 """
 from collections import namedtuple
 
@@ -35,12 +35,12 @@ def entry_of(fields):
 
 
 def has_several_paths(name, held):
-    """Whether a field asks for an index over several paths, which there isn't."""
+    """Whether a field asks for an index over several paths, which docd doesn't have."""
     return name == b"key" and len(held) > 1
 
 
 def with_indexes(indexes, wanted):
-    """The indexes with those that are wanted, in order, of which each is new or there already."""
+    """The indexes, followed by those that are wanted, in order. An index that is there already is not added."""
     indexes = list(indexes)
     for new in wanted:
         if new.path == ON_ID.path or new in indexes:
@@ -66,8 +66,8 @@ def conditions_of(fields):
 
 
 def plan_of(fields, indexes):
-    """The name and path of the index that a filter is answered by, and the condition that bounds its keys; None where
-    all documents are looked at."""
+    """The name and path of the index that a filter uses, and the condition that bounds its keys; None if all documents are
+    scanned."""
     conditions = list(conditions_of(fields))
     for wanted in (POINTS, RANGES):
         for name, path, _ in indexes:

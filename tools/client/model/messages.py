@@ -1,10 +1,10 @@
-"""OP_MSG: whole messages taken off a stream, what asks, and what answers."""
+"""OP_MSG: takes whole messages off a stream, makes messages, and reads replies."""
 import struct
 
 from model.values import BsonFault, int32, read_fields, spelling, utf8
 
 BODY, LIST = 0, 1  # kinds of sections
-HEADER = 21  # the bytes in front of the body of a message that has nothing else
+HEADER = 21  # the bytes before the body of a message that has nothing else
 
 
 class Closing(Exception):
@@ -17,8 +17,8 @@ def wanted(is_right):
 
 
 def take_message(stream):
-    """The length, requestID, flag bits and sections of the whole message in front of a stream, None where it isn't there
-    yet. A section is its identifier, None for the body's, and the bytes of its documents. A closing fault is told as soon
+    """The length, requestID, flag bits and sections of the message at the start of a stream, None if not all of it is there
+    yet. A section is its identifier, None for the body's, and the bytes of its documents. A closing fault is raised as soon
     as the bytes show it."""
     length = int32(stream, 0) if len(stream) >= 4 else None
     if length is not None and not 26 <= length <= 48_000_000:
@@ -64,7 +64,7 @@ def identifier(text):
 
 
 def framed(data, at, end, most=None):
-    """The bytes of the documents from a place to the end, or of so many, and where they end."""
+    """The bytes of the documents from a place to the end, or of the first `most`, and where they end."""
     documents = []
     while at < end and len(documents) != most:
         wanted(at + 4 <= end and 5 <= int32(data, at) <= end - at)
@@ -75,12 +75,12 @@ def framed(data, at, end, most=None):
 
 
 def message(answered, body, number=0):
-    """The bytes of a message with a requestID, which answers the one with another requestID, 0 where it asks."""
+    """The bytes of a message with the requestID `number`. `answered` is the requestID that it replies to, 0 in a command."""
     data = spelling(body)
     return struct.pack("<iiiiIB", HEADER + len(data), number, answered, 2013, 0, BODY) + data
 
 
 def answer(data):
-    """The body of a reply, which may have more bytes than a document that is read, and three levels above its rows."""
+    """The body of a reply, which may have more bytes than a document that docd reads, and three levels above its rows."""
     body = data[HEADER:]
     return read_fields(body, 0, len(body), -2, is_array=False)

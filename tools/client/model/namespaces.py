@@ -1,4 +1,4 @@
-"""The names of databases and of what stands in them."""
+"""The names of databases and of what is in them."""
 from model.paths import field_of
 from model.pipelines import is_collection_name
 from model.refusals import BAD_VALUE, FAILED_TO_PARSE, Refusal, TYPE_MISMATCH

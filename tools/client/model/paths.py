@@ -1,16 +1,16 @@
-"""Dotted paths: the values that one leads to, placing and removing, and what a sort sees."""
+"""Dotted paths: the values that a path leads to, placing and removing values, and the keys of a sort."""
 import re
 
 from model.refusals import BAD_VALUE, PATH_NOT_VIABLE, Refusal
 from model.values import ARRAY, DOCUMENT, NO_ELEMENT, NULL, NUMBERS, key
 
 WHOLE_NUMBER = re.compile(rb"0|[1-9][0-9]{0,9}")
-FARTHEST_SLOT = 100_000  # beyond an array's end
-MISSING = None  # stands where a path leads to no value
+FARTHEST_SLOT = 100_000  # the last one beyond an array's end that can be filled
+MISSING = None  # in place of a value if a path leads to none
 
 
 def components_of(text):
-    """A path's components, none of them empty or with a zero byte; None where the text is no path."""
+    """A path's components, none of them empty or with a zero byte; None if the text is no path."""
     components = text.split(b".")
     return None if any(not one or b"\0" in one for one in components) else components
 
@@ -24,7 +24,7 @@ def field_of(fields, name):
 
 
 def whole(value, components):
-    """The candidates of a path: values, and MISSING where a document on the way lacks the field."""
+    """The candidates of a path: values, and MISSING where a name finds no field, in a document or in a plain value."""
     if not components:
         return [value]
     if value is MISSING:
@@ -76,8 +76,8 @@ def expression_value(value, components):
 
 
 def changed_at(value, components, change):
-    """The value with what `change` makes of the one that a path leads to, MISSING where there is none. Documents that
-    are missing on the way are made, and an array is filled up with nulls."""
+    """The value in which `change` has replaced the one that a path leads to, MISSING if there is none. Documents that
+    are missing on the way are added, and an array is filled up with nulls."""
     if not components:
         return change(value)
     name, rest = components[0], components[1:]
@@ -96,7 +96,7 @@ def changed_at(value, components, change):
 
 
 def with_field(fields, name, value):
-    """The fields with this one, in its place or behind the others."""
+    """The fields with this one, in its place or after the others."""
     if any(other == name for other, _ in fields):
         return [(other, value if other == name else old) for other, old in fields]
     return [*fields, (name, value)]
@@ -122,7 +122,7 @@ def slot(value, components):
 
 
 def removed(value, components):
-    """The value without what the path leads to: a field goes, an array's element becomes null."""
+    """The value without what the path leads to: a field is removed, an array's element becomes null."""
     if slot(value, components) is MISSING:
         return value
     kind, held = value
@@ -137,7 +137,7 @@ def removed(value, components):
 
 
 def sort_of(fields):
-    """A sort's paths, each with whether it falls: 1 to 32 of them, each 1 or -1."""
+    """A sort's paths, each with whether it is descending: 1 to 32 of them, each 1 or -1."""
     parts = [(components_of(name), held == -1) for name, (kind, held) in fields if kind in NUMBERS and held in (1, -1)]
     if not 1 <= len(fields) <= 32 or len(parts) < len(fields) or any(path is None for path, _ in parts):
         raise Refusal(BAD_VALUE)
@@ -145,7 +145,7 @@ def sort_of(fields):
 
 
 def sort_key(document, path, is_falling):
-    """The least key that the path leads to, the greatest where the sort falls."""
+    """The least key that the path leads to, the greatest if the sort is descending."""
     keys = []
     for candidate in whole((DOCUMENT, document), path):
         kind, held = as_null(candidate)
@@ -158,8 +158,8 @@ def sort_key(document, path, is_falling):
 
 
 def sorted_rows(parts, rows):
-    """The rows in the order of a sort; those that it doesn't tell apart stay in theirs."""
-    # Sorting is stable, in reverse too, so the last path comes first.
+    """The rows in the order of a sort; rows with equal keys keep their order."""
+    # Sorting is stable, in reverse too, so the rows are sorted by the last path first.
     for path, is_falling in reversed(parts):
         rows = sorted(rows, key=lambda row: sort_key(row, path, is_falling), reverse=is_falling)
     return rows

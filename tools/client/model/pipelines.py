@@ -1,6 +1,6 @@
 """Aggregation pipelines: a list of stages becomes a function from rows to rows, or is refused.
 
-A stage is a function of the rows and of `look`, which gives what stands under a name in the database.
+A stage is a function of the rows and of `look`, which returns the rows under a name in the database.
 """
 from model.filters import filter_of
 from model.paths import (MISSING, as_null, components_of, expression_value, field_of, leaf_keys, put, removed, slot, sort_of,
@@ -64,11 +64,11 @@ def limit(operand):
     return lambda rows, look: rows[:count]
 
 
-# Expressions: a function of a row's fields that gives a value or MISSING.
+# Expressions: a function of a row's fields that returns a value or MISSING.
 
 
 def expression_of(operand, has_numbers=True):
-    """An expression; in `$project` its documents may hold numbers and booleans under `$literal` alone."""
+    """An expression; in `$project` its documents may hold numbers and booleans only under `$literal`."""
     kind, held = operand
     wanted(kind != ARRAY and (has_numbers or kind not in (*NUMBERS, BOOLEAN)))
     if kind == TEXT and held.startswith(b"$"):
@@ -112,7 +112,7 @@ def project(operand):
 
 
 def members_of(fields):
-    """The members of a projection, of which each is right and goes with those before it: the name, its path, and how."""
+    """The members of a projection, each valid and allowed with those before it: the name, its path, and how it is projected."""
     wanted(fields)
     members, excludes = [], set()
     for name, value in fields:
@@ -158,7 +158,7 @@ def only(fields, tree):
 
 
 def only_of(value, tree):
-    """What an included path leaves of a value, MISSING where that isn't a document or an array."""
+    """What an included path leaves of a value, MISSING if the path goes on and the value isn't a document or an array."""
     kind, held = value
     if tree is None:
         return value
@@ -171,7 +171,7 @@ def only_of(value, tree):
 
 
 def without(fields, tree):
-    """The fields but those that the tree's paths end at."""
+    """The fields without what the tree's paths end at."""
     return [(name, without_of(value, tree.get(name, {}))) for name, value in fields if tree.get(name, {}) is not None]
 
 
@@ -208,7 +208,7 @@ def through_documents(row, path):
 
 
 def unwound(row, path, is_preserving):
-    """The rows of one row: one for each element in the array's place."""
+    """The rows that are made of one row: one for each element, which takes the array's place."""
     value = through_documents(row, path)
     if value is MISSING or value[0] == NULL:
         return [row] if is_preserving else []
@@ -247,7 +247,7 @@ def is_collection_name(name):
 
 
 def local_values(row, path):
-    """The values of a path, an array giving its elements."""
+    """The values of a path, with an array's elements in place of the array."""
     values = []
     for value in map(as_null, whole((DOCUMENT, row), path)):
         values += value[1] if value[0] == ARRAY else [value]

@@ -1,4 +1,4 @@
-"""What reads: finds, aggregates and how a find goes, and the batches in which the rows go out."""
+"""Commands that read: finds, aggregates and explains, and the batches in which rows are returned."""
 from model.cursors import Cursor, FIRST_BATCH, split
 from model.filters import filter_of
 from model.indexes import covered, plan_of
@@ -26,7 +26,7 @@ def query(database, fields):
 
 
 def first_answer(store, cursor, fields, is_single):
-    """The first batch of a cursor's rows, and the cursor's id, where rows are left and one is kept of them."""
+    """The reply with the first batch of a cursor's rows and its id, which is 0 if no rows are left or none are to be kept."""
     batch, rest = split(cursor.rows, fields.get(b"batchSize", (INT32, FIRST_BATCH))[1])
     rest = [] if is_single else rest
     if rest:

@@ -1,4 +1,4 @@
-"""Why a command or a statement is refused, and how a reply tells it."""
+"""Why a command or a statement is refused, and the reply to a refused command."""
 from model.values import INT32, TEXT
 
 BAD_VALUE, FAILED_TO_PARSE, TYPE_MISMATCH, INVALID_BSON, NAMESPACE_NOT_FOUND, PATH_NOT_VIABLE = 2, 9, 14, 22, 26, 28
@@ -14,7 +14,7 @@ NAMES = {
     LIMIT_REACHED: b"LimitReached", READ_BY_VIEW: b"ReadByView",
 }
 
-# How a reply ends that is no refusal.
+# The end of a reply that is no refusal.
 OK = b"ok", (INT32, 1)
 
 

@@ -1,11 +1,11 @@
-"""Functions of rows that are computed once for each row, since views ask them again at each change."""
+"""Functions of rows that are computed once for each row, since views call them again at each change."""
 
 MOST_REMEMBERED = 100_000
 
 
 def remembered(function):
-    """The same function. A row is told by where it is in memory, as none is changed there; so each is kept, but for those
-    before too many others."""
+    """The same function. A row is known by its address in memory, as no row is changed in place. So each row is kept, until
+    there are too many and all are dropped."""
     known = {}
 
     def of(row):

@@ -21,7 +21,7 @@ class Collection:
         return at < len(self.keys) and self.keys[at] == wanted
 
     def change(self, wanted, document):
-        """Puts the document under its key, or takes the one there out where it is None."""
+        """Stores the document under its key, or removes the one there if it is None."""
         at = bisect.bisect_left(self.keys, wanted)
         end = at + self.has(wanted)
         self.keys[at:end] = [] if document is None else [wanted]
@@ -33,13 +33,13 @@ class Collection:
 
 
 class Store:
-    """The collections and views by namespace, and the cursors. A view reads older ones alone."""
+    """The collections and views by namespace, and the cursors. Of views, a view reads only older ones."""
 
     def __init__(self):
         self.collections, self.views, self.cursors = {}, {}, Cursors()
 
     def collection(self, place):
-        """The collection under a namespace; where it isn't there, an empty one."""
+        """The collection under a namespace; if it isn't there, an empty one."""
         return self.collections.get(place, Collection())
 
     def rows(self, place):
@@ -48,7 +48,7 @@ class Store:
         return self.reader()(place)
 
     def reader(self):
-        """What gives the rows under a namespace, where no view that is needed is stale. A view's rows are made once."""
+        """A function that returns the rows under a namespace if no view that it needs is stale. A view's rows are computed once."""
         @cache
         def rows(place):
             if place not in self.views:
@@ -58,7 +58,7 @@ class Store:
         return rows
 
     def placer(self):
-        """What gives the same at positions, where each view that is needed is kept by changes."""
+        """A function that returns the same rows at positions if each view that it needs is live."""
         @cache
         def placed(place):
             if place not in self.views:
@@ -68,7 +68,7 @@ class Store:
         return placed
 
     def refresh(self, place):
-        """Makes the view under a namespace anew, where it is stale, behind those that it reads."""
+        """Recomputes the view under a namespace if it is stale, after the views that it reads."""
         view = self.views.get(place)
         if view and not view.is_live:
             for name in view.reads:
@@ -76,26 +76,26 @@ class Store:
             view.refresh()
 
     def is_read(self, place):
-        """Whether a view reads what stands under a namespace."""
+        """Whether a view reads the collection or view under a namespace."""
         return any(place in view.reads for view in self.views.values())
 
     def height(self, place):
-        """How many views stand on one another under a namespace, at most; none where it is no view."""
+        """The height of the view under a namespace; 0 if there is no view."""
         return self.views[place].height if place in self.views else 0
 
     def empty(self, place):
-        """Takes the documents out of a collection, if one is there, in their order."""
+        """Removes the documents of a collection, if one is there, in their order."""
         self.change(place, [(*position, None) for position, _ in self.collection(place).placed()])
 
     def change(self, place, changes):
-        """Makes the changes of a collection, each of which goes through all views before the next one."""
+        """Makes the changes of a collection. Each goes through all views before the next one."""
         for wanted, document in changes:
             self.tell(place, ((wanted,), document))
             self.collections.setdefault(place, Collection()).change(wanted, document)
 
     def tell(self, place, change):
-        """Tells a change to the views that stand over a namespace, in the order in which they were made: what one hands on of it
-        comes to those that read it."""
+        """Passes a change to the views over a namespace, in the order in which they were created. What a view passes on of it
+        arrives at those that read the view."""
         told, look = {place: [change]}, self.placer()
         for name, view in self.views.items():
             if any(other in told for other in view.reads):

@@ -1,14 +1,14 @@
-"""Unique indexes: of such an index no key stands in two documents.
+"""Unique indexes: no two documents share a key of such an index.
 
-The keys of a document are those of its leaves under the index's path, a whole array being one as well as its elements; what
-is missing has the key of null. Nothing is kept: the documents are looked at each time.
+The keys of a document are those of its leaves under the index's path: a whole array is a leaf, and each of its elements too. What
+is missing has the key of null. Nothing is kept: the documents are read each time.
 """
 from model.paths import leaf_keys
 from model.refusals import DUPLICATE_KEY, Refusal
 
 
 def check_indexes(indexes, documents):
-    """Refuses indexes of which one is unique, where two of the documents share a key under its path."""
+    """Refuses indexes if two of the documents share a key under the path of a unique one."""
     if not all(are_apart(path, documents) for path in unique_paths(indexes)):
         raise Refusal(DUPLICATE_KEY)
 
@@ -25,7 +25,7 @@ def are_apart(path, documents):
 
 
 def check_changes(collection, changes):
-    """Refuses changes of a collection of which one, made behind those before it, would put a key of a unique index under a
+    """Refuses changes of a collection if one of them, made after those before it, would put a key of a unique index under a
     second `_id`."""
     for path in unique_paths(collection.indexes):
         keys = {wanted: leaf_keys(document, path) for wanted, document in zip(collection.keys, collection.documents)}

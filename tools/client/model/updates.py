@@ -1,7 +1,7 @@
 """Updates: an update's document becomes a change of documents, or is refused.
 
-Of the changes of one update the first refusal in the order of its paths is told, then that `_id` is another one, then
-that the result is too large, then that it is too deep.
+If a document's update is refused for several reasons, the first of these is returned: the refusals of its operators in the order
+of their paths, then that `_id` is another one, then that the result is too large, then that it is too deep.
 """
 import sys
 
@@ -11,7 +11,7 @@ from model.refusals import (BAD_VALUE, CONFLICT, FAILED_TO_PARSE, IMMUTABLE_FIEL
 from model.values import (ARRAY, DOCUMENT, INT32, INT64, MOST_BYTES, MOST_LEVELS, NUMBERS, begins_with_operator, is_storable,
                           key, levels, size)
 
-sys.setrecursionlimit(100_000)  # a path of thousands of components makes as many levels, before they are too many
+sys.setrecursionlimit(100_000)  # a path of thousands of components makes as many levels, before these are refused as too many
 
 
 def is_replacement(fields):
@@ -77,7 +77,7 @@ def order_of(path):
 
 
 def check_conflicts(paths):
-    """Refuses paths, in order, of which one equals or begins another: it then does so with the one behind it."""
+    """Refuses paths, which are in order, if one equals or begins another: it then equals or begins the one after it."""
     for path, behind in zip(paths, paths[1:]):
         if behind[:len(path)] == path:
             raise Refusal(CONFLICT)

@@ -1,4 +1,4 @@
-"""Values, their bytes and their order, after BSON 1.1 and MongoDB's comparison order, as far as docd has them.
+"""Values, their bytes and their order, as in BSON 1.1 and MongoDB's comparison order, as far as docd has them.
 
 A value is a pair of its type byte and what it holds: a number (also of a datetime or a timestamp), a boolean, the bytes
 of a text or an ObjectId, a binary's pair of subtype and bytes, a document's list of fields (pairs of a name's bytes and a
@@ -19,7 +19,7 @@ class BsonFault(Exception):
 
 
 def read_document(data):
-    """The fields of the one document that the bytes are, whose length is known to be theirs."""
+    """The fields of the one document that the bytes are. Its length is known to be the number of bytes."""
     length = int32(data, 0)
     if length > MOST_BYTES:
         raise BsonFault(b"TooLarge")
@@ -31,7 +31,7 @@ def int32(data, at):
 
 
 def read_fields(data, start, end, level, is_array):
-    """The fields between a document's length, which was looked at, and its closing zero."""
+    """The fields between a document's length, which was checked, and its closing zero."""
     at, last, fields, names = start + 4, end - 1, [], set()
     while at < last or data[last] != 0:
         kind = data[at]
@@ -53,13 +53,13 @@ def read_fields(data, start, end, level, is_array):
     return fields
 
 
-# How many bytes a value has, where that is fixed, and how `struct` reads it.
+# How many bytes a value has, if that is fixed, and how `struct` reads it.
 SIZES = {BOOLEAN: 1, OBJECT_ID: 12, DATETIME: 8, INT64: 8, TIMESTAMP: 8, NULL: 0, MIN_KEY: 0, MAX_KEY: 0}
 FORMS = {INT32: "<i", DATETIME: "<q", INT64: "<q", TIMESTAMP: "<Q"}
 
 
 def read_value(data, kind, at, last, level):
-    """The value of this kind at a place, and where it ends, which is not behind its document's last byte."""
+    """The value of this type at a place, and where it ends, at most at its document's closing zero."""
     end = at + SIZES.get(kind, 4)
     if end > last:
         raise BsonFault(b"BadLength")
@@ -115,7 +115,7 @@ def spelling(fields):
 
 
 def payload(kind, held):
-    """The bytes of a value behind its name."""
+    """The bytes of a value after its name."""
     if kind == TEXT:
         return struct.pack("<i", len(held) + 1) + held + b"\0"
     if kind == DOCUMENT:
@@ -130,7 +130,7 @@ def payload(kind, held):
 
 
 def size(fields):
-    """How many bytes a document's spelling has."""
+    """How many bytes a document's encoding has."""
     return len(spelling(fields))
 
 
@@ -149,12 +149,12 @@ def fits(document):
 CLASSES = [MIN_KEY, NULL, INT32, TEXT, DOCUMENT, ARRAY, BINARY, OBJECT_ID, BOOLEAN, DATETIME, TIMESTAMP, MAX_KEY]
 RANKS = {kind: rank for rank, kind in enumerate(CLASSES)} | {INT64: CLASSES.index(INT32)}
 
-# A key that no value has: it stands between those of MinKey and null.
+# A key that no value has, between those of MinKey and null.
 NO_ELEMENT = 0.5, None
 
 
 def key(value):
-    """Equal for values that differ in the width of integers alone; keys compare as their values."""
+    """Equal for values that differ only in the width of integers; keys compare as their values."""
     kind, held = value
     rank = RANKS[kind]
     if kind == DOCUMENT:
@@ -178,7 +178,7 @@ def is_storable(fields):
 
 
 def has_dotted_name(kind, held):
-    """Whether a name with a dot stands in a value, at any level."""
+    """Whether a value has a name with a dot, at any level."""
     if kind == DOCUMENT:
         return any(b"." in name or has_dotted_name(*inner) for name, inner in held)
     return kind == ARRAY and any(has_dotted_name(*inner) for inner in held)

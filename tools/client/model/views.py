@@ -6,8 +6,8 @@ MOST_TICKS = 2**63 - 1
 
 class View:
     """`reads` are the namespaces that a view reads, its source first and then each that a stage looks into, in order;
-    `functions` are its stages, as functions of rows. Its height is 1 over collections alone, and else 1 more than that of the
-    highest view that it reads. It is live once it is made; only where memory is wanting does one become stale."""
+    `functions` are its stages, as functions of rows. Its height is 1 if it reads only collections, and else 1 more than that of the
+    highest view that it reads. It is live once it is made; a view becomes stale only if memory runs out."""
 
     def __init__(self, reads, functions, stages, height):
         self.reads, self.functions, self.stages, self.height = reads, functions, placed(stages, functions), height
@@ -18,12 +18,12 @@ class View:
         self.is_live = True
 
     def lose(self):
-        """Has the view stale."""
+        """Makes the view stale."""
         self.is_live, self.ticks = False, 0
 
     def take(self, coming, look):
-        """Takes in what comes to each list that the view reads, one change after the other, the source's first, and gives what it
-        hands on; None, here and of what comes, stands for what is stale. A view over a stale one is stale too."""
+        """Takes in the changes of each list that the view reads, one after the other, the source's first, and returns those that it
+        passes on. None, as the result or among `coming`, stands for a stale view. A view over a stale one is stale too."""
         if not self.is_live or None in coming:
             return self.lose()
         lists = list(map(look, self.reads))

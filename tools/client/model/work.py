@@ -1,9 +1,9 @@
-"""The work that changes of what a view reads take in its stages.
+"""The work in a view's stages for changes of what the view reads.
 
-A row stands at a position, a tuple: a document of a collection under the key of its `_id`, and a row behind a stage where
-that puts it. A list of rows is one of pairs of a position and a row, in the order of positions. A change is such a pair too:
-the row is put at the position, or the one there goes where it is None. Nothing is kept from one change to the next: what a
-stage makes of all its rows is made in front of each change and behind it, and hands on the differences, which are counted.
+A row has a position, a tuple: that of a document of a collection is the key of its `_id`, and a stage gives positions to the rows
+that it makes. A list of rows is one of pairs of a position and a row, in the order of positions. A change is such a pair too: the
+row is put at the position, or, if it is None, the one there is removed. Nothing is kept from one change to the next: what a stage
+makes of all its rows is computed before each change and after it, and the stage passes on the differences, which are counted.
 """
 import bisect
 from collections import namedtuple
@@ -18,7 +18,7 @@ Placed = namedtuple("Placed", "makes looks", defaults=[False])
 
 
 class Falling:
-    """A key in a position where the higher one stands first."""
+    """A key in a position in which the higher key comes first."""
 
     def __init__(self, held):
         self.held = held
@@ -44,7 +44,7 @@ def with_change(rows, change):
 
 
 def difference(old, new):
-    """The changes from rows to other ones: what goes, and then what comes or is another row."""
+    """The changes from rows to other ones: those that are removed, and then those that are inserted or replaced."""
     before, behind = dict(old), dict(new)
     gone = [(position, None) for position, _ in old if position not in behind]
     return gone + [(position, row) for position, row in new if before.get(position) != row]
@@ -54,23 +54,23 @@ def documents_of(rows):
     return [row for _, row in rows]
 
 
-# Stages over rows at positions, each from its operand and from its function of rows without them.
+# Stages over rows at positions, each from its operand and from its function of rows without positions.
 
 
 def matched_or_shown(operand, plain):
-    """$match and $project: a row stands where it stood."""
+    """$match and $project: a row keeps its position."""
     made = remembered(lambda row: plain([row], None))
     return Placed(lambda rows, others: [(position, new) for position, row in rows for new in made(row)])
 
 
 def unwound(operand, plain):
-    """The rows of a row stand by their numbers behind where it stood."""
+    """$unwind: the position of each row that is made of a row is that row's position and the new row's number."""
     made = remembered(lambda row: plain([row], None))
     return Placed(lambda rows, others: [((*position, at), new) for position, row in rows for at, new in enumerate(made(row))])
 
 
 def ordered(operand, plain):
-    """$sort: a row stands by its keys, and then where it stood."""
+    """$sort: a row's position is its keys, and then its old position."""
     parts = sort_of(operand[1])
     keys = remembered(lambda row: tuple(part_of(sort_key(row, *part), *part) for part in parts))
     return Placed(lambda rows, others: sorted((((*keys(row), *position), row) for position, row in rows), key=itemgetter(0)))
@@ -81,13 +81,13 @@ def part_of(wanted, path, is_falling):
 
 
 def limited(operand, plain):
-    """The first rows stand where they stood."""
+    """$limit: the first rows keep their positions."""
     _, count = operand
     return Placed(lambda rows, others: rows[:count])
 
 
 def grouped(operand, plain):
-    """The row of a group stands under its key."""
+    """$group: the position of a group's row is the group's key."""
     def makes(rows, others):
         documents = documents_of(rows)
         return [((key(field_of(row, b"_id")),), row) for row in plain(documents, None)]
@@ -95,7 +95,7 @@ def grouped(operand, plain):
 
 
 def looked_up(operand, plain):
-    """A row stands where it stood."""
+    """$lookup: a row keeps its position."""
     def makes(rows, others):
         made = plain(documents_of(rows), lambda name: others)
         return [(position, new) for (position, _), new in zip(rows, made)]
@@ -107,15 +107,15 @@ PLACED = {b"$match": matched_or_shown, b"$project": matched_or_shown, b"$unwind"
 
 
 def placed(stages, functions):
-    """The stages of a pipeline, which are these functions of rows, over rows at positions."""
+    """The stages of a pipeline over rows at positions; `functions` are the stages over rows without positions."""
     return [PLACED[held[0][0]](held[0][1], plain) for (_, held), plain in zip(stages, functions)]
 
 
-# What comes to each stage, one after the other, and what the last one hands on: a list of lists of changes.
+# The changes that arrive at each stage, one after the other, and those that the last one passes on: a list of lists of changes.
 
 
 def handed(makes, rows, changes):
-    """What a stage hands on for changes of its rows, one after the other."""
+    """What a stage passes on for changes of its rows, one after the other."""
     told, made = [], makes(rows)
     for change in changes:
         rows, old = with_change(rows, change), made
@@ -125,8 +125,8 @@ def handed(makes, rows, changes):
 
 
 def flow(stages, named, rows, changes):
-    """What changes of the rows that come to the first of these stages make. `named` are the lists that the stages look into,
-    in their order."""
+    """The changes at each of these stages, for changes of the rows that arrive at the first. `named` are the lists that the stages
+    look into, in the stages' order."""
     if not stages or not changes:
         return [changes]
     makes, rest = over(stages[0], named)
@@ -135,7 +135,8 @@ def flow(stages, named, rows, changes):
 
 
 def flow_of_list(stages, named, at, rows, change):
-    """What a change makes of the list at a place among those that the stages look into."""
+    """The changes at the stage that looks into a list and at those after it, for a change of the list, which is at this place among
+    those that the stages look into."""
     stage, others = stages[0], stages[1:]
     makes, rest = over(stage, named)
     if not stage.looks or at > 0:
@@ -145,7 +146,7 @@ def flow_of_list(stages, named, at, rows, change):
 
 
 def over(stage, named):
-    """What a stage makes of rows, where it looks into the first of these lists if it looks into one; and the other lists."""
+    """A function that does a stage's work on rows, and the lists that are left. A stage that looks into a list takes the first."""
     others = documents_of(named[0]) if stage.looks else None
     return lambda rows: stage.makes(rows, others), named[stage.looks:]
 
@@ -160,11 +161,12 @@ def through(stages, lists):
 
 
 def flow_at(stages, lists, at, change):
-    """What a change makes of one of the lists that a view reads: the source's, and then each that its stages look into."""
+    """The changes at each stage, for a change of one of the lists that a view reads: the source's, and then each that its stages
+    look into."""
     source, *named = lists
     return flow_of_list(stages, named, at - 1, source, change) if at else flow(stages, named, source, [change])
 
 
 def work(flows):
-    """For each stage 1 for each change that comes to it, and 1 for each that it hands on."""
+    """For each stage, 1 for each change that it takes in, and 1 for each that it passes on."""
     return sum(len(coming) + len(going) for coming, going in zip(flows, flows[1:]))

@@ -13,13 +13,13 @@ from model.values import ARRAY, BOOLEAN, DOCUMENT, INT32, INT64, TEXT, fits, is_
 
 MOST_STATEMENTS = 100_000
 
-# What a statement does: how many documents it is counted for, and its changes, each a key and the document that is put
-# under it, or None.
+# What a statement does: how many documents it counts for, and its changes. Each is a key and the document that is stored
+# under it, or None if the one there is removed.
 Effect = namedtuple("Effect", "matched changes")
 
 
 class NoSuchCut(Exception):
-    """A write can't end for want of memory where it was asked to."""
+    """A write can't run out of memory at the place where it was asked to."""
 
 
 def count(number):
@@ -27,7 +27,7 @@ def count(number):
 
 
 def write(store, place, name, fields, cut):
-    """Carries out the statements of a write: the first error ends it where it is ordered."""
+    """Carries out the statements of a write: the first error ends it if it is ordered."""
     (list_name, effect_of), is_ordered = WRITES[name], fields.get(b"ordered", (BOOLEAN, True))[1]
     statements = [held for _, held in fields[list_name][1]]
     if len(statements) > MOST_STATEMENTS:
@@ -59,7 +59,7 @@ def write(store, place, name, fields, cut):
 
 
 def done_to(collection, effect_of, statement):
-    """What a statement does to a collection; it is refused for its documents first, and then by a unique index."""
+    """What a statement does to a collection. It is refused for faults of its documents first, and then by a unique index."""
     effect = effect_of(collection, statement)
     check_changes(collection, effect.changes)
     return effect
@@ -70,7 +70,7 @@ def write_error(index, code):
 
 
 def cut_off(store, place, effect, index, done):
-    """Makes the first changes of a statement and gives the error of one that wants memory behind them."""
+    """Makes the first changes of a statement, and returns the error of one that runs out of memory after them."""
     changes = [] if isinstance(effect, Refusal) else effect.changes
     if done >= max(1, len(changes)):
         raise NoSuchCut
@@ -80,7 +80,7 @@ def cut_off(store, place, effect, index, done):
 
 
 def insert_one(collection, document):
-    """The document with `_id` in front, in its place."""
+    """The document, with `_id` first, is stored in its place."""
     identity = field_of(document, b"_id")
     if identity is None or identity[0] == ARRAY or not is_storable(document):
         raise Refusal(BAD_VALUE)
@@ -93,7 +93,7 @@ def insert_one(collection, document):
 
 
 def delete_one(collection, entry):
-    """All documents that match, or the first."""
+    """All documents that match, or the first, are removed."""
     check_fields(entry, DELETE_ENTRY)
     fields = dict(entry)
     if len(fields) < len(DELETE_ENTRY):
@@ -103,7 +103,7 @@ def delete_one(collection, entry):
 
 
 def update_one(collection, entry):
-    """The results of all documents that match, or of the first, where they are others."""
+    """All documents that match, or the first, are replaced by their results, if these differ from them."""
     check_fields(entry, UPDATE_ENTRY)
     fields = dict(entry)
     is_multi = fields.get(b"multi", (BOOLEAN, False))[1]
@@ -120,5 +120,5 @@ def matching(collection, test, is_single):
     return found[:1] if is_single else found
 
 
-# The list of a write's statements, and what one does.
+# The name of a write's list of statements, and the function for one of them.
 WRITES = {b"insert": (b"documents", insert_one), b"update": (b"updates", update_one), b"delete": (b"deletes", delete_one)}

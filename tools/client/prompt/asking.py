@@ -1,4 +1,4 @@
-"""Asks a docd that serves: commands as lines of the manual's form, and their replies."""
+"""Sends commands, written as in the manual, to a docd that serves, and returns their replies."""
 import re
 import struct
 
@@ -18,7 +18,7 @@ class NoDocd(Exception):
 
 
 def command_of(line, database):
-    """The session that a line of the manual's form names, None where it names none, and the fields of its command."""
+    """The session that a line names (None if it names none), and the fields of its command, which is written as in the manual."""
     found = COMMAND.fullmatch(line)
     fields = document_of(" " * found.start(2) + found[2])
     if database and all(name != DATABASE for name, _ in fields):
@@ -27,8 +27,8 @@ def command_of(line, database):
 
 
 class Asker:
-    """A connection to a docd, whose commands are of a database where they name none. While the first reply doesn't come,
-    this is told."""
+    """A connection to a docd. Commands that name no database are for `database`. If the first reply doesn't arrive soon, `tell` is
+    called with a text that says so."""
 
     def __init__(self, port, database, tell):
         self.address, self.database = ADDRESS % port, database

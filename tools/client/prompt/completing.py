@@ -1,4 +1,4 @@
-"""What may stand where a command is being typed: its name, fields, operators, and names of collections and views.
+"""What may be typed next in a command: its name, fields, operators, and names of collections and views.
 
 Fields and operators are those of the tables of tools/client/model, which is compared with docd.
 """
@@ -20,7 +20,7 @@ def words(table):
     return sorted(name.decode() for name in table)
 
 
-# What may stand in the documents under a name, however deep, up to the next of these names.
+# What may be in the documents under a name, at any depth, up to the next of these names.
 FILTERS = dict.fromkeys(["filter", "q", "$match", "$elemMatch", "$not", "$pull", *words(LOGIC)], words([*LOGIC, *CONDITIONS]))
 INSIDE = {
     **FILTERS,
@@ -33,7 +33,7 @@ INSIDE = {
 
 
 class Place:
-    """Where the end of a text stands: under which names, and whether a name or a value is to come."""
+    """Where in a command a text ends: under which names, and whether a name or a value has to follow."""
 
     def __init__(self, text):
         self.above, self.under, self.is_value, self.command, self.is_quoted = [], None, False, None, False
@@ -59,7 +59,7 @@ class Place:
             self.under = None  # its value is there
 
     def names(self):
-        """The names that may stand here."""
+        """The names that may follow here."""
         if len(self.above) == 1:
             return [name.decode() for name in FIELDS.get((self.command or "").encode(), {})] if self.command else words(COMMANDS)
         for _, name in reversed(self.above):
@@ -69,10 +69,10 @@ class Place:
 
 
 def candidates(text, word, names):
-    """What may stand for a word behind a text, where these names of collections and views are known."""
+    """The completions of a word after a text; `names` are the known names of collections and views."""
     place = Place(text)
     if place.is_quoted or place.is_value and place.under in NAMING:
-        # (readline itself closes a quote behind which a word has begun)
+        # (readline itself closes a quote after which a word has begun)
         opening, closing = '"' * (not place.is_quoted), '"' * (not place.is_quoted or not word)
         fitting = [opening + name + closing for name in names] if place.under in NAMING else []
     elif place.is_value:
@@ -92,7 +92,7 @@ class Names:
         return sorted(self.seen.get(database, ()))
 
     def learn(self, fields, reply):
-        """Takes in a command that was answered."""
+        """Takes in the names in a command that succeeded."""
         given = dict(fields)
         if dict(reply).get(b"ok", (None, 0))[1] != 1 or b"$db" not in given:
             return

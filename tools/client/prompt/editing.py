@@ -1,7 +1,7 @@
-"""Editing of what is typed: history, and completion by Tab, where Python has readline.
+"""Editing of what is typed: history, and completion by Tab, if Python has readline.
 
-The history is kept in a file of the user's own in their home, which nobody else can read; where there is no such home, only
-while the prompt runs.
+The history is kept in a file in the user's own home, which nobody else can read; if there is no such home, only while the prompt
+runs.
 """
 import os
 
@@ -16,7 +16,7 @@ DELIMITERS = ' \t\n{}[](),:"'
 
 
 def history_file():
-    """Where the history is kept, None where that isn't the user's own folder."""
+    """The path of the file with the history; None if the home isn't the user's own folder."""
     home = os.path.expanduser("~")
     try:
         return os.path.join(home, HISTORY) if os.stat(home).st_uid == os.getuid() else None
@@ -25,7 +25,7 @@ def history_file():
 
 
 class Editing:
-    """While it is entered, input() has a history, and what `completions` gives for a word behind a text."""
+    """While it is entered, input() has a history, and completes a word after a text by what `completions` returns for them."""
 
     def __init__(self, completions):
         self.completions, self.found, self.file = completions, [], history_file()

@@ -1,6 +1,6 @@
-"""What the documents tell of commands: README.md's table of them, and docs/MANUAL.md's forms, examples, operators and codes.
+"""What the documents say of commands: README.md's table of them, and docs/MANUAL.md's forms, examples, operators and codes.
 
-They are read as they are written, so that the prompt tells what stands there and nothing else.
+The prompt reads the documents themselves, so that it says what they say and nothing else.
 """
 import functools
 import os
@@ -18,15 +18,15 @@ CODE = re.compile(r"(?m)^- (\d+) `(\w+)`(?: \((.*?)\))?: (.*)$")
 QUOTED = re.compile(r"`([^`]*)`")
 LINK = re.compile(r"\[([^\]]*)\]\([^)]*\)")
 
-# Commands that stand in one row of README.md's table: their names, what they do, and the manual's section of them.
+# The commands in one row of README.md's table: their names, what they do, and the manual's section about them.
 Listed = namedtuple("Listed", "names does place")
-# A code: its number and name, the commands that it is of (none where all are), and what it means.
+# A code: its number and name, the commands that may be refused with it (none if all may), and what it means.
 Code = namedtuple("Code", "number name commands meaning")
 
 
 @functools.lru_cache(maxsize=None)
 def text_of(path):
-    """The text of a document, nothing where it isn't there."""
+    """The text of a document, empty if it isn't there."""
     try:
         with open(path, encoding="utf-8") as file:
             return file.read()
@@ -50,7 +50,7 @@ def anchor(heading):
 
 
 def section_at(place):
-    """The heading at a place of the manual, and what stands under it."""
+    """The heading at a place of the manual, and the text under it."""
     text = text_of(MANUAL)
     for found in HEADING.finditer(text):
         if anchor(found[2]) == place:
@@ -60,7 +60,7 @@ def section_at(place):
 
 
 def headings_with(word):
-    """The manual's headings with a word that begins as this one, whose plural is not looked at."""
+    """The manual's headings with a word that begins like this one without its plural ending."""
     form = re.compile(r"(?i)\b" + re.escape(re.sub(r"e?s$", "", word)))
     return [plain(heading) for _, heading in HEADING.findall(text_of(MANUAL)) if len(word) > 2 and form.search(heading)]
 
@@ -73,7 +73,7 @@ def listed():
 
 
 def row_of(command):
-    """The row of a command, None where there is none."""
+    """The row of a command, None if there is none."""
     return next((row for row in listed() if command in row.names), None)
 
 
@@ -84,7 +84,7 @@ def forms_of(command):
 
 
 def example_with(text, wanted):
-    """The first example in a text that has what is wanted: the command and its reply, None where there is none."""
+    """The first example in a text whose command has what is wanted: the command and its reply, None if there is none."""
     for block in BLOCK.findall(text):
         lines = block.splitlines()
         for command, reply in zip(lines, lines[1:]):
@@ -112,10 +112,10 @@ def codes_of(command):
 
 
 def told_of(operator):
-    """The paragraph and the example of the manual that tell of an operator, None for each that isn't there."""
+    """The paragraph and the example of the manual about an operator, None for each that isn't there."""
     text = text_of(MANUAL)
     paragraphs = [one for one in re.split(r"\n\n+", BLOCK.sub("\n\n", text)) if one[:1] not in "#|->"]
     told = [one for one in paragraphs if "`%s`" % operator in one or "`{%s: " % operator in one]
-    # a paragraph that begins with operators tells what they do, and is about the one in front
+    # a paragraph that begins with operators says what they do, and is about the first of them
     told.sort(key=lambda one: (not one.startswith("`$"), one.find("`%s`" % operator)))
     return plain(told[0]) if told else None, example_with(text, "%s: " % operator)

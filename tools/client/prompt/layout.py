@@ -1,7 +1,7 @@
 """Replies in lines that are no wider than a terminal, in the notation of tools/client/notation.py, so that they can be pasted back.
 
 What doesn't fit a line is written over several: a member in each, and the rows of an answer one below the other. A text or
-binary data of many bytes is cut, with a word behind it that tells so.
+binary data of many bytes is cut, and a note after it says how many bytes it has in all.
 """
 from model.values import ARRAY, BINARY, DOCUMENT, TEXT
 from notation import shown, shown_name
@@ -13,7 +13,7 @@ BATCHES = b"firstBatch", b"nextBatch"
 
 
 def batch_of(reply):
-    """The rows of an answer's batch and its cursor's id; None where the reply has no rows."""
+    """The rows of a reply's batch and its cursor's id; None if the reply has no batch."""
     kind, cursor = dict(reply).get(b"cursor", (None, None))
     if kind != DOCUMENT:
         return None
@@ -22,7 +22,7 @@ def batch_of(reply):
 
 
 class Layout:
-    """Lays values out over a width, and cuts long ones unless they are wanted whole. `has_cut` tells whether one was."""
+    """Lays values out in lines of a width, and cuts long values unless `is_whole`. `has_cut` says whether one was cut."""
 
     def __init__(self, width, is_whole=False):
         self.width, self.is_whole, self.has_cut = width, is_whole, False
@@ -51,7 +51,7 @@ class Layout:
         return ", ".join("%s: %s" % (shown_name(name), self.flat(value)) for name, value in fields)
 
     def laid(self, value, indent, taken=0):
-        """The text of a value that stands behind so many signs of a line, with this indent in its further ones."""
+        """The text of a value that follows the indent and `taken` characters of a line; its further lines have this indent."""
         text, (kind, held) = self.flat(value), value
         if len(indent) + taken + len(text) <= self.width or kind not in (DOCUMENT, ARRAY) or not held:
             return text

@@ -1,4 +1,4 @@
-"""The prompt: commands that are typed at a terminal, their replies, and what helps with both."""
+"""The prompt: commands that are typed at a terminal, their replies, and help with both."""
 import re
 import shutil
 import sys
@@ -19,7 +19,7 @@ COLUMN = re.compile(r"column (\d+): ")
 
 
 def width():
-    """How many signs a line of the terminal has."""
+    """How many characters a line of the terminal has."""
     return max(NARROWEST, shutil.get_terminal_size().columns)
 
 
@@ -28,7 +28,7 @@ def tell(text):
 
 
 class Prompt:
-    """A dialogue with a docd that serves. `printed` gives a reply in another notation, where that is wanted."""
+    """A dialogue with a docd that serves. `printed`, if it is given, writes a reply in another notation."""
 
     def __init__(self, asker, printed=None):
         self.asker, self.printed, self.names = asker, printed, Names()
@@ -36,7 +36,7 @@ class Prompt:
         self.words = {"help": self.help, "use": self.use, "more": self.more, "whole": self.whole, "watch": self.watch}
 
     def run(self):
-        """Carries out what is typed, until that ends."""
+        """Carries out what is typed, until the prompt is ended."""
         self.asker.reply_to([(b"ping", (INT32, 1)), (DATABASE, (TEXT, b"t"))])
         print("docd at %s, database %s. Type help for the commands; Tab completes, Control-D ends." % (
             self.asker.address, self.asker.database))
@@ -51,7 +51,7 @@ class Prompt:
                     self.show([(b"find", (TEXT, b""))], refused.args[0])
 
     def typed(self):
-        """The next command or word, which may stand in several lines; None at the end."""
+        """The next command or word, which may have several lines; None at the end."""
         while True:
             try:
                 text = input(PROMPT)
@@ -93,7 +93,7 @@ class Prompt:
             self.say(self.watching.look(self.asker, width()))
 
     def show(self, fields, reply):
-        """Prints a reply, and beneath it what it means that isn't plain."""
+        """Prints a reply, and below it notes on its rows and on what its refusals mean."""
         self.last = reply
         self.say([self.printed(reply) if self.printed else self.laid_out(reply), *self.rows_told(reply),
                   *telling.refusal_lines(fields, reply, width())])
@@ -104,7 +104,7 @@ class Prompt:
         return text + ("\n# the reply is shortened: type whole to see all of it" if layout.has_cut else "")
 
     def rows_told(self, reply):
-        """How many rows an answer has where they stand in lines of their own, and how the next ones are had."""
+        """How many rows a batch has, if they are in lines of their own or more are left, and how to get the next ones."""
         if batch := batch_of(reply):
             rows, cursor = batch
             self.cursor = self.more_of(reply, cursor) if cursor[1] else None
@@ -115,7 +115,7 @@ class Prompt:
                 yield "# " + counted(rows)
 
     def more_of(self, reply, cursor):
-        """The command that gives the next rows."""
+        """The command that returns the next rows."""
         database, _, name = dict(dict(reply)[b"cursor"][1])[b"ns"][1].partition(b".")
         return [(b"getMore", cursor), (b"collection", (TEXT, name)), (b"batchSize", (INT32, telling.MORE)),
                 (DATABASE, (TEXT, database))]
@@ -150,7 +150,7 @@ class Prompt:
             self.say(self.watching.look(self.asker, width()))
 
     def completions(self, text, word):
-        """What may stand for a word behind the text of a line."""
+        """The completions of a word after the text of a line."""
         text = self.front + text
         first, _, rest = text.lstrip().partition(" ")
         known = self.names.of(self.asker.database)
@@ -178,7 +178,7 @@ def is_unfinished(text):
 
 
 def tell_wrong(text, error):
-    """Tells what can't be read, with a mark under its place where the line is in sight."""
+    """Reports what can't be read, with a mark under its place if the text is one line, and the place is within the width."""
     found = COLUMN.match(error)
     if found and "\n" not in text and len(PROMPT) + int(found[1]) < width():
         print(" " * (len(PROMPT) + int(found[1]) - 1) + "^", file=sys.stderr)

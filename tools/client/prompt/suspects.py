@@ -1,7 +1,7 @@
-"""Where in a refused command the fault may stand.
+"""Where in a refused command the fault may be.
 
-Parts of the command are looked at one by one by the rules of tools/client/model, which is compared with docd: the first that these
-refuse with the reply's code is told.
+Parts of the command are checked one by one by the rules of tools/client/model, which is compared with docd. The first part that
+these rules refuse with the reply's code is reported.
 """
 import difflib
 
@@ -19,28 +19,28 @@ from model.updates import OPERATORS as UPDATES, update_of
 from model.values import ARRAY, DOCUMENT, TEXT, is_storable
 from notation import shown, shown_name
 
-MOST = 60  # signs of a value that are shown
-ALIKE = 0.7  # how alike, of 1, a name is that may be meant
-# What is told of a command's name under these codes.
+MOST = 60  # characters of a value that are shown
+ALIKE = 0.7  # how alike, from 0 to 1, a name has to be to one that may be meant
+# What is said of a command's name for these codes.
 OF_NAMES = {
     NAMESPACE_NOT_FOUND: "the name %s, or the database, which `use` changes",
     NAMESPACE_EXISTS: "the name %s; drop what has it, or take another one",
     ON_VIEW: "%s is a view; write to the collection that it reads",
     READ_BY_VIEW: "a view reads the name %s; drop that view first, or take another name",
 }
-# What does the work of commands that docd doesn't have.
+# What to use instead of commands that docd doesn't have.
 INSTEAD = {
     b"count": "there is no command count; an aggregate counts: pipeline: [{$group: {_id: null, n: {$sum: 1}}}]",
     b"distinct": "there is no command distinct; an aggregate finds the values: pipeline: [{$group: {_id: \"$path\"}}]",
 }
-# What is told of a createIndexes under these codes.
+# What is said of a createIndexes for these codes.
 OF_INDEXES = {
     CONFLICT: "another index has the name or the path; explain of a find by the path names it, and dropIndexes removes it",
     DUPLICATE_KEY: "two documents have the same key, or both have none; a $group by the path finds them",
 }
 ENTRIES = {b"updates": UPDATE_ENTRY, b"deletes": DELETE_ENTRY}
 LITERAL = b"$literal"
-IN_STAGES = {b"$match": {*LOGIC, *CONDITIONS}, b"$group": {*ACCUMULATORS, LITERAL}}  # and this alone in others
+IN_STAGES = {b"$match": {*LOGIC, *CONDITIONS}, b"$group": {*ACCUMULATORS, LITERAL}}  # and only LITERAL in others
 NEEDED = {b"$group": [b"_id"], b"$lookup": [b"from", b"localField", b"foreignField", b"as"]}
 INDEX_ENTRY = {b"key": kinds.document, b"name": kinds.text, b"unique": kinds.boolean, b"v": kinds.anything}
 KINDS = {
@@ -53,7 +53,7 @@ KINDS = {
 
 
 def suspect(fields, code, index=None):
-    """What may be wrong in a command that was refused with a code, or in its statement of an index; None where nothing shows."""
+    """What may be wrong in a command that was refused with a code, or in its statement at an index; None if nothing is found."""
     name, value = fields[0]
     if code == COMMAND_NOT_FOUND and name == b"$db":
         return "no command: its name has to be the first field"
@@ -84,7 +84,7 @@ def refuses(check, code):
     except Refusal as refusal:
         return refusal.code == code
     except (ValueError, TypeError, KeyError, IndexError, AttributeError):
-        pass  # of a part that another one makes senseless
+        pass  # another part is wrong, so that this one makes no sense
     return False
 
 
@@ -93,7 +93,7 @@ def refuse(code):
 
 
 def misnamed(what, name, known):
-    """That a name isn't known, and which it may be meant for."""
+    """Says that a name isn't known, and which known name may be meant."""
     near = difflib.get_close_matches(name.decode(), [one.decode() for one in known], 1, ALIKE)
     return "there is no %s %s%s" % (what, shown_name(name), "; %s may be meant" % near[0] if near else "")
 
@@ -114,7 +114,7 @@ def unknown_in(value, known):
 
 
 def of_command(fields):
-    """The parts of a command: what is told of each where it is wrong, and what looks at it."""
+    """The parts of a command: what is said of each if it is wrong, and the function that checks it."""
     command = fields[0][0]
     yield "the database, %s" % short(dict(fields).get(b"$db", (TEXT, b""))), lambda: database_name(fields)
     if command not in FIELDS:
@@ -130,7 +130,7 @@ def of_command(fields):
 
 
 def of_fields(place, fields, known, ignored=frozenset()):
-    """Each field of a document at a place, where there may be these."""
+    """Each field of a document at a place; `known` are the fields that it may have."""
     for name, value in fields:
         if name in known:
             told = "%sthe field %s: %s; it may be %s" % (place, shown_name(name), short(value), KINDS[known[name]])
@@ -159,7 +159,7 @@ def held_in(fields):
 
 
 def of_stage(place, stage):
-    """The name of a stage, what it lacks, its operators, and then all of it."""
+    """A stage, and what may be wrong with it: its name, an operator, or a field that is missing."""
     name, (kind, operand) = stage[1][0] if stage[0] == DOCUMENT and stage[1] else (b"", (None, None))
     told = "%s: %s" % (place, short(stage))
     if name not in STAGES:

@@ -1,4 +1,4 @@
-"""What the prompt tells in words: its help, and what a refusal means."""
+"""What the prompt says in words: its help, and what a refusal means."""
 import textwrap
 
 from model.commands import COMMANDS, needed_by
@@ -16,7 +16,7 @@ WORDS = [
     ("watch VIEW", "shows a view's rows after each command that changes them; watch without a name ends this"),
     ("exit", "ends the connection, as Control-D does"),
 ]
-MOST = 5  # refused statements that something is told of
+MOST = 5  # refused statements of a reply that are explained
 ENTRIES = {b"update": ("updates", UPDATE_ENTRY), b"delete": ("deletes", DELETE_ENTRY)}
 
 
@@ -33,7 +33,7 @@ def wrapped(text, width, first="", others=""):
 
 
 def help_of(topic, width):
-    """The lines that tell of a topic, of everything where there is none."""
+    """The lines about a topic, or about everything if there is none."""
     name = topic.strip("{}:\"'` ")
     if not name:
         return [*overview(width)]
@@ -105,7 +105,7 @@ def meaning(code):
 
 
 def refusal_lines(fields, reply, width):
-    """What is told beneath a reply that refuses the command, or statements of it: lines that are comments in a script."""
+    """What is printed below a reply that refuses the command, or statements of it: lines that are comments in a script."""
     told = set()
     for code, index in refusals_in(reply)[:MOST]:
         if code not in told and code in guide.codes():
@@ -116,7 +116,7 @@ def refusal_lines(fields, reply, width):
 
 
 def refusals_in(reply):
-    """The codes in a reply, each with the index of the statement that it is of, None where it is of the command."""
+    """The codes in a reply, each with the index of the statement that is refused, None if the command is."""
     told = dict(reply)
     if b"code" in told:
         return [(told[b"code"][1], None)]
@@ -125,7 +125,7 @@ def refusals_in(reply):
 
 
 def hint_at(line):
-    """What is told of a line that is no document."""
+    """The hint for a line that is no document."""
     word = line.split()[0].rstrip(":;,.") if line.split() else ""
     forms = guide.forms_of(word) if word.encode() in COMMANDS else []
     if forms:

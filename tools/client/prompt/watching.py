@@ -1,11 +1,11 @@
-"""Shows a view's rows, and again where they change."""
+"""Shows a view's rows, and again when they change."""
 import time
 
 from model.values import INT32, TEXT
 from prompt.layout import Layout, batch_of
 
 MOST = 101  # rows that are shown
-ALL = INT32, 2**31 - 1  # as many rows in a batch as its bytes let
+ALL = INT32, 2**31 - 1  # as many rows in a batch as its bytes allow
 
 
 class Refused(Exception):
@@ -30,7 +30,7 @@ def answered(asker, fields):
 
 
 def tell_if_none(asker, view, tell):
-    """Tells where no view has the name."""
+    """Tells the user if no view has the name."""
     reply = asker.reply_to([(b"viewStats", (TEXT, view.encode())), (b"$db", (TEXT, asker.database.encode()))])
     if dict(reply)[b"ok"][1] != 1:
         tell("there is no view %s in the database %s: the rows of the collection of this name are shown, if there is one" % (
@@ -56,7 +56,7 @@ class Watching:
         self.view, self.seen = view, None
 
     def look(self, asker, width):
-        """The lines to show: none where the rows are what they were."""
+        """The lines to show: none if the rows are the same as before."""
         rows = rows_of(asker, self.view)
         if rows == self.seen:
             return []
@@ -65,7 +65,7 @@ class Watching:
 
 
 def watch(asker, view, every, width, tell):
-    """Shows a view's rows, looks for others as often as it is told, and never ends by itself."""
+    """Shows a view's rows, reads them again after `every` seconds each time, and never ends by itself."""
     watching = Watching(view)
     tell_if_none(asker, view, tell)
     while True:
