@@ -24,7 +24,6 @@ ROOT = pathlib.Path(__file__).resolve().parent.parent.parent
 A_LOOK = 1  # seconds from one look at the processes to the next
 TICKS = os.sysconf("SC_CLK_TCK")
 EDITS, TESTS, PROOF = "edits", "tests", "proof"
-TAKES_EDITS = "rt-edits-"  # in the command line of a check of an edit: the folder in which a crate's edits share their work
 SECONDS = ROOT / "tools" / "proof_seconds.txt"
 PAGE = ROOT / "docs" / "GATE.md"
 LINE = "| `%s` | %s | %s | %s | %s | %s | %s |"
@@ -59,7 +58,7 @@ def task_of(words):
     if "--crate-name" not in words:
         return None
     crate = words[words.index("--crate-name") + 1]
-    if any(TAKES_EDITS in it for it in words):
+    if "check" in words and "-o" not in words:  # a proof writes what it proved
         return crate, EDITS
     return crate, TESTS if "--test" in words else PROOF
 
