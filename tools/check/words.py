@@ -6,7 +6,8 @@ for words that formats, commands and replies fix. docs/GLOSSARY.md has the names
 
     tools/check/words.py                    README.md, CONTRIBUTING.md, docs/*.md and bench/README.md
     tools/check/words.py FILE ..            these
-    tools/check/words.py --lines [FILE ..]  also each line that has one
+    tools/check/words.py --sources          the comments of each crate
+    tools/check/words.py --lines ..         also each line that has one
 """
 import argparse
 import pathlib
@@ -14,6 +15,8 @@ import re
 
 ROOT = pathlib.Path(__file__).resolve().parent.parent.parent
 DOCUMENTS = ["README.md", "CONTRIBUTING.md", "docs/*.md", "bench/README.md"]
+SOURCES = ["crates/*/*/**/*.rt", "crates/*/*/**/*.antt"]
+COMMENTS = {".rt": re.compile(r"(?:^|\s)//[/!]?(.*)"), ".antt": re.compile(r"(?:^|\s)--(.*)")}
 
 # For the head of each column, the pattern that finds its phrases.
 PHRASES = {
@@ -38,9 +41,18 @@ def blanked(found):
     return "\n" * found[0].count("\n") + "`"
 
 
+def comment_in(line, comment):
+    """The comment at the end of a line of a source, or an empty text."""
+    found = comment.search(line)
+    return found[1] if found else ""
+
+
 def text_of(path):
-    """The text of a document without its code and the targets of its links."""
-    return CODE.sub(blanked, path.read_text(encoding="utf-8"))
+    """The text of a document, or the comments of a source, without code and the targets of links."""
+    text, comment = path.read_text(encoding="utf-8"), COMMENTS.get(path.suffix)
+    if comment:
+        text = "\n".join(comment_in(line, comment) for line in text.split("\n"))
+    return CODE.sub(blanked, text)
 
 
 def counts_of(text):
@@ -61,22 +73,30 @@ def named(path):
     return str(path.relative_to(ROOT)) if path.is_relative_to(ROOT) else str(path)
 
 
+def row_of(path):
+    """The name of the row that counts a file: the crate of a source, otherwise the file."""
+    name = named(path)
+    return "/".join(name.split("/")[:2]) if path.suffix in COMMENTS and name.startswith("crates/") else name
+
+
 def main():
     options = argparse.ArgumentParser(description=__doc__, formatter_class=argparse.RawDescriptionHelpFormatter)
     options.add_argument("files", nargs="*", metavar="FILE", type=pathlib.Path)
+    options.add_argument("--sources", action="store_true", help="the comments of each crate in place of the documents")
     options.add_argument("--lines", action="store_true", help="print each line that has a phrase")
     given = options.parse_args()
-    paths = given.files or [path for one in DOCUMENTS for path in sorted(ROOT.glob(one))]
-    rows = []
+    paths = given.files or [path for one in (SOURCES if given.sources else DOCUMENTS) for path in sorted(ROOT.glob(one))]
+    rows, everything = {}, [0] * (1 + len(FOUND))
     for path in paths:
         text = text_of(path)
-        rows.append((named(path), len(text.split()), counts_of(text)))
+        counts = [len(text.split()), *counts_of(text)]
+        rows[row_of(path)] = [sum(each) for each in zip(rows.get(row_of(path), everything), counts)]
         for line in lines_of(named(path), text) if given.lines else []:
             print(line)
-    rows.append(("all", sum(words for _, words, _ in rows), [sum(each) for each in zip(*(counts for _, _, counts in rows))]))
+    rows["all"] = [sum(each) for each in zip(everything, *rows.values())]
     widths = [max(len(name), 5) for name in FOUND]
     print("%-24s %6s  %s  %5s" % ("document", "words", "  ".join("%*s" % one for one in zip(widths, FOUND)), "sum"))
-    for name, words, counts in rows:
+    for name, (words, *counts) in sorted(rows.items(), key=lambda row: row[0] == "all"):
         print("%-24s %6d  %s  %5d" % (name, words, "  ".join("%*d" % one for one in zip(widths, counts)), sum(counts)))
 
 

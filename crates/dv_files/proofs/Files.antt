@@ -82,7 +82,7 @@ stops : {P : Type 0} (rest : List ℕ) → 0 < length rest → ((d : List Field)
 stops rest some only [] holds = absurd (omega (arith, some, ap length holds.whole))
 stops rest some only (d ∷ documents) holds = only d (flat_map spelling documents) (Holds-begins d documents rest holds)
 
--- where the bytes begin with no such document, memory aside, they are no documents
+-- if the bytes don't begin with such a document, they are no documents
 pub Counts-stops : {P : Type 0} (bytes rest : List ℕ) (count : ℕ) → Counts bytes count rest → 0 < length rest → ((d : List Field) (others : List ℕ) → Begins rest d others → P)
     → (all : List (List Field)) → Holds all bytes → P
 Counts-stops bytes rest count counts some only all holds = let left = counts.others all holds in stops rest some only left.0 left.1

@@ -113,7 +113,7 @@ module _ (old now : OpenSessions) (reads number : ℕ) (from mid before middle :
   at_limit = (so_far.read, so_far.said, so_far.consumed, so_far.appended, does_whole)
 
   module _ (to after : Option (List ℕ)) where
-    -- what was written is handed on, and then the reader fails
+    -- what was written is flushed, and then the reader fails
     pub at_failure : Keeps mid to → Keeps middle after → StopsBy Read old from to before after now.hub
     at_failure kept handed = (so_far.read, so_far.said, Consumes-kept from mid to so_far.read so_far.consumed kept, Appends-kept before middle after so_far.said so_far.appended handed, does_whole)
 
@@ -198,7 +198,7 @@ module _ (old now : OpenSessions) (reads number : ℕ) (from mid before middle :
         },
       )
 
-  -- what was written isn't handed on
+  -- what was written isn't flushed
   pub not_flushed : (after : Option (List ℕ)) → Keeps middle after → StopsBy Write old from mid before after now.hub
   not_flushed after kept =
       let next = has_first (line ++ unread mid) in

@@ -11,7 +11,7 @@ use Rattle.dv_wire.specs.declared.fault.RunFault.TheVariants.{Read, Write, TooMa
 use Rattle.dv_wire.specs.declared.service.Done.{Done}
 use Rattle.dv_serving.specs.Serve.{Close, ClosesConnection, Come, Connection, Ended, HasSession, IsFresh, Served, ServesEach, connection_line}
 
--- so many connections are served, and the writer has taken what is written of them, and handed it on
+-- so many connections are served, and the writer has taken and flushed what is written for them
 pub record ServedSoFar (connections count : ℕ) (coming_old coming_now : Option (List (List ℕ))) (closed_old closed_now : Option (List Ended)) (old now : World) (taken_old taken_now : Option (List ℕ)) (flushes_old flushes_now : ℕ) : Type 0 where
   pub text : List ℕ
   pub served : Served count coming_old coming_now closed_old closed_now old text now

@@ -16,7 +16,7 @@ pub record TakesPiece (old : OpenSessions) (line bytes text : List ℕ) (new : O
   pub few : length lines ≤ length bytes
   pub done : DoesLines old lines text new
 
--- The same, but that one of the lines, the first of which has this number, ends the script, whatever comes after.
+-- The same, except that one of the lines ends the script, whatever follows; the first line has this number.
 pub record StopsIn (fault : ScriptFault) (old : OpenSessions) (number : ℕ) (line bytes text : List ℕ) (new : World) : Type 0 where
   pub lines : List (List ℕ)
   pub said : List ℕ
