@@ -43,7 +43,7 @@ SHARED = 1.25  # how many times as much processor time a check takes if several 
 FEWER = 2
 LESS_URGENT = 6  # by how much the priority of a crate is lower, in the system's `nice`, for each crate before it
 A_LOOK = 0.2  # seconds between two looks at the running checks
-ALONE = 0.9  # the part of its processor time that a crate takes at least, however many processors share it (seen in a first build)
+ALONE = 0.6  # the part of its processor time that a crate takes at least, however many processors share it (seen in a first build)
 
 
 def free_memory():

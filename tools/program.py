@@ -1,6 +1,7 @@
-"""Where the repository is, the built program, which the tools run, and what the tools' arguments name."""
+"""Where the repository is, the built program, which the tools run, how it is run, and what the tools' arguments name."""
 import glob
 import os
+import subprocess
 import sys
 
 ROOT = os.path.dirname(os.path.dirname(os.path.abspath(__file__)))
@@ -58,6 +59,16 @@ def parsed(options, who):
     if not given.program:
         sys.exit("%s: no program is built from the present sources: build one (./docd run < /dev/null), or name one (--program FILE)" % who)
     return given
+
+
+def run_within(seconds, words, given, folder=None):
+    """Runs a program with an input. Returns its exit status and both its outputs. A program that doesn't end in time is ended: the
+    status is then a text that says so, and there are no outputs."""
+    try:
+        done = subprocess.run(words, input=given, capture_output=True, cwd=folder, timeout=seconds)
+    except subprocess.TimeoutExpired:
+        return "no end within %d seconds" % seconds, b"", b""
+    return done.returncode, done.stdout, done.stderr
 
 
 def named(who, words, names):

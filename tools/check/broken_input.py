@@ -31,7 +31,7 @@ import folders  # noqa: F401
 import machine
 from compare import count_replies, fewer, readable
 from making.breaking import Breaker
-from program import parsed
+from program import parsed, run_within
 from random_scripts import Maker, interleaved
 from served import free_port
 from spelled import script_lines
@@ -76,11 +76,8 @@ class Way:
         return self.tries <= MOST_TRIES and self.said(pieces) != self.wanted(pieces)[0]
 
     def run(self, words, given):
-        try:
-            done = subprocess.run([self.program, *words], input=given, capture_output=True, timeout=A_RUN)
-        except subprocess.TimeoutExpired:
-            return "no end within %d seconds" % A_RUN, b"", b"", []
-        return done.returncode, done.stderr, done.stdout, []
+        status, output, error = run_within(A_RUN, [self.program, *words], given)
+        return status, error, output, []
 
 
 class Run(Way):

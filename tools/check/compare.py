@@ -16,7 +16,6 @@ import argparse
 import random
 import signal
 import struct
-import subprocess
 import sys
 from collections import Counter
 
@@ -27,11 +26,10 @@ from model.messages import HEADER
 from model.refusals import DUPLICATE_KEY, READ_BY_VIEW
 from model.values import ARRAY, BsonFault, DOCUMENT, read_document, spelling
 from notation import shown
-from program import parsed
+from program import parsed, run_within
 from random_scripts import Maker
 
 A_RUN = 600  # seconds that docd may take for a script
-NO_END = "no end within %d seconds" % A_RUN
 MOST_TRIES = 3_000  # runs of docd that cutting a script down may take
 A_LOOK = 500  # scripts from one line of progress to the next
 MOST_SECONDS = 60  # of processor time that a script may take to be made and to be answered by the model
@@ -46,12 +44,8 @@ def stop(*_):
 
 
 def answer(program, lines):
-    """How docd answers these lines: the exit status, and both outputs. If docd doesn't end in time, the status is NO_END."""
-    try:
-        done = subprocess.run([program, "run", "--hex"], input=b"\n".join([*lines, b""]), capture_output=True, timeout=A_RUN)
-    except subprocess.TimeoutExpired:
-        return NO_END, b"", b""
-    return done.returncode, done.stdout, done.stderr
+    """How docd answers these lines: the exit status, or a text if docd doesn't end in time, and both outputs."""
+    return run_within(A_RUN, [program, "run", "--hex"], b"\n".join([*lines, b""]))
 
 
 def wanted_answer(lines):
@@ -169,8 +163,8 @@ def is_right(program, name, lines, wanted, plain=None):
     said = answer(program, lines)
     if said == wanted:
         return True
-    if said[0] == NO_END:
-        print("compare: %s: %s" % (name, NO_END))
+    if isinstance(said[0], str):
+        print("compare: %s: %s" % (name, said[0]))
         return False
     print("compare: %s differs:" % name, flush=True)
     tell(program, Cutting(program).cut(lines, plain) if plain else lines)

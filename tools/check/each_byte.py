@@ -16,12 +16,11 @@ Each wrong answer is printed, and then the exit status is 1. The exit status is 
     python3 tools/check/each_byte.py --examples "t:,cursors:" --program crates/docd/out/docd
 """
 import argparse
-import subprocess
 import sys
 
 import folders  # noqa: F401
 import machine
-from program import parsed
+from program import parsed, run_within
 from spelled import document, lines_of, text
 from worked_examples import answered_otherwise, examples, scripts
 
@@ -86,12 +85,8 @@ class Look:
         return self.runs - before
 
     def answered(self, lines):
-        """The exit status, and both outputs."""
-        try:
-            done = subprocess.run([self.program, "run", "--hex"], input=script_of(lines), capture_output=True, timeout=A_RUN)
-        except subprocess.TimeoutExpired:
-            return "no end within %d seconds" % A_RUN, b"", b""
-        return done.returncode, done.stdout, done.stderr
+        """The exit status, or a text if docd doesn't end in time, and both outputs."""
+        return run_within(A_RUN, [self.program, "run", "--hex"], script_of(lines))
 
     def examples_byte_by_byte(self):
         """Runs the examples byte by byte. Returns how many there were."""

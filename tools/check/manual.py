@@ -19,11 +19,12 @@ import tempfile
 import folders  # noqa: F401
 import machine
 from lines import lines_of_command, read
-from program import ROOT, parsed
+from program import ROOT, parsed, run_within
 from prompt.guide import MANUAL, sections
 from told_replies import replies_told
 
 COMMAND = re.compile(r"\d*> .*")
+A_RUN = 60  # seconds that docd, or a shell, may take
 
 
 def examples_of(blocks):
@@ -52,8 +53,8 @@ def sent(program, examples):
     """For each example: what was sent, the reply that is written, and the replies of docd and of the model."""
     lines = [line for number, (asked, _) in enumerate(examples, 1) for line in lines_of_command(number, asked, "t")]
     script = "".join(line + "\n" for line in lines).encode()
-    done = subprocess.run([program, "run", "--hex"], input=script, capture_output=True, timeout=60)
-    said, modelled = replies(done.stdout), replies(machine.run(script)[0])
+    _, output, _ = run_within(A_RUN, [program, "run", "--hex"], script)
+    said, modelled = replies(output), replies(machine.run(script)[0])
     said += ["nothing"] * (len(examples) - len(said))
     for (asked, reply), by_docd, by_model in zip(examples, said, modelled, strict=True):
         yield asked, reply, by_docd, by_model
@@ -67,7 +68,7 @@ def typed(program, examples):
             os.symlink(os.path.join(ROOT, name), os.path.join(folder, name))
         for words, written in examples:
             done = subprocess.run(["sh", "-c", words], cwd=folder, stdin=subprocess.DEVNULL, stdout=subprocess.PIPE,
-                                  stderr=subprocess.STDOUT, timeout=60)
+                                  stderr=subprocess.STDOUT, timeout=A_RUN)
             yield words, written, done.stdout.decode()
 
 

@@ -6,16 +6,16 @@ documents. What else it says of a reply is not checked.
 import glob
 import os
 import re
-import subprocess
 
 import folders  # noqa: F401
 import machine
 from model.messages import answer
 from model.values import ARRAY, DOCUMENT
 from notation import fields_of, shown, values
-from program import ROOT
+from program import ROOT, run_within
 
 SCRIPTS = os.path.join(ROOT, "examples", "*.hex")
+A_RUN = 60  # seconds that docd may take for a script
 WHOLE = re.compile(r"reply(?: is (\{.*?\})\.|, (\{.*?\}),)(?: |$)")
 DOCUMENTS = re.compile(r"reply's documents are: (.*)")
 
@@ -62,8 +62,8 @@ def replies_told(program):
     for path in sorted(glob.glob(SCRIPTS)):
         with open(path, "rb") as file:
             script = file.read()
-        done = subprocess.run([program, "run", "--hex"], input=script, capture_output=True, timeout=60)
-        said, modelled = (output.decode().splitlines() for output in (done.stdout, machine.run(script)[0]))
+        _, output, _ = run_within(A_RUN, [program, "run", "--hex"], script)
+        said, modelled = (lines.decode().splitlines() for lines in (output, machine.run(script)[0]))
         said += ["nothing"] * (len(modelled) - len(said))
         for number, (comment, *lines) in enumerate(zip(comments_in(script.decode()), said, modelled), 1):
             if told := told_of(comment):

@@ -14,7 +14,6 @@ import argparse
 import os
 import re
 import struct
-import subprocess
 import sys
 from collections import namedtuple
 
@@ -22,7 +21,7 @@ import folders  # noqa: F401
 from model.messages import message as reply_message
 from model.values import ARRAY, BOOLEAN, DOCUMENT, INT32, INT64, TEXT, spelling
 from notation import fields_of, values
-from program import program_at
+from program import program_at, run_within
 from spelled import PIECE, joined, pieces, section
 
 HERE = os.path.dirname(os.path.abspath(__file__))
@@ -46,6 +45,7 @@ BYTES = re.compile(r"([0-9]+|every session) (end|(?:bytes )?[0-9A-Fa-f][0-9A-Fa-
 PRINTED = re.compile(r"=> (\d+) (?:(end \d+|closed \d)|([0-9a-f ]+))")
 COMMAND = re.compile(r"(?:(\d+)> )?(?:(first \d+ of|next \d+|rest|quietly|exactly) ?)?(.*)")
 SHORT = re.compile(r"([a-z]+)(?: ([a-z]+[0-9]?))?(?: on ([a-z]+[0-9]?))?(?: (?=[{[])(.*))?")
+A_RUN = 120  # seconds that docd may take for a script
 QUIET = 2  # the flag of a message that wants no reply
 
 # For each command that a line may begin with, the fields whose values the line has, in order.
@@ -348,9 +348,9 @@ def answered_otherwise(program, script):
     """What a program answers differently to the examples of a script, each as a text."""
     files = written(script, is_gate=False)
     words = [program, *files["args"].decode().split()]
-    done = subprocess.run(words, cwd=os.path.join(CRATE, "data"), input=files["stdin"], capture_output=True, timeout=120)
-    found = [*differences(script, done.stdout.decode().splitlines())]
-    return found + ["it ends with status %d, and says %r" % (done.returncode, done.stderr.decode())] * (done.returncode != 0)
+    status, output, error = run_within(A_RUN, words, files["stdin"], os.path.join(CRATE, "data"))
+    found = [*differences(script, output.decode().splitlines())]
+    return found + ["exit status: %s; standard error: %r" % (status, error.decode())] * (status != 0)
 
 
 def main():
