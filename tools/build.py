@@ -37,13 +37,15 @@ A_JOB = 7 << 28  # bytes that each processor of a check may take
 LARGE = {"dv_scripts": 9 << 29, "dv_serving": 5 << 30}  # the same of crates that take more; each gets half the processors, so that both have room
 SIDE_BY_SIDE = 3  # crates that are proved at once, since each leaves processors idle for a while
 ALL_WORK = 5 << 30  # bytes that the crates' work takes on disk
-SHARED = 1.25  # how many times as much processor time a check takes if several processors share it
+# How many times as long the work takes if several processors share a check: each reads the libraries again, and some wait.
+SHARED = 1.25
 # A crate that is proved next to another one gets the processors divided by this, since each processor reads the libraries again,
 # which is a quarter of a small crate's work.
 FEWER = 2
 LESS_URGENT = 6  # by how much the priority of a crate is lower, in the system's `nice`, for each crate before it
 A_LOOK = 0.2  # seconds between two looks at the running checks
-ALONE = 0.6  # the part of its processor time that a crate takes at least, however many processors share it (seen in a first build)
+# The part of its processor time that a crate takes at least, however many processors share it (as seen in first builds).
+ALONE = 0.6
 
 
 def free_memory():
@@ -96,8 +98,8 @@ class Crates:
 
     def forecast(self, left, processors):
         """The seconds that these crates will take."""
-        work = sum(self.seconds[it] for it in left) * (SHARED if processors > 1 else 1) / processors
-        chain = max((self.behind(it) for it in left), default=0) * (ALONE if processors > 2 else 1)
+        work = sum(self.seconds[it] for it in left) * (SHARED if processors > FEWER else 1) / processors
+        chain = max((self.behind(it) for it in left), default=0) * (ALONE if processors > 1 else 1)
         return max(work, chain)
 
 
