@@ -50,11 +50,15 @@ def replies(output):
 
 
 def sent(program, examples):
-    """For each example: what was sent, the reply that is written, and the replies of docd and of the model."""
+    """For each example: what was sent, the reply that is written, and the replies of docd and of the model. The same of the exit
+    status, if docd ends with another one than the model, or doesn't end."""
     lines = [line for number, (asked, _) in enumerate(examples, 1) for line in lines_of_command(number, asked, "t")]
     script = "".join(line + "\n" for line in lines).encode()
-    _, output, _ = run_within(A_RUN, [program, "run", "--hex"], script)
-    said, modelled = replies(output), replies(machine.run(script)[0])
+    status, output, _ = run_within(A_RUN, [program, "run", "--hex"], script)
+    printed, error = machine.run(script)
+    if status != (wanted := 1 if error else 0):
+        yield "exit status", str(wanted), str(status), str(wanted)
+    said, modelled = replies(output), replies(printed)
     said += ["nothing"] * (len(examples) - len(said))
     for (asked, reply), by_docd, by_model in zip(examples, said, modelled, strict=True):
         yield asked, reply, by_docd, by_model

@@ -58,12 +58,16 @@ def read(line, part):
 
 
 def replies_told(program):
-    """For each reply that is stated: its script, its number there, what is stated, and what docd and the model return."""
+    """For each reply that is stated: its script, its number there, what is stated, and what docd and the model return. For a script
+    that docd ends with another status than the model, or doesn't end, the same of its exit status."""
     for path in sorted(glob.glob(SCRIPTS)):
         with open(path, "rb") as file:
             script = file.read()
-        _, output, _ = run_within(A_RUN, [program, "run", "--hex"], script)
-        said, modelled = (lines.decode().splitlines() for lines in (output, machine.run(script)[0]))
+        status, output, _ = run_within(A_RUN, [program, "run", "--hex"], script)
+        printed, error = machine.run(script)
+        if status != (wanted := 1 if error else 0):
+            yield os.path.relpath(path, ROOT), "exit status", str(wanted), str(status), str(wanted)
+        said, modelled = (lines.decode().splitlines() for lines in (output, printed))
         said += ["nothing"] * (len(modelled) - len(said))
         for number, (comment, *lines) in enumerate(zip(comments_in(script.decode()), said, modelled), 1):
             if told := told_of(comment):
