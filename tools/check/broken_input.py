@@ -111,8 +111,8 @@ class Script(Way):
         return self.run(["run", "--hex"], self.script(pieces))
 
     def wanted(self, pieces):
-        output, error = machine.run(self.script(pieces))
-        return (1 if error else 0, error, output, []), output.splitlines()
+        status, output, error = machine.run(self.script(pieces))
+        return (status, error, output, []), output.splitlines()
 
 
 class Serve(Way):

@@ -75,8 +75,7 @@ class Look:
 
     def every_cut(self, name, lines):
         """Runs the lines whole and cut in each way. Returns the number of runs."""
-        (output, error), before = machine.run(script_of(lines)), self.runs
-        wanted = 1 if error else 0, output, error
+        wanted, before = machine.run(script_of(lines)), self.runs
         for one in [lines, *cut_in_two(lines)]:
             self.runs += 1
             if (said := self.answered(one)) != wanted:

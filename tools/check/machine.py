@@ -81,23 +81,23 @@ class Machine:
 
 
 def run(script):
-    """What a script's bytes print on standard output, and on standard error."""
+    """The exit status for a script's bytes, and what they print on standard output and on standard error."""
     machine, printed = Machine(), []
     for number, line in enumerate(script.split(b"\n"), 1):
         said = machine.line(line)
         if said is None:
-            return b"".join(printed), b"docd: line %d: bad line\n" % number
+            return 1, b"".join(printed), b"docd: line %d: bad line\n" % number
         printed += [one + b"\n" for one in said]
-    return b"".join(printed), b""
+    return 0, b"".join(printed), b""
 
 
 def main():
     options = argparse.ArgumentParser(description=__doc__, formatter_class=argparse.RawDescriptionHelpFormatter)
     options.parse_args()
-    output, told = run(sys.stdin.buffer.read())
+    status, output, told = run(sys.stdin.buffer.read())
     sys.stdout.buffer.write(output)
     sys.stderr.buffer.write(told)
-    sys.exit(1 if told else 0)
+    sys.exit(status)
 
 
 if __name__ == "__main__":

@@ -55,8 +55,8 @@ def sent(program, examples):
     lines = [line for number, (asked, _) in enumerate(examples, 1) for line in lines_of_command(number, asked, "t")]
     script = "".join(line + "\n" for line in lines).encode()
     status, output, _ = run_within(A_RUN, [program, "run", "--hex"], script)
-    printed, error = machine.run(script)
-    if status != (wanted := 1 if error else 0):
+    wanted, printed, _ = machine.run(script)
+    if status != wanted:
         yield "exit status", str(wanted), str(status), str(wanted)
     said, modelled = replies(output), replies(printed)
     said += ["nothing"] * (len(examples) - len(said))

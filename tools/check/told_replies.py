@@ -64,8 +64,8 @@ def replies_told(program):
         with open(path, "rb") as file:
             script = file.read()
         status, output, _ = run_within(A_RUN, [program, "run", "--hex"], script)
-        printed, error = machine.run(script)
-        if status != (wanted := 1 if error else 0):
+        wanted, printed, _ = machine.run(script)
+        if status != wanted:
             yield os.path.relpath(path, ROOT), "exit status", str(wanted), str(status), str(wanted)
         said, modelled = (lines.decode().splitlines() for lines in (output, printed))
         said += ["nothing"] * (len(modelled) - len(said))

@@ -24,7 +24,7 @@ use Rattle.dv_views.specs.Forms.{ViewForm, is_name_among, names_read, outs_of, w
 use Rattle.dv_views.specs.Inner.Holding.{HasMade}
 use Rattle.dv_views.specs.Placed.{ListPlaces, list_places, positioned}
 use Rattle.dv_views.specs.Inner.Turned.{AreTakenBy, Come, HasTurned, HaveTaken, IsTakenBy, IsTurned, KeepsOn, Known, Telling, comes_to, coming_to, known_at, with_known}
-use Rattle.dv_views.specs.Views.{Kept, Inputs, ViewMark, live, stale, View, inputs_from}
+use Rattle.dv_views.specs.Views.{Kept, Inputs, ViewMark, live, View, inputs_from}
 use Rattle.dv_views.specs.Inner.Views.{AreKept, AreOverLive, AreRight, AreRightOver, IsRight, Views, distance, view_form, is_stale, no_distance, mark_ticks, with_distance}
 use Rattle.dv_views.proofs.Agree.{Agrees, FromScratch}
 use Rattle.dv_views.proofs.Made.{forgotten}

@@ -212,12 +212,12 @@ among_next name other names i h is = at names i h is ∙ (let more : suc i ≡ i
 -- ---- why a new view is refused
 
 -- the first fault that applies, by which of the conditions hold
-abbrev told : Bool → Bool → Bool → Bool → Option ViewFault
-told called read few near = if called then Some Exists else if read then Some ReadByView else if few && near then None else Some LimitReached
+abbrev pub first_fault : Bool → Bool → Bool → Bool → Option ViewFault
+first_fault called read few near = if called then Some Exists else if read then Some ReadByView else if few && near then None else Some LimitReached
 
-called-forms : (name : List ℕ) (vs : Views) → list_any (λ v. bytes_eq name v.name) (map view_form vs) ≡ has_view name vs
-called-forms name [] = refl
-called-forms name (v ∷ vs) = ap (λ (b : Bool). bytes_eq name v.name || b) (called-forms name vs)
+pub called_forms : (name : List ℕ) (vs : Views) → list_any (λ v. bytes_eq name v.name) (map view_form vs) ≡ has_view name vs
+called_forms name [] = refl
+called_forms name (v ∷ vs) = ap (λ (b : Bool). bytes_eq name v.name || b) (called_forms name vs)
 
 pub read_forms : (name : List ℕ) (vs : Views) → is_read_by (map view_form vs) name ≡ reads_name vs name
 read_forms name [] = refl
@@ -225,12 +225,12 @@ read_forms name (v ∷ vs) = ap (λ (b : Bool). is_read v.stages v.source name |
 
 module _ (vs : Views) (name source : List ℕ) (stages : List Stage) where
   is-told : (called read few near : Bool) → has_view name vs ≡ called → (reads_name vs name || is_read stages source name) ≡ read → nat_lt (length vs) most_views ≡ few → nat_lt (height_over (heights (map view_form vs)) stages source) (suc most_height) ≡ near
-      → told called read few near ≡ fault_of_new (map view_form vs) name source stages
+      → first_fault called read few near ≡ fault_of_new (map view_form vs) name source stages
   is-told called read few near c r f n =
-      let called-is : list_any (λ v. bytes_eq name v.name) (map view_form vs) ≡ called = called-forms name vs ∙ c in
+      let called-is : list_any (λ v. bytes_eq name v.name) (map view_form vs) ≡ called = called_forms name vs ∙ c in
       let read-is : (is_read_by (map view_form vs) name || is_read stages source name) ≡ read = ap (λ (b : Bool). b || is_read stages source name) (read_forms name vs) ∙ r in
       let few-is : nat_lt (length (map view_form vs)) most_views ≡ few = ap (λ (k : ℕ). nat_lt k most_views) (length-map vs view_form) ∙ f in
-      sym (λ i. told (called-is i) (read-is i) (few-is i) (n i))
+      sym (λ i. first_fault (called-is i) (read-is i) (few-is i) (n i))
 
   pub called_before : has_view name vs ≡ true → Some Exists ≡ fault_of_new (map view_form vs) name source stages
   called_before c = is-told true _ _ _ c refl refl refl

@@ -1,28 +1,23 @@
 -- How many views there are at most.
 use Rattle.std.proofs.Common.{◌≡◌, ◌≢◌, ◌≤◌, ◌||◌, ℕ, suc, Bool, true, false, List, length, ap, arith}
-use Rattle.std.specs.Prelude.{◌&&◌, Option, Some, None, nat_lt}
-use Rattle.std.specs.Bool.{if◌then◌else◌}
+use Rattle.std.specs.Prelude.{Some, None, nat_lt}
 use Rattle.std.specs.List.{list_any}
 use Rattle.std.specs.Str.{bytes_eq}
 use Rattle.std.proofs.lemmas.Bool.Decides.{nat_tests}
 use Rattle.dv_pipe.specs.Stages.{is_read}
 use Rattle.dv_pipe.specs.declared.stage.Stage.{Stage}
-use Rattle.dv_views.specs.declared.fault.ViewFault.{ViewFault}
-use Rattle.dv_views.specs.declared.fault.ViewFault.TheVariants.{Exists, ReadByView, LimitReached}
+use Rattle.dv_views.specs.declared.fault.ViewFault.TheVariants.{LimitReached}
 use Rattle.dv_views.specs.Forms.{ViewForm, fault_of_new, height_over, heights, is_read_by, most_height, most_views}
+use Rattle.dv_views.proofs.Heights.{first_fault}
 
--- the first fault that applies, by which of the conditions hold
-abbrev told : Bool → Bool → Bool → Bool → Option ViewFault
-told named read few low = if named then Some Exists else if read then Some ReadByView else if few && low then None else Some LimitReached
-
-few-told : (named read few low : Bool) → few ≡ true → low ≡ true → told named read few low ≢ Some LimitReached
+few-told : (named read few low : Bool) → few ≡ true → low ≡ true → first_fault named read few low ≢ Some LimitReached
 few-told true read few low e f is = cc
 few-told false true few low e f is = cc
 few-told false false true true e f is = cc
 few-told false false true false e f is = cc
 few-told false false false low e f is = cc
 
-many-told : (named read few low : Bool) → few ≡ false → told named read few low ≢ None
+many-told : (named read few low : Bool) → few ≡ false → first_fault named read few low ≢ None
 many-told true read few low e is = cc
 many-told false true few low e is = cc
 many-told false false true low e is = cc

@@ -1,5 +1,5 @@
 -- Views that are recomputed in their place, and views that are added after the others.
-use Rattle.std.proofs.Common.{◌≡◌, ◌<◌, ◌+◌, arith, ◌&&◌, ◌||◌, inl, inr, ℕ, zero, suc, Bool, true, false, List, [], ◌∷◌, ◌++◌, map, take, length, Option, Some, None, Result, Ok, Err, OnErr, slice_get, refl, ap, sym, subst, ◌∙◌}
+use Rattle.std.proofs.Common.{◌≡◌, ◌<◌, ◌+◌, arith, ◌||◌, inl, inr, ℕ, zero, suc, Bool, true, false, List, [], ◌∷◌, ◌++◌, map, take, length, Option, Some, None, Result, Ok, Err, OnErr, slice_get, refl, ap, sym, subst, ◌∙◌}
 use Rattle.std.specs.List.{AllByRecursion, IsDistinct, list_any}
 use Rattle.std.specs.Bool.{if◌then◌else◌}
 use Rattle.std.specs.Str.{bytes_eq}
@@ -14,7 +14,6 @@ use Rattle.std.proofs.lemmas.Bool.{or_parts}
 use Rattle.std.proofs.lemmas.List.{map-append}
 use Rattle.indexmap.specs.IndexMap.{set_value_at}
 use Rattle.dv_views.specs.declared.fault.ViewFault.{ViewFault}
-use Rattle.dv_views.specs.declared.fault.ViewFault.TheVariants.{Exists, LimitReached, ReadByView}
 use Rattle.dv_views.specs.Inner.Body.{Body}
 use Rattle.dv_views.specs.Inner.Older.{Entries, views, views_before}
 use Rattle.dv_views.specs.Forms.{AreFounded, IsClosed, ViewForm, fault_of_new, height_over, heights, is_name_among, is_read_by, most_height, most_views, names_read, with_places, with_rows}
@@ -25,6 +24,7 @@ use Rattle.dv_views.specs.Inner.Seen.{IsSoundRegistry, view_seen, entry_view}
 use Rattle.dv_views.specs.Views.{ViewMark, View}
 use Rattle.dv_views.specs.Inner.Views.{AreInOrder, AreNamedApart, AreOverLive, ArePartlyRefreshed, AreRight, AreRightOver, IsJustMade, IsMadeAnew, IsPartlyRefreshed, IsRefusedFor, Views, view_form, has_view, is_stale, no_distance, view_under, with_distance}
 use Rattle.dv_views.proofs.Agree.{FromScratch}
+use Rattle.dv_views.proofs.Heights.{called_forms, first_fault}
 use Rattle.dv_views.proofs.Joining.{Replaces, each_among, fresh_built, over_append, over_built, over_set, right_built, right_set, set_view}
 use Rattle.dv_views.proofs.Right.{UnreadDoesNotMatter, read_among, right_append}
 use Rattle.dv_views.specs.Inner.FormLaws.{same_form}
@@ -246,26 +246,19 @@ length_at names (suc n) (v ∷ vs) (w ∷ ws) at = ap suc (length_at names n vs 
 
 -- ---- if there is no reason against a view
 
-abbrev first_fault : Bool → Bool → Bool → Option ViewFault
-first_fault called read few = if called then Some Exists else if read then Some ReadByView else if few then None else Some LimitReached
-
-none-holds : (called read few : Bool) → first_fault called read few ≡ None → (called ≡ false) × (read ≡ false)
-none-holds true read few is = absurd cc
-none-holds false true few is = absurd cc
-none-holds false false few is = (refl, refl)
-
-called : (name : List ℕ) (vs : Views) → list_any (λ (f : ViewForm). bytes_eq name f.name) (map view_form vs) ≡ has_view name vs
-called name [] = refl
-called name (v ∷ vs) = ap (λ (b : Bool). bytes_eq name v.name || b) (called name vs)
+none-holds : (called read few near : Bool) → first_fault called read few near ≡ None → (called ≡ false) × (read ≡ false)
+none-holds true read few near is = absurd cc
+none-holds false true few near is = absurd cc
+none-holds false false few near is = (refl, refl)
 
 pub no_fault : (vs : Views) (name source : List ℕ) (stages : List Stage) → fault_of_new (map view_form vs) name source stages ≡ None → (has_view name vs ≡ false) × (is_read_by (map view_form vs) name || is_read stages source name ≡ false)
 no_fault vs name source stages is =
     let both = none-holds (list_any (λ (f : ViewForm). bytes_eq name f.name) (map view_form vs)) (is_read_by (map view_form vs) name || is_read stages source name)
-    (nat_lt (length (map view_form vs)) most_views && nat_lt (height_over (heights (map view_form vs)) stages source) (suc most_height)) is in
-    (sym (called name vs) ∙ both.0, both.1)
+    (nat_lt (length (map view_form vs)) most_views) (nat_lt (height_over (heights (map view_form vs)) stages source) (suc most_height)) is in
+    (sym (called_forms name vs) ∙ both.0, both.1)
 
 pub same_called : (name : List ℕ) (vs ws : Views) → map view_form ws ≡ map view_form vs → has_view name ws ≡ has_view name vs
-same_called name vs ws same = sym (called name ws) ∙ ap (λ (fs : List ViewForm). list_any (λ f. bytes_eq name f.name) fs) same ∙ called name vs
+same_called name vs ws same = sym (called_forms name ws) ∙ ap (λ (fs : List ViewForm). list_any (λ f. bytes_eq name f.name) fs) same ∙ called_forms name vs
 
 -- ---- a new view
 

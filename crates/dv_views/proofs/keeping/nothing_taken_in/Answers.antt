@@ -1,5 +1,5 @@
 -- Operators of stages that have taken in nothing have taken in lists of no rows.
-use Rattle.std.proofs.Common.{rules, ◌≡◌, List, subst, sym}
+use Rattle.std.proofs.Common.{List, subst, sym}
 use Rattle.dv_change.specs.Inner.RowLaws.{positioned-none}
 use Rattle.dv_change.specs.Changes.{Positioned}
 use Rattle.dv_change.specs.Inner.Changes.{IsPositioned}

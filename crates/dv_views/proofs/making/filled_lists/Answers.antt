@@ -1,4 +1,4 @@
-use Rattle.std.proofs.Common.{rules, ◌≡◌, ◌<◌, ◌∙◌, ◌++◌, ◌+◌, [], List, ℕ, Some, ap, append-nil, drop, length, map, slice_get, subst, sym, take}
+use Rattle.std.proofs.Common.{rules, ◌≡◌, ◌<◌, ◌∙◌, ◌++◌, [], List, ℕ, Some, append-nil, length, map, slice_get, subst, sym, take}
 use Rattle.std.proofs.lemmas.List.{drop_all, take_all}
 use Rattle.std.specs.List.{AllByRecursion}
 use Rattle.dv_change.specs.Changes.{Positioned}

@@ -1,9 +1,9 @@
-use Rattle.std.proofs.Common.{◌≡◌, List, Some, subst, sym, ℕ}
+use Rattle.std.proofs.Common.{List, Some, subst, sym, ℕ}
 use Rattle.std.specs.String.{string_bytes}
 use Rattle.dv_change.specs.Changes.{Positioned}
 use Rattle.dv_change.specs.Inner.Changes.{IsPositioned}
 use Rattle.dv_pipe.specs.Sources.{rows_referred}
-use Rattle.dv_views.specs.Inner.Copies.{ArePositionedCopies, HaveCopy, NamedCopies, copies_seen}
+use Rattle.dv_views.specs.Inner.Copies.{HaveCopy, NamedCopies, copies_seen}
 use Rattle.dv_views.proofs.Building.{places_are_positioned}
 use Rattle.dv_views.proofs.Copied.{copy_changed, positioned_with, some_positioned}
 use Rattle.dv_views.proofs.copies.Copies.keep.Goals as goal

@@ -1,8 +1,7 @@
 use Rattle.std.proofs.Common.{◌≡◌, None, Option, Some, ap, refl, subst, sym, ◌∙◌}
-use Rattle.std.specs.HashMap.{HashMap}
 use Rattle.std.specs.Option.{option_map}
 use Rattle.dv_change.specs.declared.taking.Taken as taking
-use Rattle.dv_views.specs.Inner.Copies.{ArePositionedCopies, HaveCopy, HaveTold, NamedCopies, copies_seen, copy_under}
+use Rattle.dv_views.specs.Inner.Copies.{HaveCopy, HaveTold, copies_seen, copy_under}
 use Rattle.dv_views.proofs.Copied.{copy_changed, copy_found, copy_over, none_positioned, positioned_with, rows_of, some_positioned, still_none}
 use Rattle.dv_views.proofs.copies.Copies.take.Goals as goal
 

@@ -1,4 +1,4 @@
-use Rattle.std.proofs.Common.{rules, ℕ, List, Option, subst, []}
+use Rattle.std.proofs.Common.{rules, List, Option, subst, []}
 use Rattle.std.specs.List.{AllByRecursion}
 use Rattle.dv_change.specs.declared.input.Input.TheVariants.{Left}
 use Rattle.dv_change.specs.declared.taking.Taken as taking
